@@ -1,0 +1,78 @@
+-- Runs of stores, one after the other
+use Prim.Native.Nat.{ℕ, zero, suc, _+_, _-_, _≤_, _<_}
+use mathlib.Core.List.{List, [], _∷_, _++_, append-nil}
+use mathlib.Core.Path.{_≡_, refl, ap, _∙_, sym}
+use native.Mathlib.Omega.{arith}
+use native.Mathlib.Nat.{add-zero, add-suc, suc-add, zero-add, add-sub-of-le}
+use native.Mathlib.Numerals.{add-one}
+use lib.ListN.{length, set, getD, drop, length-append, replicate, length-replicate, replicate-append-replicate}
+use lib.Seq.{sets, length-sets, drop-cons, sets-eq, drop-at, drop-length}
+use mathlib.Core.Bool.{true, false}
+use lib.Dec.{ltb}
+use Prim.Native.Nat.{_/_, _%_}
+use lib.Seq.{take-append-seam, drop-append-add}
+use native.Mathlib.Nat.{sub-zero, zero-sub, suc-sub-suc}
+use borrow.Author.Tests.{lt-ltb, le-ltb}
+use Rattle.utils.specs.Message.{digits}
+use Rattle.utils.specs.Bytes.{pick, padTo}
+
+pub sets-append : (xs ys l : List ℕ) (i : ℕ) → sets l i (xs ++ ys) ≡ sets (sets l i xs) (i + length xs) ys
+sets-append [] ys l i = rw add-zero
+sets-append (x ∷ xs) ys l i =
+    let e : i + suc (length xs) ≡ suc i + length xs = omega arith in
+    rw e (sets-append xs ys (set l i x) (suc i))
+
+-- one more store of a copy
+pub copied : (part buf : List ℕ) (at i : ℕ) → i < length part → sets buf (at + i) (drop i part) ≡ sets (set buf (at + i) (getD part i 0)) (at + (i + 1)) (drop (i + 1) part)
+copied part buf at i h =
+    let e : at + (i + 1) ≡ suc (at + i) = omega arith in
+    rw (drop-cons part i 0 h, e, add-one)
+
+-- the three ways of put_digits
+pub none : (most n : ℕ) → most ≡ 0 → digits most n ≡ []
+unfolding digits
+none most n z = rw z
+
+pub one : (most n : ℕ) → (most ≡ 0 → ⊥) → n < 10 → digits most n ≡ (48 + n) ∷ []
+unfolding digits pick
+one zero n z h = absurd (z refl)
+one (suc most) n z h = rw (lt-ltb _ _ h)
+
+pub more : (most n : ℕ) → (most ≡ 0 → ⊥) → 10 ≤ n → digits most n ≡ digits (most - 1) (n / 10) ++ ((48 + n % 10) ∷ [])
+unfolding digits pick
+more zero n z h = absurd (z refl)
+more (suc most) n z h =
+    let e : suc most - 1 ≡ most = omega arith in
+    rw (le-ltb _ _ h, e)
+
+-- one write after another
+pub both : (b₀ b₁ b₂ xs ys : List ℕ) (at k r : ℕ) → k ≡ at + length xs → b₁ ≡ sets b₀ at xs → r ≡ k + length ys → b₂ ≡ sets b₁ k ys
+    → (r ≡ at + length (xs ++ ys)) × (b₂ ≡ sets b₀ at (xs ++ ys))
+both b₀ b₁ b₂ xs ys at k r p q u v =
+    (omega (arith, length-append xs ys), v ∙ rw (p, q, sets-append xs ys b₀ at))
+
+-- a run at the start of zeros
+abbrev pub zeros : ℕ → List ℕ
+zeros n = replicate n 0
+
+pub onZeros : (n : ℕ) (m : List ℕ) → length m ≤ n → sets (zeros n) 0 m ≡ m ++ zeros (n - length m)
+onZeros n m h =
+    let l : 0 + length m ≤ length (zeros n) = simp (length-replicate, zero-add) h in
+    let s : zeros (length m) ++ zeros (n - length m) ≡ zeros n =
+    replicate-append-replicate (length m) (n - length m) 0 ∙ ap zeros (add-sub-of-le h) in
+    sets-eq m (zeros n) 0 l ∙ rw (zero-add, ← s, drop-at (zeros (length m)) (zeros (n - length m)) (length m) (length-replicate (length m) 0))
+
+pub cleared : (b d : List ℕ) (i : ℕ) → i ≡ length b → d ≡ zeros i ++ drop i b → d ≡ zeros (length b)
+cleared b d i q p = p ∙ rw (q, drop-length b, append-nil)
+
+drop-replicate : (k m : ℕ) → drop k (replicate m 0) ≡ replicate {A = ℕ} (m - k) 0
+drop-replicate zero m = rw sub-zero
+drop-replicate (suc k) zero = rw zero-sub
+drop-replicate (suc k) (suc m) = rw suc-sub-suc (drop-replicate k m)
+
+-- a run of stores behind a padded list makes it longer
+pub sets-pad : (n i : ℕ) (l vs : List ℕ) → length l ≡ i → i + length vs ≤ n → sets (padTo n l) i vs ≡ padTo n (l ++ vs)
+sets-pad n i l vs e h =
+    let q : n - length l - length vs ≡ n - (length l + length vs) = omega arith in
+    let h′ : length l + length vs ≤ length (padTo n l) = simp (length-append, length-replicate) (omega arith) in
+    rw (← e) (sets-eq vs (padTo n l) (length l) h′ ∙ rw (take-append-seam, drop-append-add, drop-replicate, length-append, q))

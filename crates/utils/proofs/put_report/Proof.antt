@@ -1,0 +1,113 @@
+use borrow.Author.Tests.{lt-ltb, le-ltb, le-leb, lt-leb, eq-eqb, ne-eqb}
+use native.Mathlib.Omega.{arith}
+use native.Mathlib.Numerals.{add-one}
+use Prim.Native.Nat.{ℕ, suc, _+_, _-_, _*_, _≤_, _<_}
+use mathlib.Core.Path.{_≡_, refl, sym, ap, _∙_}
+use mathlib.Core.Logic.{⊎-elim}
+use mathlib.Core.List.{List, [], _∷_, _++_}
+use mathlib.Core.Bool.{Bool, true, false}
+use lib.ListN.{length, drop, take, getD}
+use lib.Seq.{drop-cons}
+use denote.Ref.{now}
+use Rattle.utils.specs.Bytes.{bytes}
+use Rattle.utils.specs.Message.{reported, decimal}
+use Rattle.utils.proofs.Runs.{both}
+use borrow.Author.Needs.{needs}
+use Rattle.utils.proofs.put_report.Statement.{statement}
+use Rattle.utils.proofs.put_report.Tie as tie
+use Rattle.utils.proofs.put_report.Reads as reads
+use Rattle.utils.proofs.put_report.Lts as lts
+use Rattle.utils.proofs.put.Reads as put-reads
+use Rattle.utils.proofs.put_decimal.Reads as put-decimal-reads
+
+-- src/lib.rt:75:26
+slice-aggregate-put : tie.Need-slice-aggregate-put
+slice-aggregate-put c = search needs
+
+-- src/lib.rt:75:9
+put-requires : tie.Need-put-requires
+put-requires c κs = search needs
+
+-- src/lib.rt:76:9
+put-decimal-requires : tie.Need-put-decimal-requires
+put-decimal-requires c κs = search needs
+
+-- src/lib.rt:77:27
+slice-aggregate-put-2 : tie.Need-slice-aggregate-put-2
+slice-aggregate-put-2 c = search needs
+
+-- src/lib.rt:77:9
+put-requires-2 : tie.Need-put-requires-2
+put-requires-2 c κs = search needs
+
+-- src/lib.rt:78:9
+put-requires-3 : tie.Need-put-requires-3
+put-requires-3 c κs = search needs
+
+-- src/lib.rt:79:27
+slice-aggregate-put-3 : tie.Need-slice-aggregate-put-3
+slice-aggregate-put-3 c = search needs
+
+-- src/lib.rt:79:9
+put-requires-4 : tie.Need-put-requires-4
+put-requires-4 c κs = search needs
+
+-- src/lib.rt:80:9
+put-requires-5 : tie.Need-put-requires-5
+put-requires-5 c κs = search needs
+
+-- src/lib.rt:81:18
+slice-aggregate-put-4 : tie.Need-slice-aggregate-put-4
+slice-aggregate-put-4 c = search needs
+
+-- src/lib.rt:81:5
+put-requires-6 : tie.Need-put-requires-6
+put-requires-6 c κs = search needs
+
+-- src/lib.rt:71:1
+same-length : tie.Need-same-length
+same-length c = search needs
+
+-- src/lib.rt:71:1
+returns : tie.Need-returns
+unfolding reported
+returns c = let a = c .before .before .before .before .before .before .before .before .before .before .before .before .before .before .before .before .before .before .before .before .before .before .before .before .before .before .before .before .before .before .before .before .before .before .before .args in
+    let p1 = c .before .before .before .before .before .before .before .before .before .before .before .before .before .before .before .before .before .before .before .before .before .before .before .before .before .before .before .before .before .put in
+    let p2 = c .before .before .before .before .before .before .before .before .before .before .before .before .before .before .before .before .before .before .before .before .before .before .before .before .before .put-decimal in
+    let p3 = c .before .before .before .before .before .before .before .before .before .before .before .before .before .before .before .before .before .before .before .before .put2 in
+    let p4 = c .before .before .before .before .before .before .before .before .before .before .before .before .before .before .before .before .put3 in
+    let p5 = c .before .before .before .before .before .before .before .before .before .before .before .put4 in
+    let p6 = c .before .before .before .before .before .before .before .put5 in
+    let p7 = c .before .before .put6 in
+    let l = p7 .last .0 in
+    let r = p7 .result in
+    let newline : List ℕ = 10 ∷ [] in
+    let text = now (a .text) ++ newline in
+    let colon = bytes ": " ++ text in
+    let item = now (a .item) ++ colon in
+    let error = bytes "] Error " ++ item in
+    let w6 = both (p5 .last .0) (p6 .last .0) l (now (a .text)) newline (p5 .result) (p6 .result) r (p6 .ensures .0) (p6 .ensures .1) (p7 .ensures .0) (p7 .ensures .1) in
+    let w5 = both (p4 .last .0) (p5 .last .0) l (bytes ": ") text (p4 .result) (p5 .result) r (p5 .ensures .0) (p5 .ensures .1) (w6 .0) (w6 .1) in
+    let w4 = both (p3 .last .0) (p4 .last .0) l (now (a .item)) colon (p3 .result) (p4 .result) r (p4 .ensures .0) (p4 .ensures .1) (w5 .0) (w5 .1) in
+    let w3 = both (p2 .last .0) (p3 .last .0) l (bytes "] Error ") item (p2 .result) (p3 .result) r (p3 .ensures .0) (p3 .ensures .1) (w4 .0) (w4 .1) in
+    let w2 = both (p1 .last .0) (p2 .last .0) l (decimal (a .line)) error (p1 .result) (p2 .result) r (p2 .ensures .0) (p2 .ensures .1) (w3 .0) (w3 .1) in
+    let w1 = both (now (a .buf)) (p1 .last .0) l (bytes "[line ") (decimal (a .line) ++ error) 0 (p1 .result) r (p1 .ensures .0) (p1 .ensures .1) (w2 .0) (w2 .1) in
+    (omega (arith, w1 .0), omega (arith, p1 .ensures .0, p2 .ensures .2, p3 .ensures .0, p4 .ensures .0, p5 .ensures .0, p6 .ensures .0, p7 .ensures .0, c .before .before .before .before .before .before .before .before .before .before .before .before .before .before .before .before .before .before .before .before .before .before .before .before .before .before .before .before .before .before .before .before .before .before .before .pre), w1 .1)
+
+pub put-report-spec : {M : Type 1} → statement M
+put-report-spec =
+    tie.close
+    (tie.spec
+    slice-aggregate-put
+    put-requires
+    put-decimal-requires
+    slice-aggregate-put-2
+    put-requires-2
+    put-requires-3
+    slice-aggregate-put-3
+    put-requires-4
+    put-requires-5
+    slice-aggregate-put-4
+    put-requires-6
+    same-length
+    returns)
