@@ -34,7 +34,7 @@ same-length c = search needs
 
 -- src/lib.rt:85:1
 returns : tie.Need-returns
-returns c = 
+returns c =
     let a = c .before .before .before .before .before .before .before .before .before .before .before .args in
     let p = c .before .before .put-report in
     let n = length (now (a .buf)) in

@@ -1,0 +1,48 @@
+-- What the cells that `read` writes hold, for callers: the tokens as a list, the token at an index, a name's spelling.
+use Prim.Native.Nat.{ℕ, _+_, _*_}
+use mathlib.Core.List.{List, [], _∷_}
+use mathlib.Core.Bool.{Bool, true, false}
+use lib.Dec.{ltb, leb, eqb}
+use lib.ListN.{length, getD}
+use lib.Seq.{slice}
+use Rattle.utils.specs.Bytes.{pick}
+use Rattle.lexer.specs.declared.Location.{Location}
+use Rattle.lexer.specs.declared.TokenAt.{TokenAt}
+
+-- a token as its four cells hold it
+pub record Tok : Type 0 where
+  pub kind : ℕ
+  pub value : ℕ
+  pub line : ℕ
+  pub place : ℕ
+
+abbrev pub tok : ℕ → ℕ → ℕ → ℕ → Tok
+tok k v l p = record { kind = k; value = v; line = l; place = p }
+
+-- the end token's kind, at no place: what is read past the last record
+abbrev pub past : Tok
+past = tok 38 0 0 0
+
+unfoldable pub tokensOf : List ℕ → List Tok
+tokensOf (k ∷ v ∷ l ∷ p ∷ s) = tok k v l p ∷ tokensOf s
+tokensOf (k ∷ v ∷ l ∷ []) = []
+tokensOf (k ∷ v ∷ []) = []
+tokensOf (k ∷ []) = []
+tokensOf [] = []
+
+abbrev pub withNext : Tok → ℕ → TokenAt
+withNext t n =
+    record { kind = t .kind; value = t .value; line = record { 0 = t .line }; place = t .place; next = n }
+
+-- The token at an index, with the index to go on at: one more, but the end token is followed by itself (the Rust's `advance`).
+unfoldable pub tokenAt : List Tok → ℕ → TokenAt
+tokenAt ts at =
+    let t = getD ts at past in
+    pick (ltb at (length ts)) (withNext t (pick (eqb (t .kind) 38) at (at + 1))) (withNext past at)
+
+-- The part of the text that a name's record names; nothing where it lies outside the text.
+unfoldable pub nameOf : List ℕ → List ℕ → ℕ → List ℕ
+nameOf text names i =
+    let place = getD names (i * 2) 0 in
+    let len = getD names (i * 2 + 1) 0 in
+    pick (leb (place + len) (length text)) (slice place (place + len) text) []

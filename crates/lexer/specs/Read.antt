@@ -1,0 +1,92 @@
+-- The whole answer of `read`: number, line, place, counts, and what every lent slice holds at exit.
+use Prim.Native.Nat.{ℕ, _+_, _*_, _≤_}
+use mathlib.Core.Path.{_≡_}
+use mathlib.Core.List.{List, [], _∷_, _++_}
+use mathlib.Core.Bool.{Bool, true, false}
+use lib.Dec.{ltb}
+use lib.ListN.{length}
+use Rattle.utils.specs.Bytes.{pick, padTo}
+use Rattle.lexer.specs.Classes.{isAscii}
+use Rattle.lexer.specs.Refusals.{factsOf, messageOf}
+use Rattle.lexer.specs.Numbered.{Outcome, numbered, tokensCells, namesCells}
+use Rattle.lexer.specs.declared.Refusal.{Refusal}
+use Rattle.lexer.specs.declared.Refusal.the-variants as R
+use Rattle.lexer.specs.declared.LexResult.{LexResult}
+use Rattle.lexer.specs.declared.ReadAnswer.{ReadAnswer}
+
+-- the answer, and the contents of every slice
+pub record Reading : Type 0 where
+  pub answer : ReadAnswer
+  pub tokens : List ℕ
+  pub names : List ℕ
+  pub message : List ℕ
+
+abbrev pub reading : ReadAnswer → List ℕ → List ℕ → List ℕ → Reading
+reading r t n m = record { answer = r; tokens = t; names = n; message = m }
+
+-- After acceptance line and place are zero.
+abbrev pub accepted : ℕ → ℕ → ReadAnswer
+accepted tokens names = record { number = 0; line = 0; place = 0; tokens = tokens; names = names }
+
+-- After a refusal every count is zero.
+abbrev pub refusal : ℕ → ℕ → ℕ → ReadAnswer
+refusal number line place = record { number = number; line = line; place = place; tokens = 0; names = 0 }
+
+abbrev pub answerOf : Refusal → ReadAnswer
+answerOf r = refusal (factsOf r .number) (factsOf r .line) (factsOf r .place)
+
+-- a refusal: its message, and nothing else
+abbrev pub refused : Refusal → Reading
+refused r = reading (answerOf r) [] [] (messageOf r)
+
+-- Order: 31, 1, then from left to right. A text whose first line has this number.
+unfoldable pub lexedFrom : ℕ → List ℕ → Outcome
+lexedFrom line text =
+    pick (ltb 16384 (length text)) (Outcome.refused R.TooManyBytes)
+    (pick (isAscii text) (numbered text line) (Outcome.refused (R.NotAscii line)))
+
+abbrev pub readingOf : Outcome → Reading
+readingOf (Outcome.done ts ns) = reading (accepted (length ts) (length ns)) (tokensCells ts) (namesCells ns) []
+readingOf (Outcome.refused r) = refused r
+-- no text gives this (`never-cut`)
+readingOf Outcome.cut = reading (refusal 0 0 0) [] [] []
+
+-- THE DEFINITION: what a text reads as. Zeros follow each slice's contents.
+unfoldable pub readOf : List ℕ → Reading
+readOf text = readingOf (lexedFrom 1 text)
+
+-- 4,096 token records of 4 cells, 1,024 name records of 2 cells, 512 message bytes
+unfoldable pub sized : ℕ → ℕ → ℕ → Bool
+sized t n m = pick (ltb t 16384) false (pick (ltb n 2048) false (pick (ltb m 512) false true))
+
+abbrev pub padded : List ℕ → List ℕ → List ℕ → Reading → Reading
+padded t n m o =
+    reading (o .answer) (padTo (length t) (o .tokens)) (padTo (length n) (o .names)) (padTo (length m) (o .message))
+
+-- The answer and the slices at exit; t, n, m are the slices at entry. 30 is given exactly when a lent slice is shorter than
+-- its size, and then nothing is written.
+unfoldable pub readDef : List ℕ → List ℕ → List ℕ → List ℕ → Reading
+readDef text t n m =
+    pick (sized (length t) (length n) (length m)) (padded t n m (readOf text)) (reading (refusal 30 0 0) t n m)
+
+-- What the inner functions say: the counts, the slices where a text is accepted, and the sizes that the gate has seen.
+abbrev pub resultOf : Outcome → LexResult
+resultOf (Outcome.done ts ns) = LexResult.Done (length ts) (length ns)
+resultOf (Outcome.refused r) = LexResult.Refused r
+resultOf Outcome.cut = LexResult.Done 0 0
+
+abbrev pub Held : Outcome → List ℕ → List ℕ → List ℕ → List ℕ → Type 0
+Held (Outcome.done ts ns) t₀ n₀ t n = (t ≡ padTo (length t₀) (tokensCells ts)) × (n ≡ padTo (length n₀) (namesCells ns))
+Held (Outcome.refused r) t₀ n₀ t n = Unit
+Held Outcome.cut t₀ n₀ t n = Unit
+
+abbrev pub IfSized : Bool → ℕ → ℕ → ℕ → Type 0
+IfSized true t n m = (16384 ≤ t) × (2048 ≤ n) × (512 ≤ m)
+IfSized false t n m = Unit
+
+-- THE PROMISE of `read`, by parts with names.
+pub record Reads (text t₀ n₀ m₀ : List ℕ) (r : ReadAnswer) (t n m : List ℕ) : Type 0 where
+  pub answer : r ≡ readDef text t₀ n₀ m₀ .answer
+  pub tokens : t ≡ readDef text t₀ n₀ m₀ .tokens
+  pub names : n ≡ readDef text t₀ n₀ m₀ .names
+  pub message : m ≡ readDef text t₀ n₀ m₀ .message

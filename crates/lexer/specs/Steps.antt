@@ -1,0 +1,63 @@
+-- What the reader's loop does at one turn: a piece, its name numbered, and the names' cells that it adds.
+-- `numberedFrom` says the same of all pieces; that turns add up to it is shown in `proofs/Turns.antt`.
+use Prim.Native.Nat.{ℕ, _+_, _*_, _≤_}
+use mathlib.Core.List.{List, [], _∷_, _++_}
+use lib.Dec.{ltb}
+use lib.ListN.{length}
+use lib.Seq.{sets}
+use Rattle.utils.specs.Bytes.{pick}
+use Rattle.lexer.specs.Tokens.{tokenCells}
+use Rattle.lexer.specs.Pieces.{token}
+use Rattle.lexer.specs.Numbered.{Part, part, identified, named}
+use Rattle.lexer.specs.declared.Cursor.{Cursor}
+use Rattle.lexer.specs.declared.Token.{Token}
+use Rattle.lexer.specs.declared.TokenValue.the-variants as T
+use Rattle.lexer.specs.declared.Name.{Name}
+use Rattle.lexer.specs.declared.Identified.{Identified}
+use Rattle.lexer.specs.declared.Identified.the-variants as I
+use Rattle.lexer.specs.declared.Lexed.{Lexed}
+use Rattle.lexer.specs.declared.Lexed.the-variants as L
+use Rattle.lexer.specs.declared.Next.{Next}
+use Rattle.lexer.specs.declared.Next.the-variants as N
+
+-- the names that cells hold, two cells a name
+unfoldable pub partsOf : List ℕ → List Part
+partsOf (a ∷ n ∷ r) = part a n ∷ partsOf r
+partsOf (a ∷ []) = []
+partsOf [] = []
+
+-- each name lies in a text of this length
+abbrev pub Within : ℕ → List Part → Type 0
+Within n [] = Unit
+Within n (p ∷ ps) = (p .place + p .len ≤ n) × Within n ps
+
+-- what a name adds to the names' cells
+abbrev pub newCells : Name → Identified → List ℕ
+newCells n (I.Known i) = []
+newCells n (I.New i) = n .place ∷ n .len ∷ []
+newCells n (I.Refused r) = []
+
+-- a name that has its number, and how many names there are then
+abbrev pub nextName : ℕ → Name → Cursor → Identified → Next
+nextName count n c (I.Known i) = N.Token (named n i) c count
+nextName count n c (I.New i) = N.Token (named n i) c (count + 1)
+nextName count n c (I.Refused r) = N.Refused r
+
+unfoldable pub nextOf : List ℕ → List Part → ℕ → Lexed → Next
+nextOf s names count (L.Skipped c) = N.Skipped c
+nextOf s names count (L.Name n c) = nextName count n c (identified s names n)
+nextOf s names count (L.Token t c) = N.Token t c count
+nextOf s names count (L.End c) = N.End (token T.EndOfFile (c .line) (c .place))
+nextOf s names count (L.Refused r) = N.Refused r
+
+-- what a piece adds to the names' cells
+unfoldable pub addedBy : List ℕ → List Part → Lexed → List ℕ
+addedBy s names (L.Skipped c) = []
+addedBy s names (L.Name n c) = newCells n (identified s names n)
+addedBy s names (L.Token t c) = []
+addedBy s names (L.End c) = []
+addedBy s names (L.Refused r) = []
+
+-- the tokens' cells with one token more, where there is room for it
+unfoldable pub pushed : List ℕ → ℕ → Token → List ℕ
+pushed cells count t = pick (ltb count 4096) (sets cells (count * 4) (tokenCells t)) cells

@@ -1,0 +1,441 @@
+// Text to tokens and names, from bril-lib/src/lexer.rs.
+mod lex;
+mod names;
+mod report;
+mod scan;
+mod tokens;
+
+ghost use mathlib.Core.Path.{_≡_};
+ghost use mathlib.Core.List.{[]};
+ghost use Prim.Native.Nat.{ℕ, _+_, _-_, _*_, _≤_, _<_};
+ghost use lib.Dec.{ltb};
+ghost use lib.ListN.{length, take, getD};
+ghost use lib.Seq.{sets};
+ghost use Rattle.utils.specs.Bytes.{pick, padTo};
+ghost use Rattle.lexer.specs.Pieces.{pieceAt};
+ghost use Rattle.lexer.specs.Numbered.{numbered, atToken};
+ghost use Rattle.lexer.specs.Steps.{partsOf, Within, nextOf, addedBy, pushed};
+ghost use Rattle.lexer.specs.Tokens.{tokenCells};
+ghost use Rattle.lexer.specs.Read.{lexedFrom, resultOf, Held, reading, padded, refused, readOf, sized, IfSized, Reads};
+ghost use Rattle.lexer.specs.Refusals.{factsOf};
+ghost use Rattle.lexer.specs.Decoded.{tokensOf, tokenAt, nameOf};
+
+// A name's number in the table of names.
+pub struct Identifier(pub u32);
+
+// A line.
+pub struct Location(pub u32);
+
+pub enum TokenValue {
+    Local(Identifier),
+    Global(Identifier),
+    Label(Identifier),
+    Integer(u32),
+    Add,
+    Mul,
+    Sub,
+    Div,
+    Mod,
+    True,
+    False,
+    Equal,
+    LessThan,
+    GreaterThan,
+    LessThanOrEq,
+    GreaterThanOrEq,
+    Not,
+    And,
+    Or,
+    Jump,
+    Branch,
+    Call,
+    Return,
+    Define,
+    LeftParen,
+    RightParen,
+    LeftBrace,
+    RightBrace,
+    Colon,
+    Semicolon,
+    Comma,
+    Int,
+    Bool,
+    Const,
+    Print,
+    Nop,
+    Identity,
+    EndOfFile,
+}
+
+pub struct Token {
+    pub value: TokenValue,
+    pub line: Location,
+    pub place: usize,
+}
+
+// A value, or none: the Rust's Option<TokenValue>.
+pub enum OptionValue {
+    Some(TokenValue),
+    None,
+}
+
+// The lexer's position: the next byte, and the line that it stands on.
+pub struct Cursor {
+    pub place: usize,
+    pub line: u32,
+}
+
+// A name that has no number yet. Its kind is 1 for a local, 2 for a global, 3 for a label.
+pub struct Name {
+    pub kind: u32,
+    pub place: usize,
+    pub len: usize,
+    pub line: Location,
+}
+
+// Why a text is refused. `factsOf` gives document 01's number, line, place and text for each.
+pub enum Refusal {
+    // 1. The line is the text's first.
+    NotAscii(u32),
+    // 2, at the comment's first byte.
+    CommentNotClosed(Cursor),
+    // 3, with the byte.
+    UnexpectedByte(u8, Cursor),
+    // 4, at the minus.
+    NumberExpected(Cursor),
+    // 31
+    TooManyBytes,
+    // 32, at the token one too many.
+    TooManyTokens(Cursor),
+    // 33 and 34, at the name's first byte.
+    TooManyNames(Cursor),
+    NameTooLong(Cursor),
+}
+
+// What stands at a cursor, and the cursor after it.
+pub enum Lexed {
+    // A blank, a comment, or a number that is dropped.
+    Skipped(Cursor),
+    Name(Name, Cursor),
+    Token(Token, Cursor),
+    End(Cursor),
+    Refused(Refusal),
+}
+
+// A number's value, which counts no higher than 2147483649, and the place after it.
+pub struct Number {
+    pub value: u64,
+    pub end: usize,
+}
+
+// The place after a comment's closing, or no closing.
+pub enum Comment {
+    Closed(usize),
+    Open,
+}
+
+pub enum Found {
+    At(Identifier),
+    Nothing,
+}
+
+// A name's number, in the table already or new to it.
+pub enum Identified {
+    Known(Identifier),
+    New(Identifier),
+    Refused(Refusal),
+}
+
+// One turn of lex_all: a piece whose name has its number.
+pub enum Next {
+    Skipped(Cursor),
+    // The token, the cursor after it, and how many names there are then.
+    Token(Token, Cursor, usize),
+    End(Token),
+    Refused(Refusal),
+}
+
+// How many tokens and names a text has.
+pub enum LexResult {
+    Done(u32, u32),
+    Refused(Refusal),
+}
+
+// What `read` answers: document 01's number, line and place, and how many tokens and names there are.
+#[repr(C)]
+pub struct ReadAnswer {
+    pub number: u32,
+    pub line: u32,
+    pub place: u32,
+    pub tokens: u32,
+    pub names: u32,
+}
+
+// A token as its record has it, and the index of the token after it; the end token is followed by itself.
+pub struct TokenAt {
+    pub kind: u32,
+    pub value: u32,
+    pub line: Location,
+    pub place: u32,
+    pub next: usize,
+}
+
+impl Cursor {
+    // One piece of the text, and the cursor after it.
+    pub fn lex(self, text: &[u8]) -> Lexed
+        requires { ⌜ self .line < 4294967295 ⌝ }
+        ensures { λ r. ⌜ r ≡ pieceAt (now (text .entry)) (self .place) (self .line) ⌝ }
+    {
+        let at = self.place;
+        let line = self.line;
+        if text.len() <= at {
+            return Lexed::End(self);
+        }
+        let b = text[at];
+        if b == 10 {
+            return Lexed::Skipped(Cursor {
+                place: at + 1,
+                line: line + 1,
+            });
+        }
+        if scan::is_blank(b) {
+            return Lexed::Skipped(Cursor {
+                place: at + 1,
+                line,
+            });
+        }
+        if b == 35 {
+            let place = scan::line_end(text, at + 1);
+            return Lexed::Skipped(Cursor { place, line });
+        }
+        if b == 47 {
+            return lex::lex_slash(text, at, line);
+        }
+        lex::lex_token(text, at, line)
+    }
+}
+
+// A piece, and its name in the table.
+fn next_token(text: &[u8], names: &mut [u32], count: usize, at: Cursor) -> Next
+    requires { ⌜ (at .line < 4294967295) × (count ≤ 1024) × (2048 ≤ length (now names)) × (length (now text) < 4294967296) ⌝ }
+    requires { ⌜ Within (length (now text)) (partsOf (take (count * 2) (now names))) ⌝ }
+    ensures { λ r. ⌜ r ≡ nextOf (now (text .entry)) (partsOf (take (count * 2) (now (names .entry)))) count (pieceAt (now (text .entry)) (at .place) (at .line)) ⌝ }
+    ensures { λ r. ⌜ now (names .exit) ≡ sets (now (names .entry)) (count * 2) (addedBy (now (text .entry)) (partsOf (take (count * 2) (now (names .entry)))) (pieceAt (now (text .entry)) (at .place) (at .line))) ⌝ }
+{
+    match at.lex(text) {
+        Lexed::Skipped(next) => Next::Skipped(next),
+        Lexed::Token(token, next) => Next::Token(token, next, count),
+        Lexed::Name(name, next) => {
+            let kind = name.kind;
+            let line = name.line;
+            let place = name.place;
+            match names::get_identifier(text, names, count, name) {
+                Identified::Known(i) => {
+                    let value = tokens::value_of(kind, i.0);
+                    Next::Token(Token { value, line, place }, next, count)
+                }
+                Identified::New(i) => {
+                    let value = tokens::value_of(kind, i.0);
+                    Next::Token(Token { value, line, place }, next, count + 1)
+                }
+                Identified::Refused(refusal) => Next::Refused(refusal),
+            }
+        }
+        Lexed::End(end) => Next::End(Token {
+            value: TokenValue::EndOfFile,
+            line: Location(end.line),
+            place: end.place,
+        }),
+        Lexed::Refused(refusal) => Next::Refused(refusal),
+    }
+}
+
+// Stores a token behind `count` others, where there is room for it.
+fn push_token(cells: &mut [u32], count: usize, token: Token) -> bool
+    requires { ⌜ (16384 ≤ length (now cells)) × (token .place < 4294967296) ⌝ }
+    ensures { λ r. ⌜ (r ≡ ltb count 4096) × (now (cells .exit) ≡ pushed (now (cells .entry)) count token) ⌝ }
+{
+    if count < 4096 {
+        tokens::put_token(cells, count, token);
+        return true;
+    }
+    false
+}
+
+// The cells of tokens and names, from cleared slices. On a refusal nothing is said of the slices: the caller clears them.
+fn lex_all(text: &[u8], line: u32, tokens: &mut [u32], names: &mut [u32]) -> LexResult
+    requires { ⌜ (length (now text) ≤ 16384) × (line ≤ 2147483648) × (16384 ≤ length (now tokens)) × (2048 ≤ length (now names)) ⌝ }
+    ensures { λ r. ⌜ r ≡ resultOf (numbered (now (text .entry)) line) ⌝ }
+    ensures { λ r. ⌜ Held (numbered (now (text .entry)) line) (now (tokens .entry)) (now (names .entry)) (now (tokens .exit)) (now (names .exit)) ⌝ }
+{
+    utils::clear(tokens);
+    utils::clear(names);
+    let mut count: usize = 0;
+    let mut known: usize = 0;
+    let mut at = Cursor { place: 0, line };
+    loop {
+        match next_token(text, names, known, at) {
+            Next::Skipped(next) => {
+                at = next;
+            }
+            Next::Token(token, next, then) => {
+                if !push_token(tokens, count, token) {
+                    return LexResult::Refused(too_many(token));
+                }
+                count += 1;
+                known = then;
+                at = next;
+            }
+            Next::End(token) => {
+                if !push_token(tokens, count, token) {
+                    return LexResult::Refused(too_many(token));
+                }
+                return LexResult::Done(count as u32 + 1, known as u32);
+            }
+            Next::Refused(refusal) => {
+                return LexResult::Refused(refusal);
+            }
+        }
+    }
+}
+
+fn too_many(token: Token) -> Refusal
+    ensures { λ r. ⌜ r ≡ Refusal.TooManyTokens (atToken token) ⌝ }
+{
+    Refusal::TooManyTokens(Cursor {
+        place: token.place,
+        line: token.line.0,
+    })
+}
+
+// 31, then 1, then from left to right.
+pub fn lex_from(text: &[u8], line: u32, tokens: &mut [u32], names: &mut [u32]) -> LexResult
+    requires { ⌜ (line ≤ 2147483648) × (16384 ≤ length (now tokens)) × (2048 ≤ length (now names)) ⌝ }
+    ensures { λ r. ⌜ r ≡ resultOf (lexedFrom line (now (text .entry))) ⌝ }
+    ensures { λ r. ⌜ Held (lexedFrom line (now (text .entry))) (now (tokens .entry)) (now (names .entry)) (now (tokens .exit)) (now (names .exit)) ⌝ }
+{
+    if 16384 < text.len() {
+        return LexResult::Refused(Refusal::TooManyBytes);
+    }
+    if !scan::is_ascii(text) {
+        return LexResult::Refused(Refusal::NotAscii(line));
+    }
+    lex_all(text, line, tokens, names)
+}
+
+// Whether slices of these lengths have their sizes.
+fn fits(tokens: usize, names: usize, message: usize) -> bool
+    ensures { λ r. ⌜ (r ≡ sized tokens names message) × (IfSized r tokens names message) ⌝ }
+{
+    if tokens < 16384 {
+        return false;
+    }
+    if names < 2048 {
+        return false;
+    }
+    if message < 512 {
+        return false;
+    }
+    true
+}
+
+// A refusal's message, and all else zero.
+fn refuse(tokens: &mut [u32], names: &mut [u32], message: &mut [u8], refusal: Refusal) -> ReadAnswer
+    requires { ⌜ (512 ≤ length (now message)) × (factsOf refusal .place < 4294967296) ⌝ }
+    ensures { λ r. ⌜ reading r (now (tokens .exit)) (now (names .exit)) (now (message .exit)) ≡ padded (now (tokens .entry)) (now (names .entry)) (now (message .entry)) (refused refusal) ⌝ }
+{
+    utils::clear(tokens);
+    utils::clear(names);
+    report::report(message, refusal);
+    report::answer_of(refusal)
+}
+
+// Slices that have their sizes.
+fn read_sized(text: &[u8], tokens: &mut [u32], names: &mut [u32], message: &mut [u8]) -> ReadAnswer
+    requires { ⌜ (16384 ≤ length (now tokens)) × (2048 ≤ length (now names)) × (512 ≤ length (now message)) ⌝ }
+    ensures { λ r. ⌜ reading r (now (tokens .exit)) (now (names .exit)) (now (message .exit)) ≡ padded (now (tokens .entry)) (now (names .entry)) (now (message .entry)) (readOf (now (text .entry))) ⌝ }
+{
+    match lex_from(text, 1, tokens, names) {
+        LexResult::Refused(refusal) => refuse(tokens, names, message, refusal),
+        LexResult::Done(count, known) => {
+            utils::clear_bytes(message);
+            ReadAnswer {
+                number: 0,
+                line: 0,
+                place: 0,
+                tokens: count,
+                names: known,
+            }
+        }
+    }
+}
+
+// Document 01's reading of any text: tokens and names as cells, or a refusal and its message.
+pub fn read(text: &[u8], tokens: &mut [u32], names: &mut [u32], message: &mut [u8]) -> ReadAnswer
+    ensures { λ r. ⌜ Reads (now (text .entry)) (now (tokens .entry)) (now (names .entry)) (now (message .entry)) r (now (tokens .exit)) (now (names .exit)) (now (message .exit)) ⌝ }
+{
+    if fits(tokens.len(), names.len(), message.len()) {
+        return read_sized(text, tokens, names, message);
+    }
+    report::refuse_at(30, 0, 0)
+}
+
+// The token at an index. Past the last record stands an end token.
+pub fn token_at(tokens: &[u32], at: usize) -> TokenAt
+    ensures { λ r. ⌜ r ≡ tokenAt (tokensOf (now (tokens .entry))) at ⌝ }
+{
+    if at < tokens.len() / 4 {
+        let i = at * 4;
+        let kind = tokens[i];
+        let value = tokens[i + 1];
+        let line = Location(tokens[i + 2]);
+        let place = tokens[i + 3];
+        if kind == 38 {
+            return TokenAt {
+                kind,
+                value,
+                line,
+                place,
+                next: at,
+            };
+        }
+        return TokenAt {
+            kind,
+            value,
+            line,
+            place,
+            next: at + 1,
+        };
+    }
+    TokenAt {
+        kind: 38,
+        value: 0,
+        line: Location(0),
+        place: 0,
+        next: at,
+    }
+}
+
+// The part of the text that a name's record names.
+pub fn get_name<'t, 'n>(text: &'t [u8], names: &'n [u32], id: Identifier) -> &'t [u8]
+    ensures { λ r. ⌜ now r ≡ nameOf (now (text .entry)) (now (names .entry)) (id .0) ⌝ }
+{
+    let at = id.0 as usize * 2;
+    let place = cell_at(names, at);
+    let end = place + cell_at(names, at + 1);
+    if end <= text.len() {
+        return &text[place..end];
+    }
+    &text[0..0]
+}
+
+// A cell, or 0 past the end.
+fn cell_at(cells: &[u32], at: usize) -> usize
+    ensures { λ r. ⌜ r ≡ getD (now (cells .entry)) at 0 ⌝ }
+    ensures { λ r. ⌜ r < 4294967296 ⌝ }
+{
+    if at < cells.len() {
+        return cells[at] as usize;
+    }
+    0
+}

@@ -1,0 +1,73 @@
+// A refusal's number, line and place, and its message.
+ghost use mathlib.Core.Path.{_≡_};
+ghost use Prim.Native.Nat.{ℕ, _+_, _≤_, _<_};
+ghost use lib.ListN.{length};
+ghost use mathlib.Core.List.{[]};
+ghost use Rattle.utils.specs.Bytes.{padTo};
+ghost use Rattle.utils.specs.Message.{reported};
+ghost use Rattle.lexer.specs.Refusals.{factsOf, messageOf, unexpected};
+ghost use Rattle.lexer.specs.Read.{refusal, answerOf};
+use crate::Cursor;
+use crate::ReadAnswer;
+use crate::Refusal;
+
+pub(crate) fn refuse_at(number: u32, line: u32, place: usize) -> ReadAnswer
+    requires { ⌜ place < 4294967296 ⌝ }
+    ensures { λ r. ⌜ r ≡ refusal number line place ⌝ }
+{
+    ReadAnswer {
+        number,
+        line,
+        place: place as u32,
+        tokens: 0,
+        names: 0,
+    }
+}
+
+pub(crate) fn answer_of(refusal: Refusal) -> ReadAnswer
+    requires { ⌜ factsOf refusal .place < 4294967296 ⌝ }
+    ensures { λ r. ⌜ r ≡ answerOf refusal ⌝ }
+{
+    match refusal {
+        Refusal::NotAscii(line) => refuse_at(1, line, 0),
+        Refusal::CommentNotClosed(at) => refuse_at(2, at.line, at.place),
+        Refusal::UnexpectedByte(_, at) => refuse_at(3, at.line, at.place),
+        Refusal::NumberExpected(at) => refuse_at(4, at.line, at.place),
+        Refusal::TooManyBytes => refuse_at(31, 0, 0),
+        Refusal::TooManyTokens(at) => refuse_at(32, at.line, at.place),
+        Refusal::TooManyNames(at) => refuse_at(33, at.line, at.place),
+        Refusal::NameTooLong(at) => refuse_at(34, at.line, at.place),
+    }
+}
+
+fn report_unexpected(message: &mut [u8], line: u32, b: u8)
+    requires { ⌜ 512 ≤ length (now message) ⌝ }
+    ensures { λ r. ⌜ now (message .exit) ≡ padTo (length (now (message .entry))) (reported line [] (unexpected b)) ⌝ }
+{
+    let mut text = *b"Unexpected token: ' '.";
+    text[19] = b;
+    utils::error(message, line, &text);
+}
+
+// The message of a refusal, and zeros after it.
+pub(crate) fn report(message: &mut [u8], refusal: Refusal)
+    requires { ⌜ 512 ≤ length (now message) ⌝ }
+    ensures { λ r. ⌜ now (message .exit) ≡ padTo (length (now (message .entry))) (messageOf refusal) ⌝ }
+{
+    match refusal {
+        Refusal::NotAscii(line) => utils::error(message, line, b"Only ASCII input is supported."),
+        Refusal::CommentNotClosed(at) => {
+            utils::error(message, at.line, b"Multiline comment no closed.")
+        }
+        Refusal::UnexpectedByte(b, at) => report_unexpected(message, at.line, b),
+        Refusal::NumberExpected(at) => utils::error(
+            message,
+            at.line,
+            b"Expected number after '-'.",
+        ),
+        Refusal::TooManyBytes => utils::error(message, 0, b"too many bytes."),
+        Refusal::TooManyTokens(at) => utils::error(message, at.line, b"too many tokens."),
+        Refusal::TooManyNames(at) => utils::error(message, at.line, b"too many names."),
+        Refusal::NameTooLong(at) => utils::error(message, at.line, b"name too long."),
+    }
+}
