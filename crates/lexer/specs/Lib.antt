@@ -15,5 +15,7 @@ pub mod Numbered
 pub mod Steps
 -- the whole answer
 pub mod Read
+-- what callers rely on of an accepted reading
+pub mod Sound
 -- what the cells hold, for callers
 pub mod Decoded

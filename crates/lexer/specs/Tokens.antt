@@ -10,6 +10,7 @@ use Rattle.utils.specs.Bytes.{pick, bytes, sameBytes}
 use Rattle.lexer.specs.declared.Identifier.{Identifier}
 use Rattle.lexer.specs.declared.TokenValue.{TokenValue}
 use Rattle.lexer.specs.declared.TokenValue.the-variants as T
+use Rattle.lexer.specs.declared.Kinded.{Kinded}
 use Rattle.lexer.specs.declared.Token.{Token}
 use Rattle.lexer.specs.declared.OptionValue.{OptionValue}
 use Rattle.lexer.specs.declared.OptionValue.the-variants as O
@@ -95,6 +96,9 @@ carried T.Print = 0
 carried T.Nop = 0
 carried T.Identity = 0
 carried T.EndOfFile = 0
+
+abbrev pub kindedOf : TokenValue → Kinded
+kindedOf v = record { 0 = kindOf v; 1 = carried v }
 
 -- The value of a kind; a number that is no kind is read as the end. `valueOf (kindOf v) (carried v) ≡ v` is `value-of-kind`.
 unfoldable pub valueOf : ℕ → ℕ → TokenValue

@@ -67,6 +67,9 @@ pub enum TokenValue {
     EndOfFile,
 }
 
+// A value's kind, and what it carries: a name's number, an integer's bits, or 0.
+pub struct Kinded(pub u32, pub u32);
+
 pub struct Token {
     pub value: TokenValue,
     pub line: Location,
@@ -217,7 +220,7 @@ impl Cursor {
 
 // A piece, and its name in the table.
 fn next_token(text: &[u8], names: &mut [u32], count: usize, at: Cursor) -> Next
-    requires { ⌜ (at .line < 4294967295) × (count ≤ 1024) × (2048 ≤ length (now names)) × (length (now text) < 4294967296) ⌝ }
+    requires { ⌜ (at .place ≤ length (now text)) × (at .line < 4294967295) × (count ≤ 1024) × (2048 ≤ length (now names)) × (length (now text) < 4294967296) ⌝ }
     requires { ⌜ Within (length (now text)) (partsOf (take (count * 2) (now names))) ⌝ }
     ensures { λ r. ⌜ r ≡ nextOf (now (text .entry)) (partsOf (take (count * 2) (now (names .entry)))) count (pieceAt (now (text .entry)) (at .place) (at .line)) ⌝ }
     ensures { λ r. ⌜ now (names .exit) ≡ sets (now (names .entry)) (count * 2) (addedBy (now (text .entry)) (partsOf (take (count * 2) (now (names .entry)))) (pieceAt (now (text .entry)) (at .place) (at .line))) ⌝ }

@@ -5,57 +5,60 @@ ghost use Prim.Native.Nat.{ℕ, _+_, _-_, _*_, _≤_, _<_};
 ghost use lib.ListN.{length, getD};
 ghost use lib.Seq.{slice, sets};
 ghost use Rattle.utils.specs.Bytes.{sameBytes};
-ghost use Rattle.lexer.specs.Tokens.{kindOf, carried, valueOf, tokenCells, rowAt, rowsFrom, rowsFit, wordIn, keyword, symbol};
+ghost use Rattle.lexer.specs.Tokens.{kindedOf, valueOf, tokenCells, rowAt, rowsFrom, rowsFit, wordIn, keyword, symbol};
 use crate::Identifier;
+use crate::Kinded;
 use crate::OptionValue;
 use crate::Token;
 use crate::TokenValue;
 
-pub fn kind_of(value: TokenValue) -> u32
-    ensures { λ r. ⌜ r ≡ kindOf value ⌝ }
+// The kind of a value and what it carries: the first two cells of its record.
+pub fn kinded(value: TokenValue) -> Kinded
+    ensures { λ r. ⌜ r ≡ kindedOf value ⌝ }
 {
     match value {
-        TokenValue::Local(_) => 1,
-        TokenValue::Global(_) => 2,
-        TokenValue::Label(_) => 3,
-        TokenValue::Integer(_) => 4,
-        TokenValue::Add => 5,
-        TokenValue::Mul => 6,
-        TokenValue::Sub => 7,
-        TokenValue::Div => 8,
-        TokenValue::Mod => 9,
-        TokenValue::True => 10,
-        TokenValue::False => 11,
-        TokenValue::Equal => 12,
-        TokenValue::LessThan => 13,
-        TokenValue::GreaterThan => 14,
-        TokenValue::LessThanOrEq => 15,
-        TokenValue::GreaterThanOrEq => 16,
-        TokenValue::Not => 17,
-        TokenValue::And => 18,
-        TokenValue::Or => 19,
-        TokenValue::Jump => 20,
-        TokenValue::Branch => 21,
-        TokenValue::Call => 22,
-        TokenValue::Return => 23,
-        TokenValue::Define => 24,
-        TokenValue::LeftParen => 25,
-        TokenValue::RightParen => 26,
-        TokenValue::LeftBrace => 27,
-        TokenValue::RightBrace => 28,
-        TokenValue::Colon => 29,
-        TokenValue::Semicolon => 30,
-        TokenValue::Comma => 31,
-        TokenValue::Int => 32,
-        TokenValue::Bool => 33,
-        TokenValue::Const => 34,
-        TokenValue::Print => 35,
-        TokenValue::Nop => 36,
-        TokenValue::Identity => 37,
-        TokenValue::EndOfFile => 38,
+        TokenValue::Local(i) => Kinded(1, i.0),
+        TokenValue::Global(i) => Kinded(2, i.0),
+        TokenValue::Label(i) => Kinded(3, i.0),
+        TokenValue::Integer(n) => Kinded(4, n),
+        TokenValue::Add => Kinded(5, 0),
+        TokenValue::Mul => Kinded(6, 0),
+        TokenValue::Sub => Kinded(7, 0),
+        TokenValue::Div => Kinded(8, 0),
+        TokenValue::Mod => Kinded(9, 0),
+        TokenValue::True => Kinded(10, 0),
+        TokenValue::False => Kinded(11, 0),
+        TokenValue::Equal => Kinded(12, 0),
+        TokenValue::LessThan => Kinded(13, 0),
+        TokenValue::GreaterThan => Kinded(14, 0),
+        TokenValue::LessThanOrEq => Kinded(15, 0),
+        TokenValue::GreaterThanOrEq => Kinded(16, 0),
+        TokenValue::Not => Kinded(17, 0),
+        TokenValue::And => Kinded(18, 0),
+        TokenValue::Or => Kinded(19, 0),
+        TokenValue::Jump => Kinded(20, 0),
+        TokenValue::Branch => Kinded(21, 0),
+        TokenValue::Call => Kinded(22, 0),
+        TokenValue::Return => Kinded(23, 0),
+        TokenValue::Define => Kinded(24, 0),
+        TokenValue::LeftParen => Kinded(25, 0),
+        TokenValue::RightParen => Kinded(26, 0),
+        TokenValue::LeftBrace => Kinded(27, 0),
+        TokenValue::RightBrace => Kinded(28, 0),
+        TokenValue::Colon => Kinded(29, 0),
+        TokenValue::Semicolon => Kinded(30, 0),
+        TokenValue::Comma => Kinded(31, 0),
+        TokenValue::Int => Kinded(32, 0),
+        TokenValue::Bool => Kinded(33, 0),
+        TokenValue::Const => Kinded(34, 0),
+        TokenValue::Print => Kinded(35, 0),
+        TokenValue::Nop => Kinded(36, 0),
+        TokenValue::Identity => Kinded(37, 0),
+        TokenValue::EndOfFile => Kinded(38, 0),
     }
 }
 
+// The value of a kind; what is no kind is read as the end.
 pub fn value_of(kind: u32, carried: u32) -> TokenValue
     ensures { λ r. ⌜ r ≡ valueOf kind carried ⌝ }
 {
@@ -101,18 +104,6 @@ pub fn value_of(kind: u32, carried: u32) -> TokenValue
     }
 }
 
-pub fn carried_by(value: TokenValue) -> u32
-    ensures { λ r. ⌜ r ≡ carried value ⌝ }
-{
-    match value {
-        TokenValue::Local(i) => i.0,
-        TokenValue::Global(i) => i.0,
-        TokenValue::Label(i) => i.0,
-        TokenValue::Integer(n) => n,
-        _ => 0,
-    }
-}
-
 // Stores a token's four cells, after `count` records.
 pub(crate) fn put_token(cells: &mut [u32], count: usize, token: Token)
     requires { ⌜ (count * 4 + 4 ≤ length (now cells)) × (token .place < 4294967296) ⌝ }
@@ -123,8 +114,9 @@ pub(crate) fn put_token(cells: &mut [u32], count: usize, token: Token)
     let a2 = at + 2;
     let a3 = at + 3;
     let value = token.value;
-    cells[at] = kind_of(value);
-    cells[a1] = carried_by(value);
+    let first = kinded(value);
+    cells[at] = first.0;
+    cells[a1] = first.1;
     cells[a2] = token.line.0;
     cells[a3] = token.place as u32;
 }

@@ -1,0 +1,11 @@
+pub mod Accepted
+pub mod Capping
+pub mod Cells
+pub mod Compare
+pub mod Digits
+pub mod Parts
+pub mod Progress
+pub mod Rows
+pub mod Same
+pub mod Sound
+pub mod Turns

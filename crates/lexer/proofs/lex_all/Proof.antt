@@ -1,0 +1,370 @@
+use borrow.Author.Needs.{needs}
+use borrow.Author.Tests.{lt-ltb, le-ltb, le-leb, lt-leb, eq-eqb, ne-eqb}
+use native.Mathlib.Omega.{arith}
+use native.Mathlib.Numerals.{add-one}
+use Prim.Native.Nat.{ℕ, suc, _+_, _-_, _*_, _≤_, _<_}
+use mathlib.Core.Path.{_≡_, refl, sym, ap, _∙_}
+use mathlib.Core.Logic.{⊎-elim}
+use mathlib.Core.List.{List, [], _∷_, _++_}
+use mathlib.Core.Bool.{Bool, true, false}
+use lib.ListN.{length, drop, take, getD}
+use lib.Seq.{drop-cons}
+use denote.Ref.{now}
+use borrow.Author.Tests.{ltb-true, ltb-false, not-true, not-false}
+use Rattle.lexer.specs.Numbered.{Outcome}
+use Rattle.utils.specs.Bytes.{padTo}
+use Rattle.lexer.specs.Read.{resultOf, Held}
+use Rattle.lexer.proofs.Progress.{piece-past}
+use Rattle.lexer.specs.Steps.{partsOf, nextOf, addedBy, pushed}
+use Rattle.utils.specs.Bytes.{pick}
+use Rattle.lexer.proofs.Turns.{Lexing, start, taken, turn}
+use Rattle.lexer.proofs.lex_all.Statement.{statement}
+use Rattle.lexer.proofs.lex_all.Tie as tie
+use Rattle.lexer.proofs.lex_all.Reads as reads
+use Rattle.lexer.proofs.lex_all.Lts as lts
+use Rattle.lexer.proofs.next_token.Reads as next-token-reads
+use Rattle.lexer.proofs.push_token.Reads as push-token-reads
+use Rattle.lexer.proofs.too_many.Reads as too-many-reads
+use Rattle.utils.proofs.clear.Reads as clear-reads
+
+abbrev Inv-loop : tie.InvT-loop
+Inv-loop text line tokens₀ names₀ count₀ known₀ at₀ tokens names count known at = Lexing text line tokens₀ names₀ tokens names count known at
+
+abbrev μ-loop : tie.MeasureT-loop
+μ-loop text line tokens₀ names₀ count₀ known₀ at₀ tokens names count known at = length text - at .place
+
+-- src/lib.rt:274:5
+clear-requires : tie.Need-clear-requires Inv-loop μ-loop
+clear-requires c κs = search needs
+
+-- src/lib.rt:275:5
+clear-requires-2 : tie.Need-clear-requires-2 Inv-loop μ-loop
+clear-requires-2 c κs = search needs
+
+-- src/lib.rt:279:5
+loop-holds : tie.Need-loop-holds Inv-loop μ-loop
+loop-holds c =
+    let a = c .before .before .before .before .before .before .before .before .before .before .before .args in
+    let clear = c .before .before .before .before .before .before .clear in
+    let clear2 = c .before .before .clear2 in
+    start (now (a .text)) (a .line) _ _ (length (now (a .tokens))) (length (now (a .names))) (clear .ensures) (clear2 .ensures)
+
+-- src/lib.rt:280:15
+next-token-requires : tie.Need-next-token-requires Inv-loop μ-loop
+next-token-requires c κs =
+    let clear = c .before .before .before .before .before .before .before .before .clear in
+    let pre = c .before .before .before .before .before .before .before .before .before .before .before .before .before .pre in
+    let clear2 = c .before .before .before .before .clear2 in
+    let loop = c .before .loop in
+    let ts : 16384 ≤ length (clear .last .0) = omega (arith, clear .kept .0, pre) in
+    let ns : 2048 ≤ length (clear2 .last .0) = omega (arith, clear2 .kept .0, pre) in
+    (omega (arith, loop .inv .lines, loop .inv .within, loop .inv .parts-room, loop .inv .long-names, ns, pre), rw (taken ts ns (loop .inv)) (loop .inv .parts-within))
+
+-- src/lib.rt:281:27
+enum-known-next : tie.Need-enum-known-next Inv-loop μ-loop
+enum-known-next c = search needs
+
+-- src/lib.rt:279:5
+loop-less : tie.Need-loop-less Inv-loop μ-loop
+loop-less c =
+    let clear = c .before .before .before .before .before .before .before .before .before .before .before .before .before .before .clear in
+    let pre = c .before .before .before .before .before .before .before .before .before .before .before .before .before .before .before .before .before .before .before .pre in
+    let clear2 = c .before .before .before .before .before .before .before .before .before .before .clear2 in
+    let next = c .before .next in
+    let loop = c .before .before .before .before .before .before .before .loop in
+    let next-token = c .before .before .before .before .before .next-token in
+    let ts : 16384 ≤ length (clear .last .0) = omega (arith, clear .kept .0, pre) in
+    let ns : 2048 ≤ length (clear2 .last .0) = omega (arith, clear2 .kept .0, pre) in
+    let after = rw (next .given .1) at (turn ts ns (loop .inv) (next-token .result) (next-token .last .1 .0) (next-token .ensures .0) (next-token .ensures .1)) in
+    omega (arith, after .1)
+
+-- src/lib.rt:279:5
+loop-again : tie.Need-loop-again Inv-loop μ-loop
+loop-again c =
+    let clear = c .before .before .before .before .before .before .before .before .before .before .before .before .before .before .clear in
+    let pre = c .before .before .before .before .before .before .before .before .before .before .before .before .before .before .before .before .before .before .before .pre in
+    let clear2 = c .before .before .before .before .before .before .before .before .before .before .clear2 in
+    let next = c .before .next in
+    let loop = c .before .before .before .before .before .before .before .loop in
+    let next-token = c .before .before .before .before .before .next-token in
+    let ts : 16384 ≤ length (clear .last .0) = omega (arith, clear .kept .0, pre) in
+    let ns : 2048 ≤ length (clear2 .last .0) = omega (arith, clear2 .kept .0, pre) in
+    let after = rw (next .given .1) at (turn ts ns (loop .inv) (next-token .result) (next-token .last .1 .0) (next-token .ensures .0) (next-token .ensures .1)) in
+    after .0
+
+-- src/lib.rt:284:25
+enum-known-token : tie.Need-enum-known-token Inv-loop μ-loop
+enum-known-token c = search needs
+
+-- src/lib.rt:285:21
+push-token-requires : tie.Need-push-token-requires Inv-loop μ-loop
+push-token-requires c κs =
+    let clear = c .before .before .before .before .before .before .before .before .before .before .before .before .before .before .before .clear in
+    let pre = c .before .before .before .before .before .before .before .before .before .before .before .before .before .before .before .before .before .before .before .before .pre in
+    let clear2 = c .before .before .before .before .before .before .before .before .before .before .before .clear2 in
+    let token = c .before .before .token in
+    let loop = c .before .before .before .before .before .before .before .before .loop in
+    let next-token = c .before .before .before .before .before .before .next-token in
+    let ts : 16384 ≤ length (clear .last .0) = omega (arith, clear .kept .0, pre) in
+    let ns : 2048 ≤ length (clear2 .last .0) = omega (arith, clear2 .kept .0, pre) in
+    let after = rw (token .given .1) at (turn ts ns (loop .inv) (next-token .result) (next-token .last .1 .0) (next-token .ensures .0) (next-token .ensures .1)) in
+    omega (arith, loop .inv .long, ts, after .place, pre)
+
+-- src/lib.rt:286:47
+too-many-requires : tie.Need-too-many-requires Inv-loop μ-loop
+too-many-requires c κs = search needs
+
+-- src/lib.rt:286:21
+same-length : tie.Need-same-length Inv-loop μ-loop
+same-length c =
+    let loop = c .before .before .before .before .before .before .before .before .before .before .before .before .before .loop in
+    let clear = c .before .before .before .before .before .before .before .before .before .before .before .before .before .before .before .before .before .before .before .before .clear in
+    let push-token = c .before .before .before .before .push-token in
+    omega (arith, loop .inv .long, clear .kept .0, push-token .kept .0)
+
+-- src/lib.rt:286:21
+same-length-2 : tie.Need-same-length-2 Inv-loop μ-loop
+same-length-2 c =
+    let loop = c .before .before .before .before .before .before .before .before .before .before .before .before .before .loop in
+    let clear2 = c .before .before .before .before .before .before .before .before .before .before .before .before .before .before .before .before .clear2 in
+    let next-token = c .before .before .before .before .before .before .before .before .before .before .before .next-token in
+    omega (arith, loop .inv .long-names, clear2 .kept .0, next-token .kept .1 .0)
+
+-- src/lib.rt:286:21
+returns : tie.Need-returns Inv-loop μ-loop
+returns c =
+    let clear = c .before .before .before .before .before .before .before .before .before .before .before .before .before .before .before .before .before .before .before .before .clear in
+    let pre = c .before .before .before .before .before .before .before .before .before .before .before .before .before .before .before .before .before .before .before .before .before .before .before .before .before .pre in
+    let clear2 = c .before .before .before .before .before .before .before .before .before .before .before .before .before .before .before .before .clear2 in
+    let token = c .before .before .before .before .before .before .before .token in
+    let loop = c .before .before .before .before .before .before .before .before .before .before .before .before .before .loop in
+    let next-token = c .before .before .before .before .before .before .before .before .before .before .before .next-token in
+    let push-token = c .before .before .before .before .push-token in
+    let if1 = c .before .if1 in
+    let too-many = c .too-many in
+    let ts : 16384 ≤ length (clear .last .0) = omega (arith, clear .kept .0, pre) in
+    let ns : 2048 ≤ length (clear2 .last .0) = omega (arith, clear2 .kept .0, pre) in
+    let after = rw (token .given .1) at (turn ts ns (loop .inv) (next-token .result) (next-token .last .1 .0) (next-token .ensures .0) (next-token .ensures .1)) in
+    let full : 4096 ≤ loop .count = ltb-false _ _ (sym (push-token .ensures .0) ∙ not-true _ (if1 .taken)) in
+    rw (after .full full, too-many .ensures) (refl, tt)
+
+-- src/lib.rt:288:17
+add-count : tie.Need-add-count Inv-loop μ-loop
+add-count c =
+    let loop = c .before .before .before .before .before .before .before .before .before .before .before .before .loop in
+    omega (arith, loop .inv .room)
+
+-- src/lib.rt:279:5
+loop-less-2 : tie.Need-loop-less-2 Inv-loop μ-loop
+loop-less-2 c =
+    let clear = c .before .before .before .before .before .before .before .before .before .before .before .before .before .before .before .before .before .before .before .clear in
+    let pre = c .before .before .before .before .before .before .before .before .before .before .before .before .before .before .before .before .before .before .before .before .before .before .before .before .pre in
+    let clear2 = c .before .before .before .before .before .before .before .before .before .before .before .before .before .before .before .clear2 in
+    let token = c .before .before .before .before .before .before .token in
+    let loop = c .before .before .before .before .before .before .before .before .before .before .before .before .loop in
+    let next-token = c .before .before .before .before .before .before .before .before .before .before .next-token in
+    let ts : 16384 ≤ length (clear .last .0) = omega (arith, clear .kept .0, pre) in
+    let ns : 2048 ≤ length (clear2 .last .0) = omega (arith, clear2 .kept .0, pre) in
+    let after = rw (token .given .1) at (turn ts ns (loop .inv) (next-token .result) (next-token .last .1 .0) (next-token .ensures .0) (next-token .ensures .1)) in
+    omega (arith, after .later, after .inside)
+
+-- src/lib.rt:279:5
+loop-again-2 : tie.Need-loop-again-2 Inv-loop μ-loop
+unfolding pushed pick
+loop-again-2 c =
+    let clear = c .before .before .before .before .before .before .before .before .before .before .before .before .before .before .before .before .before .before .before .clear in
+    let pre = c .before .before .before .before .before .before .before .before .before .before .before .before .before .before .before .before .before .before .before .before .before .before .before .before .pre in
+    let clear2 = c .before .before .before .before .before .before .before .before .before .before .before .before .before .before .before .clear2 in
+    let token = c .before .before .before .before .before .before .token in
+    let loop = c .before .before .before .before .before .before .before .before .before .before .before .before .loop in
+    let next-token = c .before .before .before .before .before .before .before .before .before .before .next-token in
+    let push-token = c .before .before .before .push-token in
+    let if1 = c .if1 in
+    let ts : 16384 ≤ length (clear .last .0) = omega (arith, clear .kept .0, pre) in
+    let ns : 2048 ≤ length (clear2 .last .0) = omega (arith, clear2 .kept .0, pre) in
+    let after = rw (token .given .1) at (turn ts ns (loop .inv) (next-token .result) (next-token .last .1 .0) (next-token .ensures .0) (next-token .ensures .1)) in
+    let room : loop .count < 4096 = ltb-true _ _ (sym (push-token .ensures .0) ∙ not-false _ (if1 .left)) in
+    let put = rw (sym (push-token .ensures .0) ∙ not-false _ (if1 .left)) at (push-token .ensures .1) in
+    after .more room _ put
+
+-- src/lib.rt:292:23
+enum-known-token-2 : tie.Need-enum-known-token-2 Inv-loop μ-loop
+enum-known-token-2 c = search needs
+
+-- src/lib.rt:293:21
+push-token-requires-2 : tie.Need-push-token-requires-2 Inv-loop μ-loop
+push-token-requires-2 c κs =
+    let clear = c .before .before .before .before .before .before .before .before .before .before .before .before .before .before .before .clear in
+    let pre = c .before .before .before .before .before .before .before .before .before .before .before .before .before .before .before .before .before .before .before .before .pre in
+    let clear2 = c .before .before .before .before .before .before .before .before .before .before .before .clear2 in
+    let token2 = c .before .before .token2 in
+    let loop = c .before .before .before .before .before .before .before .before .loop in
+    let next-token = c .before .before .before .before .before .before .next-token in
+    let ts : 16384 ≤ length (clear .last .0) = omega (arith, clear .kept .0, pre) in
+    let ns : 2048 ≤ length (clear2 .last .0) = omega (arith, clear2 .kept .0, pre) in
+    let after = rw (token2 .given .1) at (turn ts ns (loop .inv) (next-token .result) (next-token .last .1 .0) (next-token .ensures .0) (next-token .ensures .1)) in
+    omega (arith, loop .inv .long, ts, after .place, pre)
+
+-- src/lib.rt:294:47
+too-many-requires-2 : tie.Need-too-many-requires-2 Inv-loop μ-loop
+too-many-requires-2 c κs = search needs
+
+-- src/lib.rt:294:21
+same-length-3 : tie.Need-same-length-3 Inv-loop μ-loop
+same-length-3 c =
+    let loop = c .before .before .before .before .before .before .before .before .before .before .before .before .before .loop in
+    let clear = c .before .before .before .before .before .before .before .before .before .before .before .before .before .before .before .before .before .before .before .before .clear in
+    let push-token2 = c .before .before .before .before .push-token2 in
+    omega (arith, loop .inv .long, clear .kept .0, push-token2 .kept .0)
+
+-- src/lib.rt:294:21
+same-length-4 : tie.Need-same-length-4 Inv-loop μ-loop
+same-length-4 c =
+    let loop = c .before .before .before .before .before .before .before .before .before .before .before .before .before .loop in
+    let clear2 = c .before .before .before .before .before .before .before .before .before .before .before .before .before .before .before .before .clear2 in
+    let next-token = c .before .before .before .before .before .before .before .before .before .before .before .next-token in
+    omega (arith, loop .inv .long-names, clear2 .kept .0, next-token .kept .1 .0)
+
+-- src/lib.rt:294:21
+returns-2 : tie.Need-returns-2 Inv-loop μ-loop
+returns-2 c =
+    let clear = c .before .before .before .before .before .before .before .before .before .before .before .before .before .before .before .before .before .before .before .before .clear in
+    let pre = c .before .before .before .before .before .before .before .before .before .before .before .before .before .before .before .before .before .before .before .before .before .before .before .before .before .pre in
+    let clear2 = c .before .before .before .before .before .before .before .before .before .before .before .before .before .before .before .before .clear2 in
+    let token2 = c .before .before .before .before .before .before .before .token2 in
+    let loop = c .before .before .before .before .before .before .before .before .before .before .before .before .before .loop in
+    let next-token = c .before .before .before .before .before .before .before .before .before .before .before .next-token in
+    let push-token2 = c .before .before .before .before .push-token2 in
+    let if2 = c .before .if2 in
+    let too-many2 = c .too-many2 in
+    let ts : 16384 ≤ length (clear .last .0) = omega (arith, clear .kept .0, pre) in
+    let ns : 2048 ≤ length (clear2 .last .0) = omega (arith, clear2 .kept .0, pre) in
+    let after = rw (token2 .given .1) at (turn ts ns (loop .inv) (next-token .result) (next-token .last .1 .0) (next-token .ensures .0) (next-token .ensures .1)) in
+    let full : 4096 ≤ loop .count = ltb-false _ _ (sym (push-token2 .ensures .0) ∙ not-true _ (if2 .taken)) in
+    rw (after .full full, too-many2 .ensures) (refl, tt)
+
+-- src/lib.rt:296:40
+cast-t32 : tie.Need-cast-t32 Inv-loop μ-loop
+cast-t32 c =
+    let loop = c .before .before .before .before .before .before .before .before .before .before .before .before .loop in
+    omega (arith, loop .inv .room)
+
+-- src/lib.rt:296:40
+add-t33 : tie.Need-add-t33 Inv-loop μ-loop
+add-t33 c =
+    let loop = c .before .before .before .before .before .before .before .before .before .before .before .before .loop in
+    omega (arith, loop .inv .room)
+
+-- src/lib.rt:296:58
+cast-t34 : tie.Need-cast-t34 Inv-loop μ-loop
+cast-t34 c =
+    let loop = c .before .before .before .before .before .before .before .before .before .before .before .before .loop in
+    omega (arith, loop .inv .parts-room)
+
+-- src/lib.rt:296:17
+same-length-5 : tie.Need-same-length-5 Inv-loop μ-loop
+same-length-5 c =
+    let loop = c .before .before .before .before .before .before .before .before .before .before .before .before .loop in
+    let clear = c .before .before .before .before .before .before .before .before .before .before .before .before .before .before .before .before .before .before .before .clear in
+    let push-token2 = c .before .before .before .push-token2 in
+    omega (arith, loop .inv .long, clear .kept .0, push-token2 .kept .0)
+
+-- src/lib.rt:296:17
+same-length-6 : tie.Need-same-length-6 Inv-loop μ-loop
+same-length-6 c =
+    let loop = c .before .before .before .before .before .before .before .before .before .before .before .before .loop in
+    let clear2 = c .before .before .before .before .before .before .before .before .before .before .before .before .before .before .before .clear2 in
+    let next-token = c .before .before .before .before .before .before .before .before .before .before .next-token in
+    omega (arith, loop .inv .long-names, clear2 .kept .0, next-token .kept .1 .0)
+
+-- src/lib.rt:296:17
+returns-3 : tie.Need-returns-3 Inv-loop μ-loop
+unfolding pushed pick
+returns-3 c =
+    let clear = c .before .before .before .before .before .before .before .before .before .before .before .before .before .before .before .before .before .before .before .clear in
+    let pre = c .before .before .before .before .before .before .before .before .before .before .before .before .before .before .before .before .before .before .before .before .before .before .before .before .pre in
+    let clear2 = c .before .before .before .before .before .before .before .before .before .before .before .before .before .before .before .clear2 in
+    let token2 = c .before .before .before .before .before .before .token2 in
+    let loop = c .before .before .before .before .before .before .before .before .before .before .before .before .loop in
+    let next-token = c .before .before .before .before .before .before .before .before .before .before .next-token in
+    let push-token2 = c .before .before .before .push-token2 in
+    let if2 = c .if2 in
+    let ts : 16384 ≤ length (clear .last .0) = omega (arith, clear .kept .0, pre) in
+    let ns : 2048 ≤ length (clear2 .last .0) = omega (arith, clear2 .kept .0, pre) in
+    let after = rw (token2 .given .1) at (turn ts ns (loop .inv) (next-token .result) (next-token .last .1 .0) (next-token .ensures .0) (next-token .ensures .1)) in
+    let room : loop .count < 4096 = ltb-true _ _ (sym (push-token2 .ensures .0) ∙ not-false _ (if2 .left)) in
+    let put = rw (sym (push-token2 .ensures .0) ∙ not-false _ (if2 .left)) at (push-token2 .ensures .1) in
+    let end = after .done room _ put in
+    rw (end .whole, end .counted, end .names-counted) (refl, (end .held ∙ rw (clear .kept .0), end .names-held ∙ rw (clear2 .kept .0)))
+
+-- src/lib.rt:298:27
+enum-known-refusal : tie.Need-enum-known-refusal Inv-loop μ-loop
+enum-known-refusal c = search needs
+
+-- src/lib.rt:299:17
+same-length-7 : tie.Need-same-length-7 Inv-loop μ-loop
+same-length-7 c =
+    let loop = c .before .before .before .before .before .before .before .loop in
+    let clear = c .before .before .before .before .before .before .before .before .before .before .before .before .before .before .clear in
+    omega (arith, loop .inv .long, clear .kept .0)
+
+-- src/lib.rt:299:17
+same-length-8 : tie.Need-same-length-8 Inv-loop μ-loop
+same-length-8 c =
+    let loop = c .before .before .before .before .before .before .before .loop in
+    let clear2 = c .before .before .before .before .before .before .before .before .before .before .clear2 in
+    let next-token = c .before .before .before .before .before .next-token in
+    omega (arith, loop .inv .long-names, clear2 .kept .0, next-token .kept .1 .0)
+
+-- src/lib.rt:299:17
+returns-4 : tie.Need-returns-4 Inv-loop μ-loop
+returns-4 c =
+    let clear = c .before .before .before .before .before .before .before .before .before .before .before .before .before .before .clear in
+    let pre = c .before .before .before .before .before .before .before .before .before .before .before .before .before .before .before .before .before .before .before .pre in
+    let clear2 = c .before .before .before .before .before .before .before .before .before .before .clear2 in
+    let refusal = c .before .refusal in
+    let loop = c .before .before .before .before .before .before .before .loop in
+    let next-token = c .before .before .before .before .before .next-token in
+    let ts : 16384 ≤ length (clear .last .0) = omega (arith, clear .kept .0, pre) in
+    let ns : 2048 ≤ length (clear2 .last .0) = omega (arith, clear2 .kept .0, pre) in
+    let after = rw (refusal .given .1) at (turn ts ns (loop .inv) (next-token .result) (next-token .last .1 .0) (next-token .ensures .0) (next-token .ensures .1)) in
+    rw (after .0) (refl, tt)
+
+pub lex-all-spec : {M : Type 1} → statement M
+lex-all-spec =
+    tie.close
+    (tie.spec
+    Inv-loop
+    μ-loop
+    clear-requires
+    clear-requires-2
+    loop-holds
+    next-token-requires
+    enum-known-next
+    loop-less
+    loop-again
+    enum-known-token
+    push-token-requires
+    too-many-requires
+    same-length
+    same-length-2
+    returns
+    add-count
+    loop-less-2
+    loop-again-2
+    enum-known-token-2
+    push-token-requires-2
+    too-many-requires-2
+    same-length-3
+    same-length-4
+    returns-2
+    cast-t32
+    add-t33
+    cast-t34
+    same-length-5
+    same-length-6
+    returns-3
+    enum-known-refusal
+    same-length-7
+    same-length-8
+    returns-4)
