@@ -1,12 +1,13 @@
--- Bytes compared one after the other: one byte more, the end, and lists of two lengths.
-use Prim.Native.Nat.{ℕ, suc, _+_, _-_, _≤_, _<_}
-use mathlib.Core.Path.{_≡_, refl, ap}
+-- Bytes compared one after the other: one byte more, the end, and lists of two lengths. Parts by length and by ends.
+use Prim.Native.Nat.{ℕ, zero, suc, _+_, _-_, _≤_, _<_}
+use mathlib.Core.Path.{_≡_, refl, ap, _∙_}
 use mathlib.Core.List.{List, [], _∷_}
 use mathlib.Core.Bool.{Bool, true, false}
 use native.Mathlib.Omega.{arith}
 use lib.Dec.{eqb}
-use lib.ListN.{length, getD}
-use lib.Seq.{slice, slice-cons, slice-empty, length-slice}
+use native.Mathlib.Nat.{zero-add, suc-add}
+use lib.ListN.{length, getD, take, drop}
+use lib.Seq.{slice, slice-cons, slice-empty, length-slice, take-nil, drop-nil}
 use Rattle.utils.specs.Bytes.{pick, sameBytes}
 
 pub same-step : (a b : List ℕ) (i j n k : ℕ) → k < n → i + n ≤ length a → j + n ≤ length b
@@ -43,3 +44,9 @@ other-part a b i m j n ha hb h =
     let la : length (slice i (i + m) a) ≡ i + m - i = length-slice i (i + m) a ha in
     let lb : length (slice j (j + n) b) ≡ j + n - j = length-slice j (j + n) b hb in
     other-length _ _ (λ e. h (omega (arith, e, la, lb)))
+
+-- a part by its length, and by its ends
+pub part-slice : (a n : ℕ) (l : List ℕ) → take n (drop a l) ≡ slice a (a + n) l
+part-slice zero n l = rw zero-add
+part-slice (suc a) n [] = take-nil n ∙ rw (take-nil (suc a + n), drop-nil (suc a))
+part-slice (suc a) n (x ∷ l) = rw suc-add (part-slice a n l)

@@ -5,7 +5,10 @@ pub mod Compare
 pub mod Digits
 pub mod Parts
 pub mod Progress
+pub mod Promise
+pub mod Records
 pub mod Rows
 pub mod Same
 pub mod Sound
 pub mod Turns
+pub mod Values

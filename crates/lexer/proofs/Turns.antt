@@ -222,25 +222,28 @@ module _ {s : List ℕ} {first : ℕ} {t₀ n₀ t n : List ℕ} {count known : 
       → n′ ≡ sets n (known * 2) (addedBy s (v .parts) p)
       → After s first t₀ n₀ t n′ count known at (nextOf s (v .parts) known p)
   unfolding nextOf addedBy onPiece numberedFrom thenRoom pick
-  of-piece (L.Skipped c) n′ e past d =
-      (record {
-        within = past .within;
-        lines = omega (arith, v .lines, past .line-to);
-        long = v .long;
-        long-names = rw d (v .long-names);
-        turns = v .turns - 1;
-        enough = omega (arith, v .enough, past .on);
-        found = v .found;
-        counted = v .counted;
-        room = v .room;
-        held = v .held;
-        parts = v .parts;
-        parts-counted = v .parts-counted;
-        parts-room = v .parts-room;
-        parts-held = kept n′ d;
-        parts-within = v .parts-within;
-        same = rw (fewer c (past .on) (past .within)) (sym (unfolded (L.Skipped c) e));
-      }, past .on, past .within)
+  of-piece (L.Skipped c) n′ e past d = (
+    record {
+      within = past .within;
+      lines = omega (arith, v .lines, past .line-to);
+      long = v .long;
+      long-names = rw d (v .long-names);
+      turns = v .turns - 1;
+      enough = omega (arith, v .enough, past .on);
+      found = v .found;
+      counted = v .counted;
+      room = v .room;
+      held = v .held;
+      parts = v .parts;
+      parts-counted = v .parts-counted;
+      parts-room = v .parts-room;
+      parts-held = kept n′ d;
+      parts-within = v .parts-within;
+      same = rw (fewer c (past .on) (past .within)) (sym (unfolded (L.Skipped c) e));
+    },
+    past .on,
+    past .within,
+  )
   of-piece (L.Name m c) n′ e past d =
       of-name m c (identified s (v .parts) m) n′ past refl (identified-room s (v .parts) m) (unfolded (L.Name m c) e) d
   of-piece (L.Token u c) n′ e past d =

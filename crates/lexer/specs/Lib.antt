@@ -19,3 +19,5 @@ pub mod Read
 pub mod Sound
 -- what the cells hold, for callers
 pub mod Decoded
+-- texts with their whole answers: one table, one claim
+pub mod Cases

@@ -69,11 +69,26 @@ unfoldable pub readDef : List ℕ → List ℕ → List ℕ → List ℕ → Rea
 readDef text t n m =
     pick (sized (length t) (length n) (length m)) (padded t n m (readOf text)) (reading (refusal 30 0 0) t n m)
 
--- What the inner functions say: the counts, the slices where a text is accepted, and the sizes that the gate has seen.
+-- Where the answer is an enum: document 01's number, line, place and counts for each of its cases.
+abbrev pub answered : LexResult → ReadAnswer
+answered (LexResult.Done tokens names) = accepted tokens names
+answered (LexResult.Refused r) = answerOf r
+
+-- What the inner functions say: the counts; the cells; the slices where a text is accepted; the sizes that the gate has seen.
 abbrev pub resultOf : Outcome → LexResult
 resultOf (Outcome.done ts ns) = LexResult.Done (length ts) (length ns)
 resultOf (Outcome.refused r) = LexResult.Refused r
 resultOf Outcome.cut = LexResult.Done 0 0
+
+abbrev pub tokensIn : Outcome → List ℕ
+tokensIn (Outcome.done ts ns) = tokensCells ts
+tokensIn (Outcome.refused r) = []
+tokensIn Outcome.cut = []
+
+abbrev pub namesIn : Outcome → List ℕ
+namesIn (Outcome.done ts ns) = namesCells ns
+namesIn (Outcome.refused r) = []
+namesIn Outcome.cut = []
 
 abbrev pub Held : Outcome → List ℕ → List ℕ → List ℕ → List ℕ → Type 0
 Held (Outcome.done ts ns) t₀ n₀ t n = (t ≡ padTo (length t₀) (tokensCells ts)) × (n ≡ padTo (length n₀) (namesCells ns))

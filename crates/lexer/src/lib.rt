@@ -16,8 +16,7 @@ ghost use Rattle.lexer.specs.Pieces.{pieceAt};
 ghost use Rattle.lexer.specs.Numbered.{numbered, atToken};
 ghost use Rattle.lexer.specs.Steps.{partsOf, Within, nextOf, addedBy, pushed};
 ghost use Rattle.lexer.specs.Tokens.{tokenCells};
-ghost use Rattle.lexer.specs.Read.{lexedFrom, resultOf, Held, reading, padded, refused, readOf, sized, IfSized, Reads};
-ghost use Rattle.lexer.specs.Refusals.{factsOf};
+ghost use Rattle.lexer.specs.Read.{lexedFrom, resultOf, Held, tokensIn, namesIn, reading, padded, readOf, sized, IfSized, Reads};
 ghost use Rattle.lexer.specs.Decoded.{tokensOf, tokenAt, nameOf};
 
 // A name's number in the table of names.
@@ -82,7 +81,7 @@ pub enum OptionValue {
     None,
 }
 
-// The lexer's position: the next byte, and the line that it stands on.
+// The lexer's position: the next byte, and the line counted so far, which no newline in a comment adds to.
 pub struct Cursor {
     pub place: usize,
     pub line: u32,
@@ -312,7 +311,7 @@ fn too_many(token: Token) -> Refusal
 }
 
 // 31, then 1, then from left to right.
-pub fn lex_from(text: &[u8], line: u32, tokens: &mut [u32], names: &mut [u32]) -> LexResult
+fn lex_text(text: &[u8], line: u32, tokens: &mut [u32], names: &mut [u32]) -> LexResult
     requires { ⌜ (line ≤ 2147483648) × (16384 ≤ length (now tokens)) × (2048 ≤ length (now names)) ⌝ }
     ensures { λ r. ⌜ r ≡ resultOf (lexedFrom line (now (text .entry))) ⌝ }
     ensures { λ r. ⌜ Held (lexedFrom line (now (text .entry))) (now (tokens .entry)) (now (names .entry)) (now (tokens .exit)) (now (names .exit)) ⌝ }
@@ -324,6 +323,23 @@ pub fn lex_from(text: &[u8], line: u32, tokens: &mut [u32], names: &mut [u32]) -
         return LexResult::Refused(Refusal::NotAscii(line));
     }
     lex_all(text, line, tokens, names)
+}
+
+// The tokens and names of a text whose first line has this number. A refusal leaves both slices zero.
+pub fn lex_from(text: &[u8], line: u32, tokens: &mut [u32], names: &mut [u32]) -> LexResult
+    requires { ⌜ (line ≤ 2147483648) × (16384 ≤ length (now tokens)) × (2048 ≤ length (now names)) ⌝ }
+    ensures { λ r. ⌜ r ≡ resultOf (lexedFrom line (now (text .entry))) ⌝ }
+    ensures { λ r. ⌜ now (tokens .exit) ≡ padTo (length (now (tokens .entry))) (tokensIn (lexedFrom line (now (text .entry)))) ⌝ }
+    ensures { λ r. ⌜ now (names .exit) ≡ padTo (length (now (names .entry))) (namesIn (lexedFrom line (now (text .entry)))) ⌝ }
+{
+    match lex_text(text, line, tokens, names) {
+        LexResult::Done(count, known) => LexResult::Done(count, known),
+        LexResult::Refused(refusal) => {
+            utils::clear(tokens);
+            utils::clear(names);
+            LexResult::Refused(refusal)
+        }
+    }
 }
 
 // Whether slices of these lengths have their sizes.
@@ -342,24 +358,16 @@ fn fits(tokens: usize, names: usize, message: usize) -> bool
     true
 }
 
-// A refusal's message, and all else zero.
-fn refuse(tokens: &mut [u32], names: &mut [u32], message: &mut [u8], refusal: Refusal) -> ReadAnswer
-    requires { ⌜ (512 ≤ length (now message)) × (factsOf refusal .place < 4294967296) ⌝ }
-    ensures { λ r. ⌜ reading r (now (tokens .exit)) (now (names .exit)) (now (message .exit)) ≡ padded (now (tokens .entry)) (now (names .entry)) (now (message .entry)) (refused refusal) ⌝ }
-{
-    utils::clear(tokens);
-    utils::clear(names);
-    report::report(message, refusal);
-    report::answer_of(refusal)
-}
-
 // Slices that have their sizes.
 fn read_sized(text: &[u8], tokens: &mut [u32], names: &mut [u32], message: &mut [u8]) -> ReadAnswer
     requires { ⌜ (16384 ≤ length (now tokens)) × (2048 ≤ length (now names)) × (512 ≤ length (now message)) ⌝ }
     ensures { λ r. ⌜ reading r (now (tokens .exit)) (now (names .exit)) (now (message .exit)) ≡ padded (now (tokens .entry)) (now (names .entry)) (now (message .entry)) (readOf (now (text .entry))) ⌝ }
 {
     match lex_from(text, 1, tokens, names) {
-        LexResult::Refused(refusal) => refuse(tokens, names, message, refusal),
+        LexResult::Refused(refusal) => {
+            report::report(message, refusal);
+            report::answer_of(refusal)
+        }
         LexResult::Done(count, known) => {
             utils::clear_bytes(message);
             ReadAnswer {

@@ -10,6 +10,7 @@ use lib.ListN.{length, drop, take, getD}
 use lib.Seq.{drop-cons}
 use denote.Ref.{now}
 use borrow.Author.Needs.{needs}
+use Rattle.lexer.proofs.Compare.{part-slice}
 use Rattle.lexer.specs.Decoded.{nameOf}
 use Rattle.utils.specs.Bytes.{pick}
 use Rattle.lexer.proofs.get_name.Statement.{statement}
@@ -61,7 +62,11 @@ returns c =
     let cell-at = c .before .before .before .cell-at in
     let cell-at2 = c .before .before .cell-at2 in
     let if1 = c .before .if1 in
-    rw (← cell-at .ensures .0, ← cell-at2 .ensures .0, le-leb _ _ (if1 .taken))
+    let a = c .before .before .before .before .before .before .before .args in
+    let place = cell-at .result in
+    let len = cell-at2 .result in
+    let e : place + len - place ≡ len = omega arith in
+    rw (← cell-at .ensures .0, ← cell-at2 .ensures .0, le-leb _ _ (if1 .taken), e) (part-slice place len (now (a .text)))
 
 -- src/lib.rt:429:5
 sub-result-2 : tie.Need-sub-result-2

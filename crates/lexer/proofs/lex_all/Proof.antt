@@ -11,6 +11,7 @@ use lib.ListN.{length, drop, take, getD}
 use lib.Seq.{drop-cons}
 use denote.Ref.{now}
 use borrow.Author.Tests.{ltb-true, ltb-false, not-true, not-false}
+use Rattle.lexer.specs.Numbered.{tokensCells, namesCells}
 use Rattle.lexer.specs.Numbered.{Outcome}
 use Rattle.utils.specs.Bytes.{padTo}
 use Rattle.lexer.specs.Read.{resultOf, Held}
@@ -295,7 +296,7 @@ returns-3 c =
     let room : loop .count < 4096 = ltb-true _ _ (sym (push-token2 .ensures .0) ∙ not-false _ (if2 .left)) in
     let put = rw (sym (push-token2 .ensures .0) ∙ not-false _ (if2 .left)) at (push-token2 .ensures .1) in
     let end = after .done room _ put in
-    rw (end .whole, end .counted, end .names-counted) (refl, (end .held ∙ rw (clear .kept .0), end .names-held ∙ rw (clear2 .kept .0)))
+    rw (end .whole, end .counted, end .names-counted) (refl, (end .held ∙ ap (λ (m : ℕ). padTo m (tokensCells (end .tokens))) (clear .kept .0), end .names-held ∙ ap (λ (m : ℕ). padTo m (namesCells (end .names))) (clear2 .kept .0)))
 
 -- src/lib.rt:298:27
 enum-known-refusal : tie.Need-enum-known-refusal Inv-loop μ-loop

@@ -10,6 +10,9 @@ use lib.ListN.{length, drop, take, getD}
 use lib.Seq.{drop-cons}
 use denote.Ref.{now}
 use borrow.Author.Needs.{needs}
+use Rattle.lexer.proofs.Records.{tokens-count, token-record}
+use Rattle.lexer.specs.Decoded.{tokenAt}
+use Rattle.utils.specs.Bytes.{pick}
 use Rattle.lexer.proofs.token_at.Statement.{statement}
 use Rattle.lexer.proofs.token_at.Tie as tie
 use Rattle.lexer.proofs.token_at.Reads as reads
@@ -65,11 +68,12 @@ shared-slice-read-place-2 c = search needs
 
 -- src/lib.rt:394:13
 returns : tie.Need-returns
+unfolding tokenAt pick
 returns c =
-    let a = c .before .before .before .before .before .before .args in
     let if1 = c .before .before .before .before .before .if1 in
+    let a = c .before .before .before .before .before .before .args in
     let if2 = c .if2 in
-    ?returns
+    simp (tokens-count, lt-ltb _ _ (if1 .taken), token-record (now (a .tokens)) (a .at) (if1 .taken), eq-eqb _ _ (if2 .taken))
 
 -- src/lib.rt:407:19
 add-t11 : tie.Need-add-t11
@@ -77,18 +81,19 @@ add-t11 c = search needs
 
 -- src/lib.rt:402:9
 returns-2 : tie.Need-returns-2
+unfolding tokenAt pick
 returns-2 c =
-    let a = c .before .before .before .before .before .before .args in
     let if1 = c .before .before .before .before .before .if1 in
+    let a = c .before .before .before .before .before .before .args in
     let if2 = c .if2 in
-    ?returns-2
+    simp (tokens-count, lt-ltb _ _ (if1 .taken), token-record (now (a .tokens)) (a .at) (if1 .taken), ne-eqb _ _ (if2 .left))
 
 -- src/lib.rt:384:1
 returns-3 : tie.Need-returns-3
+unfolding tokenAt pick
 returns-3 c =
-    let a = c .before .args in
     let if1 = c .if1 in
-    ?returns-3
+    simp (tokens-count, le-ltb _ _ (if1 .left))
 
 pub token-at-spec : {M : Type 1} → statement M
 token-at-spec =
