@@ -7,14 +7,14 @@ use mathlib.Core.List.{List}
 use native.Mathlib.Omega.{arith}
 use lib.ListN.{length}
 use Rattle.utils.specs.Bytes.{pick, padTo}
-use Rattle.lexer.specs.Refusals.{factsOf}
+use Rattle.pieces.specs.Refusals.{factsOf}
 use Rattle.lexer.specs.Numbered.{Part, Outcome, tokensCells, namesCells}
 use Rattle.lexer.specs.Read.{reading, refusal, lexedFrom, readingOf, readOf, sized, padded, readDef, resultOf}
 use Rattle.lexer.specs.Read.{Reads}
 use Rattle.lexer.specs.Sound.{Sound}
-use Rattle.lexer.specs.declared.Token.{Token}
-use Rattle.lexer.specs.declared.Refusal.{Refusal}
-use Rattle.lexer.specs.declared.Refusal.the-variants as R
+use Rattle.pieces.specs.declared.Token.{Token}
+use Rattle.pieces.specs.declared.Refusal.{Refusal}
+use Rattle.pieces.specs.declared.Refusal.the-variants as R
 use Rattle.lexer.specs.declared.LexResult.the-variants as X
 use Rattle.lexer.specs.declared.ReadAnswer.{ReadAnswer}
 use Rattle.lexer.proofs.Sound.{read-sound, never-cut}

@@ -9,12 +9,12 @@ use lib.Dec.{eqb}
 use lib.ListN.{length, getD, take, replicate, length-append, List·getD-append}
 use lib.Seq.{take-at}
 use Rattle.utils.specs.Bytes.{pick, padTo}
-use Rattle.lexer.specs.Tokens.{kindOf, carried}
+use Rattle.pieces.specs.Tokens.{kindOf, carried}
 use Rattle.lexer.specs.Numbered.{Part, tokensCells, namesCells}
 use Rattle.lexer.specs.Steps.{partsOf}
 use Rattle.lexer.specs.Decoded.{Tok, tok, past, tokensOf, withNext, tokenAt, nameOf}
 use Rattle.lexer.specs.Sound.{Each, noToken, noPart, spelling, InText, Sound}
-use Rattle.lexer.specs.declared.Token.{Token}
+use Rattle.pieces.specs.declared.Token.{Token}
 use Rattle.lexer.proofs.Sound.{end-last, end-only-last}
 
 -- The tokens' cells. ------------------------------------------------------------------------------------------------

@@ -1,14 +1,8 @@
 pub mod Accepted
-pub mod Capping
 pub mod Cells
-pub mod Compare
-pub mod Digits
 pub mod Parts
-pub mod Progress
 pub mod Promise
 pub mod Records
-pub mod Rows
 pub mod Same
 pub mod Sound
 pub mod Turns
-pub mod Values

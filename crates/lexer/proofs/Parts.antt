@@ -5,10 +5,10 @@ use mathlib.Core.List.{List, [], _∷_, _++_}
 use native.Mathlib.Omega.{arith}
 use lib.ListN.{length, take, drop, getD}
 use lib.Seq.{drop-cons, getD-take, length-take-le}
-use Rattle.lexer.specs.Tokens.{tokenCells}
+use Rattle.pieces.specs.Tokens.{tokenCells}
 use Rattle.lexer.specs.Numbered.{Part, part, tokensCells, namesCells}
 use Rattle.lexer.specs.Steps.{partsOf, Within}
-use Rattle.lexer.specs.declared.Token.{Token}
+use Rattle.pieces.specs.declared.Token.{Token}
 
 pub parts-step : (ns : List ℕ) (k count : ℕ) → k < count → count * 2 ≤ length ns
     → partsOf (drop (k * 2) (take (count * 2) ns))

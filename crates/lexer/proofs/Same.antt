@@ -14,7 +14,7 @@ use Rattle.lexer.specs.Numbered.{Part, spellings, indexOf}
 use Rattle.lexer.specs.Sound.{Each, Pairs, noPart, spelling}
 use Rattle.lexer.specs.declared.Found.{Found}
 use Rattle.lexer.specs.declared.Found.the-variants as F
-use Rattle.lexer.proofs.Progress.{pick-either}
+use Rattle.pieces.proofs.Progress.{pick-either}
 
 -- Bytes that are the same. ------------------------------------------------------------------------------------------
 

@@ -10,27 +10,27 @@ use lib.Dec.{ltb}
 use lib.ListN.{length, getD, length-append, List·getD-append}
 use lib.Seq.{getD-at, length-slice}
 use Rattle.utils.specs.Bytes.{pick}
-use Rattle.lexer.specs.Classes.{isAscii}
-use Rattle.lexer.specs.Tokens.{kindOf, carried, valueOf}
-use Rattle.lexer.specs.Refusals.{factsOf}
-use Rattle.lexer.specs.Pieces.{token, pieceAt, onPiece, piecesFrom}
+use Rattle.pieces.specs.Classes.{isAscii}
+use Rattle.pieces.specs.Tokens.{kindOf, carried, valueOf}
+use Rattle.pieces.specs.Refusals.{factsOf}
+use Rattle.pieces.specs.Pieces.{token, pieceAt, onPiece, piecesFrom}
 use Rattle.lexer.specs.Numbered.{Part, part, spellings, spellingOf, indexOf, onFound, identified, named, Outcome}
 use Rattle.lexer.specs.Numbered.{thenIdentified, thenRoom, numberedFrom, numbered}
 use Rattle.lexer.specs.Read.{lexedFrom}
 use Rattle.lexer.specs.Sound.{Each, Pairs, noToken, noPart, spelling, Sound, SoundRefusal}
 use Rattle.lexer.specs.Sound.{HasNumber, HasSpelling, InRange, Rises, InText, Differ}
-use Rattle.lexer.specs.declared.Cursor.{Cursor}
-use Rattle.lexer.specs.declared.Token.{Token}
-use Rattle.lexer.specs.declared.TokenValue.the-variants as T
-use Rattle.lexer.specs.declared.Name.{Name}
+use Rattle.pieces.specs.declared.Cursor.{Cursor}
+use Rattle.pieces.specs.declared.Token.{Token}
+use Rattle.pieces.specs.declared.TokenValue.the-variants as T
+use Rattle.pieces.specs.declared.Name.{Name}
 use Rattle.lexer.specs.declared.Found.{Found}
 use Rattle.lexer.specs.declared.Found.the-variants as F
 use Rattle.lexer.specs.declared.Identified.{Identified}
 use Rattle.lexer.specs.declared.Identified.the-variants as I
-use Rattle.lexer.specs.declared.Refusal.{Refusal}
-use Rattle.lexer.specs.declared.Lexed.{Lexed}
-use Rattle.lexer.specs.declared.Lexed.the-variants as L
-use Rattle.lexer.proofs.Progress.{pick-either, SkippedPast, NamePast, EndPast, Past, piece-past}
+use Rattle.pieces.specs.declared.Refusal.{Refusal}
+use Rattle.pieces.specs.declared.Lexed.{Lexed}
+use Rattle.pieces.specs.declared.Lexed.the-variants as L
+use Rattle.pieces.proofs.Progress.{pick-either, SkippedPast, NamePast, EndPast, Past, piece-past}
 use Rattle.lexer.proofs.Same.{length-spellings, spelling-at, FoundIn, index-of-found, each-snoc, pairs-snoc}
 
 -- A name's number. --------------------------------------------------------------------------------------------------

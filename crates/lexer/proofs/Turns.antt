@@ -11,27 +11,27 @@ use lib.ListN.{length, take, replicate, length-append, length-replicate}
 use lib.Seq.{sets, length-sets, take-at}
 use Rattle.utils.specs.Bytes.{pick, padTo}
 use Rattle.utils.proofs.Runs.{sets-pad}
-use Rattle.lexer.specs.Tokens.{tokenCells, kindOf}
-use Rattle.lexer.specs.Refusals.{factsOf}
-use Rattle.lexer.specs.Pieces.{Pieces, token, pieceAt, onPiece, piecesFrom}
+use Rattle.pieces.specs.Tokens.{tokenCells, kindOf}
+use Rattle.pieces.specs.Refusals.{factsOf}
+use Rattle.pieces.specs.Pieces.{Pieces, token, pieceAt, onPiece, piecesFrom}
 use Rattle.lexer.specs.Numbered.{Part, part, Outcome, identified, onFound, indexOf, spellings, spellingOf, named, atToken, thenIdentified, thenRoom}
 use Rattle.lexer.specs.Numbered.{numberedFrom, numbered, tokensCells, namesCells}
 use Rattle.lexer.specs.Steps.{partsOf, Within, newCells, nextName, nextOf, addedBy}
 use Rattle.lexer.proofs.Parts.{tokens-cells-snoc, names-cells-snoc, within-snoc}
 use Rattle.lexer.proofs.Cells.{length-tokens-cells, length-names-cells, cells-parts-padded}
-use Rattle.lexer.proofs.Progress.{Past, piece-past, pick-either}
-use Rattle.lexer.specs.declared.Cursor.{Cursor}
-use Rattle.lexer.specs.declared.Name.{Name}
-use Rattle.lexer.specs.declared.Token.{Token}
-use Rattle.lexer.specs.declared.TokenValue.the-variants as T
+use Rattle.pieces.proofs.Progress.{Past, piece-past, pick-either}
+use Rattle.pieces.specs.declared.Cursor.{Cursor}
+use Rattle.pieces.specs.declared.Name.{Name}
+use Rattle.pieces.specs.declared.Token.{Token}
+use Rattle.pieces.specs.declared.TokenValue.the-variants as T
 use Rattle.lexer.specs.declared.Found.{Found}
 use Rattle.lexer.specs.declared.Found.the-variants as F
 use Rattle.lexer.specs.declared.Identified.{Identified}
 use Rattle.lexer.specs.declared.Identified.the-variants as I
-use Rattle.lexer.specs.declared.Refusal.{Refusal}
-use Rattle.lexer.specs.declared.Refusal.the-variants as R
-use Rattle.lexer.specs.declared.Lexed.{Lexed}
-use Rattle.lexer.specs.declared.Lexed.the-variants as L
+use Rattle.pieces.specs.declared.Refusal.{Refusal}
+use Rattle.pieces.specs.declared.Refusal.the-variants as R
+use Rattle.pieces.specs.declared.Lexed.{Lexed}
+use Rattle.pieces.specs.declared.Lexed.the-variants as L
 use Rattle.lexer.specs.declared.Next.{Next}
 use Rattle.lexer.specs.declared.Next.the-variants as N
 

@@ -8,16 +8,16 @@ use mathlib.Core.Bool.{Bool, true, false}
 use lib.ListN.{length, replicate}
 use Rattle.utils.specs.Bytes.{pick, bytes, sameBytes}
 use Rattle.utils.specs.Message.{digits, reported}
-use Rattle.lexer.specs.Classes.{isBlank, isDigit, isLetter, isNamePart, isAscii}
-use Rattle.lexer.specs.Tokens.{valueOf, words, wordIn, symbol}
-use Rattle.lexer.specs.Pieces.{cursor, token, lineEnd, closes, starAfter, commentEnd, digitsFrom, nameEnd}
-use Rattle.lexer.specs.Pieces.{slashAt, digitAt, minusAt, nameAt, sigilAt, thenValue, wordAt, symbolAt, tokenFrom}
-use Rattle.lexer.specs.Pieces.{pieceAt, onPiece, piecesFrom, pieces}
+use Rattle.pieces.specs.Classes.{isBlank, isDigit, isLetter, isNamePart, isAscii}
+use Rattle.pieces.specs.Tokens.{valueOf, words, wordIn, symbol}
+use Rattle.pieces.specs.Pieces.{cursor, token, lineEnd, closes, starAfter, commentEnd, digitsFrom, nameEnd}
+use Rattle.pieces.specs.Pieces.{slashAt, digitAt, minusAt, nameAt, sigilAt, thenValue, wordAt, symbolAt, tokenFrom}
+use Rattle.pieces.specs.Pieces.{pieceAt, onPiece, piecesFrom, pieces}
 use Rattle.lexer.specs.Numbered.{part, spellings, indexOf, identified, thenIdentified, thenRoom, numberedFrom}
 use Rattle.lexer.specs.Numbered.{numbered, tokensCells, namesCells}
 use Rattle.lexer.specs.Read.{Reading, refused, lexedFrom, readingOf, readOf, sized, readDef}
-use Rattle.lexer.specs.declared.TokenValue.the-variants as T
-use Rattle.lexer.specs.declared.Refusal.the-variants as R
+use Rattle.pieces.specs.declared.TokenValue.the-variants as T
+use Rattle.pieces.specs.declared.Refusal.the-variants as R
 
 -- To unfold this is to unfold the whole definition.
 unfoldable pub opened : ℕ

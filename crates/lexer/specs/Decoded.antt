@@ -6,7 +6,7 @@ use lib.Dec.{ltb, leb, eqb}
 use lib.ListN.{length, getD}
 use lib.Seq.{slice}
 use Rattle.utils.specs.Bytes.{pick}
-use Rattle.lexer.specs.declared.Location.{Location}
+use Rattle.pieces.specs.declared.Location.{Location}
 use Rattle.lexer.specs.declared.TokenAt.{TokenAt}
 
 -- a token as its four cells hold it

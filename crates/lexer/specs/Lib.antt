@@ -1,14 +1,4 @@
--- What reading a text means, in reading order.
--- the classes of bytes
-pub mod Classes
--- token values, their kinds, the words and the one-byte tokens
-pub mod Tokens
--- a refusal's number, line, place and text
-pub mod Refusals
--- one piece of a text, and all of them
-pub mod Pieces
--- what the code keeps of a number too large
-pub mod Capped
+-- What reading a text means, in reading order. The pieces of a text are those of the crate pieces.
 -- names numbered, limits applied
 pub mod Numbered
 -- one turn of the reader

@@ -6,19 +6,19 @@ use lib.Dec.{ltb, leb}
 use lib.ListN.{length}
 use lib.Seq.{slice}
 use Rattle.utils.specs.Bytes.{pick, sameBytes}
-use Rattle.lexer.specs.Tokens.{valueOf, tokenCells}
-use Rattle.lexer.specs.Pieces.{Pieces, cursor, token, pieces}
-use Rattle.lexer.specs.declared.Cursor.{Cursor}
-use Rattle.lexer.specs.declared.Identifier.{Identifier}
-use Rattle.lexer.specs.declared.Token.{Token}
-use Rattle.lexer.specs.declared.TokenValue.the-variants as T
-use Rattle.lexer.specs.declared.Name.{Name}
+use Rattle.pieces.specs.Tokens.{valueOf, tokenCells}
+use Rattle.pieces.specs.Pieces.{Pieces, cursor, token, pieces}
+use Rattle.pieces.specs.declared.Cursor.{Cursor}
+use Rattle.pieces.specs.declared.Identifier.{Identifier}
+use Rattle.pieces.specs.declared.Token.{Token}
+use Rattle.pieces.specs.declared.TokenValue.the-variants as T
+use Rattle.pieces.specs.declared.Name.{Name}
 use Rattle.lexer.specs.declared.Found.{Found}
 use Rattle.lexer.specs.declared.Found.the-variants as F
 use Rattle.lexer.specs.declared.Identified.{Identified}
 use Rattle.lexer.specs.declared.Identified.the-variants as I
-use Rattle.lexer.specs.declared.Refusal.{Refusal}
-use Rattle.lexer.specs.declared.Refusal.the-variants as R
+use Rattle.pieces.specs.declared.Refusal.{Refusal}
+use Rattle.pieces.specs.declared.Refusal.the-variants as R
 
 -- A name of the table: the place of its first appearance, and its length.
 pub record Part : Type 0 where

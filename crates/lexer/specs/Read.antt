@@ -6,11 +6,11 @@ use mathlib.Core.Bool.{Bool, true, false}
 use lib.Dec.{ltb}
 use lib.ListN.{length}
 use Rattle.utils.specs.Bytes.{pick, padTo}
-use Rattle.lexer.specs.Classes.{isAscii}
-use Rattle.lexer.specs.Refusals.{factsOf, messageOf}
+use Rattle.pieces.specs.Classes.{isAscii}
+use Rattle.pieces.specs.Refusals.{factsOf, messageOf}
 use Rattle.lexer.specs.Numbered.{Outcome, numbered, tokensCells, namesCells}
-use Rattle.lexer.specs.declared.Refusal.{Refusal}
-use Rattle.lexer.specs.declared.Refusal.the-variants as R
+use Rattle.pieces.specs.declared.Refusal.{Refusal}
+use Rattle.pieces.specs.declared.Refusal.the-variants as R
 use Rattle.lexer.specs.declared.LexResult.{LexResult}
 use Rattle.lexer.specs.declared.ReadAnswer.{ReadAnswer}
 

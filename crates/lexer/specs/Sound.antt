@@ -6,14 +6,14 @@ use mathlib.Core.List.{List, [], _∷_, _++_}
 use mathlib.Core.Bool.{true}
 use lib.ListN.{length, getD}
 use lib.Seq.{slice}
-use Rattle.lexer.specs.Classes.{isAscii}
-use Rattle.lexer.specs.Tokens.{kindOf, carried}
-use Rattle.lexer.specs.Refusals.{factsOf}
-use Rattle.lexer.specs.Pieces.{token}
+use Rattle.pieces.specs.Classes.{isAscii}
+use Rattle.pieces.specs.Tokens.{kindOf, carried}
+use Rattle.pieces.specs.Refusals.{factsOf}
+use Rattle.pieces.specs.Pieces.{token}
 use Rattle.lexer.specs.Numbered.{Part, part}
-use Rattle.lexer.specs.declared.Token.{Token}
-use Rattle.lexer.specs.declared.TokenValue.the-variants as T
-use Rattle.lexer.specs.declared.Refusal.{Refusal}
+use Rattle.pieces.specs.declared.Token.{Token}
+use Rattle.pieces.specs.declared.TokenValue.the-variants as T
+use Rattle.pieces.specs.declared.Refusal.{Refusal}
 
 -- Every element of a list, and every two of them in their order; d is what `getD` reads past the end.
 abbrev pub Each : {A : Type 0} → A → (A → Type 0) → List A → Type 0

@@ -6,17 +6,17 @@ use lib.Dec.{ltb}
 use lib.ListN.{length}
 use lib.Seq.{sets}
 use Rattle.utils.specs.Bytes.{pick}
-use Rattle.lexer.specs.Tokens.{tokenCells}
-use Rattle.lexer.specs.Pieces.{token}
+use Rattle.pieces.specs.Tokens.{tokenCells}
+use Rattle.pieces.specs.Pieces.{token}
 use Rattle.lexer.specs.Numbered.{Part, part, identified, named}
-use Rattle.lexer.specs.declared.Cursor.{Cursor}
-use Rattle.lexer.specs.declared.Token.{Token}
-use Rattle.lexer.specs.declared.TokenValue.the-variants as T
-use Rattle.lexer.specs.declared.Name.{Name}
+use Rattle.pieces.specs.declared.Cursor.{Cursor}
+use Rattle.pieces.specs.declared.Token.{Token}
+use Rattle.pieces.specs.declared.TokenValue.the-variants as T
+use Rattle.pieces.specs.declared.Name.{Name}
 use Rattle.lexer.specs.declared.Identified.{Identified}
 use Rattle.lexer.specs.declared.Identified.the-variants as I
-use Rattle.lexer.specs.declared.Lexed.{Lexed}
-use Rattle.lexer.specs.declared.Lexed.the-variants as L
+use Rattle.pieces.specs.declared.Lexed.{Lexed}
+use Rattle.pieces.specs.declared.Lexed.the-variants as L
 use Rattle.lexer.specs.declared.Next.{Next}
 use Rattle.lexer.specs.declared.Next.the-variants as N
 

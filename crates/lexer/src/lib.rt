@@ -1,9 +1,6 @@
 // Text to tokens and names, from bril-lib/src/lexer.rs.
-mod lex;
 mod names;
 mod report;
-mod scan;
-mod tokens;
 
 ghost use mathlib.Core.Path.{_≡_};
 ghost use mathlib.Core.List.{[]};
@@ -12,130 +9,24 @@ ghost use lib.Dec.{ltb};
 ghost use lib.ListN.{length, take, getD};
 ghost use lib.Seq.{sets};
 ghost use Rattle.utils.specs.Bytes.{pick, padTo};
-ghost use Rattle.lexer.specs.Pieces.{pieceAt};
-ghost use Rattle.lexer.specs.Numbered.{numbered, atToken};
-ghost use Rattle.lexer.specs.Steps.{partsOf, Within, nextOf, addedBy, pushed};
-ghost use Rattle.lexer.specs.Tokens.{tokenCells};
+ghost use Rattle.pieces.specs.Pieces.{pieceAt};
+ghost use Rattle.lexer.specs.Numbered.{identified, numbered, atToken};
+ghost use Rattle.lexer.specs.Steps.{partsOf, Within, newCells, nextName, nextOf, addedBy, pushed};
+ghost use Rattle.pieces.specs.Tokens.{tokenCells};
 ghost use Rattle.lexer.specs.Read.{lexedFrom, resultOf, Held, tokensIn, namesIn, reading, padded, readOf, sized, IfSized, Reads};
 ghost use Rattle.lexer.specs.Decoded.{tokensOf, tokenAt, nameOf};
+use pieces::Cursor;
+use pieces::Identifier;
+use pieces::Lexed;
+use pieces::Location;
+use pieces::Name;
+use pieces::Refusal;
+use pieces::Token;
+use pieces::TokenValue;
+use pieces::scan;
+use pieces::tokens;
 
-// A name's number in the table of names.
-pub struct Identifier(pub u32);
-
-// A line.
-pub struct Location(pub u32);
-
-pub enum TokenValue {
-    Local(Identifier),
-    Global(Identifier),
-    Label(Identifier),
-    Integer(u32),
-    Add,
-    Mul,
-    Sub,
-    Div,
-    Mod,
-    True,
-    False,
-    Equal,
-    LessThan,
-    GreaterThan,
-    LessThanOrEq,
-    GreaterThanOrEq,
-    Not,
-    And,
-    Or,
-    Jump,
-    Branch,
-    Call,
-    Return,
-    Define,
-    LeftParen,
-    RightParen,
-    LeftBrace,
-    RightBrace,
-    Colon,
-    Semicolon,
-    Comma,
-    Int,
-    Bool,
-    Const,
-    Print,
-    Nop,
-    Identity,
-    EndOfFile,
-}
-
-// A value's kind, and what it carries: a name's number, an integer's bits, or 0.
-pub struct Kinded(pub u32, pub u32);
-
-pub struct Token {
-    pub value: TokenValue,
-    pub line: Location,
-    pub place: usize,
-}
-
-// A value, or none: the Rust's Option<TokenValue>.
-pub enum OptionValue {
-    Some(TokenValue),
-    None,
-}
-
-// The lexer's position: the next byte, and the line counted so far, which no newline in a comment adds to.
-pub struct Cursor {
-    pub place: usize,
-    pub line: u32,
-}
-
-// A name that has no number yet. Its kind is 1 for a local, 2 for a global, 3 for a label.
-pub struct Name {
-    pub kind: u32,
-    pub place: usize,
-    pub len: usize,
-    pub line: Location,
-}
-
-// Why a text is refused. `factsOf` gives document 01's number, line, place and text for each.
-pub enum Refusal {
-    // 1. The line is the text's first.
-    NotAscii(u32),
-    // 2, at the comment's first byte.
-    CommentNotClosed(Cursor),
-    // 3, with the byte.
-    UnexpectedByte(u8, Cursor),
-    // 4, at the minus.
-    NumberExpected(Cursor),
-    // 31
-    TooManyBytes,
-    // 32, at the token one too many.
-    TooManyTokens(Cursor),
-    // 33 and 34, at the name's first byte.
-    TooManyNames(Cursor),
-    NameTooLong(Cursor),
-}
-
-// What stands at a cursor, and the cursor after it.
-pub enum Lexed {
-    // A blank, a comment, or a number that is dropped.
-    Skipped(Cursor),
-    Name(Name, Cursor),
-    Token(Token, Cursor),
-    End(Cursor),
-    Refused(Refusal),
-}
-
-// A number's value, which counts no higher than 2147483649, and the place after it.
-pub struct Number {
-    pub value: u64,
-    pub end: usize,
-}
-
-// The place after a comment's closing, or no closing.
-pub enum Comment {
-    Closed(usize),
-    Open,
-}
-
+// A name's number, or none: the Rust's Option<Identifier>.
 pub enum Found {
     At(Identifier),
     Nothing,
@@ -182,42 +73,30 @@ pub struct TokenAt {
     pub next: usize,
 }
 
-impl Cursor {
-    // One piece of the text, and the cursor after it.
-    pub fn lex(self, text: &[u8]) -> Lexed
-        requires { ⌜ self .line < 4294967295 ⌝ }
-        ensures { λ r. ⌜ r ≡ pieceAt (now (text .entry)) (self .place) (self .line) ⌝ }
-    {
-        let at = self.place;
-        let line = self.line;
-        if text.len() <= at {
-            return Lexed::End(self);
+// A name with its number in the table.
+fn number_name(text: &[u8], names: &mut [u32], count: usize, name: Name, next: Cursor) -> Next
+    requires { ⌜ (count ≤ 1024) × (2048 ≤ length (now names)) × (name .place + name .len ≤ length (now text)) × (length (now text) < 4294967296) ⌝ }
+    requires { ⌜ Within (length (now text)) (partsOf (take (count * 2) (now names))) ⌝ }
+    ensures { λ r. ⌜ r ≡ nextName count name next (identified (now (text .entry)) (partsOf (take (count * 2) (now (names .entry)))) name) ⌝ }
+    ensures { λ r. ⌜ now (names .exit) ≡ sets (now (names .entry)) (count * 2) (newCells name (identified (now (text .entry)) (partsOf (take (count * 2) (now (names .entry)))) name)) ⌝ }
+{
+    let kind = name.kind;
+    let line = name.line;
+    let place = name.place;
+    match names::get_identifier(text, names, count, name) {
+        Identified::Known(i) => {
+            let value = tokens::value_of(kind, i.0);
+            Next::Token(Token { value, line, place }, next, count)
         }
-        let b = text[at];
-        if b == 10 {
-            return Lexed::Skipped(Cursor {
-                place: at + 1,
-                line: line + 1,
-            });
+        Identified::New(i) => {
+            let value = tokens::value_of(kind, i.0);
+            Next::Token(Token { value, line, place }, next, count + 1)
         }
-        if scan::is_blank(b) {
-            return Lexed::Skipped(Cursor {
-                place: at + 1,
-                line,
-            });
-        }
-        if b == 35 {
-            let place = scan::line_end(text, at + 1);
-            return Lexed::Skipped(Cursor { place, line });
-        }
-        if b == 47 {
-            return lex::lex_slash(text, at, line);
-        }
-        lex::lex_token(text, at, line)
+        Identified::Refused(refusal) => Next::Refused(refusal),
     }
 }
 
-// A piece, and its name in the table.
+// A piece, with its name numbered.
 fn next_token(text: &[u8], names: &mut [u32], count: usize, at: Cursor) -> Next
     requires { ⌜ (at .place ≤ length (now text)) × (at .line < 4294967295) × (count ≤ 1024) × (2048 ≤ length (now names)) × (length (now text) < 4294967296) ⌝ }
     requires { ⌜ Within (length (now text)) (partsOf (take (count * 2) (now names))) ⌝ }
@@ -227,22 +106,7 @@ fn next_token(text: &[u8], names: &mut [u32], count: usize, at: Cursor) -> Next
     match at.lex(text) {
         Lexed::Skipped(next) => Next::Skipped(next),
         Lexed::Token(token, next) => Next::Token(token, next, count),
-        Lexed::Name(name, next) => {
-            let kind = name.kind;
-            let line = name.line;
-            let place = name.place;
-            match names::get_identifier(text, names, count, name) {
-                Identified::Known(i) => {
-                    let value = tokens::value_of(kind, i.0);
-                    Next::Token(Token { value, line, place }, next, count)
-                }
-                Identified::New(i) => {
-                    let value = tokens::value_of(kind, i.0);
-                    Next::Token(Token { value, line, place }, next, count + 1)
-                }
-                Identified::Refused(refusal) => Next::Refused(refusal),
-            }
-        }
+        Lexed::Name(name, next) => number_name(text, names, count, name, next),
         Lexed::End(end) => Next::End(Token {
             value: TokenValue::EndOfFile,
             line: Location(end.line),

@@ -5,11 +5,10 @@ ghost use lib.ListN.{length};
 ghost use mathlib.Core.List.{[]};
 ghost use Rattle.utils.specs.Bytes.{padTo};
 ghost use Rattle.utils.specs.Message.{reported};
-ghost use Rattle.lexer.specs.Refusals.{factsOf, messageOf, unexpected};
+ghost use Rattle.pieces.specs.Refusals.{factsOf, messageOf, unexpected};
 ghost use Rattle.lexer.specs.Read.{refusal, answerOf};
-use crate::Cursor;
 use crate::ReadAnswer;
-use crate::Refusal;
+use pieces::Refusal;
 
 pub(crate) fn refuse_at(number: u32, line: u32, place: usize) -> ReadAnswer
     requires { ⌜ place < 4294967296 ⌝ }

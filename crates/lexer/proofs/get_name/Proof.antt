@@ -10,7 +10,7 @@ use lib.ListN.{length, drop, take, getD}
 use lib.Seq.{drop-cons}
 use denote.Ref.{now}
 use borrow.Author.Needs.{needs}
-use Rattle.lexer.proofs.Compare.{part-slice}
+use Rattle.pieces.proofs.Compare.{part-slice}
 use Rattle.lexer.specs.Decoded.{nameOf}
 use Rattle.utils.specs.Bytes.{pick}
 use Rattle.lexer.proofs.get_name.Statement.{statement}

@@ -15,7 +15,7 @@ use Rattle.lexer.specs.Numbered.{tokensCells, namesCells}
 use Rattle.lexer.specs.Numbered.{Outcome}
 use Rattle.utils.specs.Bytes.{padTo}
 use Rattle.lexer.specs.Read.{resultOf, Held}
-use Rattle.lexer.proofs.Progress.{piece-past}
+use Rattle.pieces.proofs.Progress.{piece-past}
 use Rattle.lexer.specs.Steps.{partsOf, nextOf, addedBy, pushed}
 use Rattle.utils.specs.Bytes.{pick}
 use Rattle.lexer.proofs.Turns.{Lexing, start, taken, turn}

@@ -18,7 +18,7 @@ use Rattle.lexer.proofs.lex_text.Tie as tie
 use Rattle.lexer.proofs.lex_text.Reads as reads
 use Rattle.lexer.proofs.lex_text.Lts as lts
 use Rattle.lexer.proofs.lex_all.Reads as lex-all-reads
-use Rattle.lexer.proofs.scan.is_ascii.Reads as is-ascii-reads
+use Rattle.pieces.proofs.scan.is_ascii.Reads as is-ascii-reads
 
 -- src/lib.rt:320:9
 returns : tie.Need-returns

@@ -16,7 +16,7 @@ use Rattle.lexer.proofs.push_token.Statement.{statement}
 use Rattle.lexer.proofs.push_token.Tie as tie
 use Rattle.lexer.proofs.push_token.Reads as reads
 use Rattle.lexer.proofs.push_token.Lts as lts
-use Rattle.lexer.proofs.tokens.put_token.Reads as put-token-reads
+use Rattle.pieces.proofs.tokens.put_token.Reads as put-token-reads
 
 -- src/lib.rt:259:9
 put-token-requires : tie.Need-put-token-requires

@@ -10,12 +10,12 @@ use lib.ListN.{length, drop, take, getD}
 use lib.Seq.{drop-cons}
 use denote.Ref.{now}
 use borrow.Author.Needs.{needs}
-use Rattle.lexer.proofs.Compare.{other-part}
+use Rattle.pieces.proofs.Compare.{other-part}
 use Rattle.lexer.proofs.names.same_name.Statement.{statement}
 use Rattle.lexer.proofs.names.same_name.Tie as tie
 use Rattle.lexer.proofs.names.same_name.Reads as reads
 use Rattle.lexer.proofs.names.same_name.Lts as lts
-use Rattle.lexer.proofs.tokens.same_bytes.Reads as same-bytes-reads
+use Rattle.pieces.proofs.tokens.same_bytes.Reads as same-bytes-reads
 
 -- src/names.rt:23:9
 returns : tie.Need-returns

@@ -1,0 +1,148 @@
+use borrow.Author.Tests.{lt-ltb, le-ltb, le-leb, lt-leb, eq-eqb, ne-eqb}
+use native.Mathlib.Omega.{arith}
+use native.Mathlib.Numerals.{add-one}
+use Prim.Native.Nat.{ℕ, suc, _+_, _-_, _*_, _≤_, _<_}
+use mathlib.Core.Path.{_≡_, refl, sym, ap, _∙_}
+use mathlib.Core.Logic.{⊎-elim}
+use mathlib.Core.List.{List, [], _∷_, _++_}
+use mathlib.Core.Bool.{Bool, true, false}
+use lib.ListN.{length, drop, take, getD}
+use lib.Seq.{drop-cons}
+use denote.Ref.{now}
+use borrow.Author.Needs.{needs}
+use Rattle.pieces.specs.Pieces.{nameEndAt, wordAt, thenValue, tokenFrom, pieceAt}
+use Rattle.utils.specs.Bytes.{pick}
+use Rattle.pieces.proofs.lex.lex_token.Statement.{statement}
+use Rattle.pieces.proofs.lex.lex_token.Tie as tie
+use Rattle.pieces.proofs.lex.lex_token.Reads as reads
+use Rattle.pieces.proofs.lex.lex_token.Lts as lts
+use Rattle.pieces.proofs.lex.lex_digit.Reads as lex-digit-reads
+use Rattle.pieces.proofs.lex.lex_minus.Reads as lex-minus-reads
+use Rattle.pieces.proofs.lex.lex_sigil.Reads as lex-sigil-reads
+use Rattle.pieces.proofs.lex.lex_symbol.Reads as lex-symbol-reads
+use Rattle.pieces.proofs.lex.lex_word.Reads as lex-word-reads
+use Rattle.pieces.proofs.scan.is_digit.Reads as is-digit-reads
+use Rattle.pieces.proofs.scan.is_letter.Reads as is-letter-reads
+
+-- src/lex.rt:149:13
+shared-slice-read-b : tie.Need-shared-slice-read-b
+shared-slice-read-b c = search needs
+
+-- src/lex.rt:151:9
+lex-minus-requires : tie.Need-lex-minus-requires
+lex-minus-requires c κs = search needs
+
+-- src/lex.rt:151:9
+returns : tie.Need-returns
+unfolding tokenFrom pick
+returns c =
+    let if1 = c .before .if1 in
+    let lex-minus = c .lex-minus in
+    rw (eq-eqb _ _ (if1 .taken)) (lex-minus .ensures)
+
+-- src/lex.rt:154:9
+lex-sigil-requires : tie.Need-lex-sigil-requires
+lex-sigil-requires c κs = search needs
+
+-- src/lex.rt:154:9
+returns-2 : tie.Need-returns-2
+unfolding tokenFrom pick
+returns-2 c =
+    let if1 = c .before .before .if1 in
+    let if2 = c .before .if2 in
+    let lex-sigil = c .lex-sigil in
+    rw (ne-eqb _ _ (if1 .left), eq-eqb _ _ (if2 .taken)) (lex-sigil .ensures)
+
+-- src/lex.rt:157:9
+lex-sigil-requires-2 : tie.Need-lex-sigil-requires-2
+lex-sigil-requires-2 c κs = search needs
+
+-- src/lex.rt:157:9
+returns-3 : tie.Need-returns-3
+unfolding tokenFrom pick
+returns-3 c =
+    let if1 = c .before .before .before .if1 in
+    let if2 = c .before .before .if2 in
+    let if3 = c .before .if3 in
+    let lex-sigil2 = c .lex-sigil2 in
+    rw (ne-eqb _ _ (if1 .left), ne-eqb _ _ (if2 .left), eq-eqb _ _ (if3 .taken)) (lex-sigil2 .ensures)
+
+-- src/lex.rt:159:8
+is-digit-requires : tie.Need-is-digit-requires
+is-digit-requires c κs = search needs
+
+-- src/lex.rt:160:9
+lex-digit-requires : tie.Need-lex-digit-requires
+lex-digit-requires c κs = search needs
+
+-- src/lex.rt:160:9
+returns-4 : tie.Need-returns-4
+unfolding tokenFrom pick
+returns-4 c =
+    let if1 = c .before .before .before .before .before .if1 in
+    let if2 = c .before .before .before .before .if2 in
+    let if3 = c .before .before .before .if3 in
+    let is-digit = c .before .before .is-digit in
+    let if4 = c .before .if4 in
+    let lex-digit = c .lex-digit in
+    rw (ne-eqb _ _ (if1 .left), ne-eqb _ _ (if2 .left), ne-eqb _ _ (if3 .left), ← is-digit .ensures, if4 .taken) (lex-digit .ensures)
+
+-- src/lex.rt:162:8
+is-letter-requires : tie.Need-is-letter-requires
+is-letter-requires c κs = search needs
+
+-- src/lex.rt:163:9
+lex-word-requires : tie.Need-lex-word-requires
+lex-word-requires c κs = search needs
+
+-- src/lex.rt:163:9
+returns-5 : tie.Need-returns-5
+unfolding tokenFrom pick
+returns-5 c =
+    let if1 = c .before .before .before .before .before .before .before .if1 in
+    let if2 = c .before .before .before .before .before .before .if2 in
+    let if3 = c .before .before .before .before .before .if3 in
+    let is-digit = c .before .before .before .before .is-digit in
+    let if4 = c .before .before .before .if4 in
+    let is-letter = c .before .before .is-letter in
+    let if5 = c .before .if5 in
+    let lex-word = c .lex-word in
+    rw (ne-eqb _ _ (if1 .left), ne-eqb _ _ (if2 .left), ne-eqb _ _ (if3 .left), ← is-digit .ensures, if4 .left, ← is-letter .ensures, if5 .taken) (lex-word .ensures)
+
+-- src/lex.rt:165:5
+lex-symbol-requires : tie.Need-lex-symbol-requires
+lex-symbol-requires c κs = search needs
+
+-- src/lex.rt:145:1
+returns-6 : tie.Need-returns-6
+unfolding tokenFrom pick
+returns-6 c =
+    let if1 = c .before .before .before .before .before .before .before .if1 in
+    let if2 = c .before .before .before .before .before .before .if2 in
+    let if3 = c .before .before .before .before .before .if3 in
+    let is-digit = c .before .before .before .before .is-digit in
+    let if4 = c .before .before .before .if4 in
+    let is-letter = c .before .before .is-letter in
+    let if5 = c .before .if5 in
+    let lex-symbol = c .lex-symbol in
+    rw (ne-eqb _ _ (if1 .left), ne-eqb _ _ (if2 .left), ne-eqb _ _ (if3 .left), ← is-digit .ensures, if4 .left, ← is-letter .ensures, if5 .left) (lex-symbol .ensures)
+
+pub lex-token-spec : {M : Type 1} → statement M
+lex-token-spec =
+    tie.close
+    (tie.spec
+    shared-slice-read-b
+    lex-minus-requires
+    returns
+    lex-sigil-requires
+    returns-2
+    lex-sigil-requires-2
+    returns-3
+    is-digit-requires
+    lex-digit-requires
+    returns-4
+    is-letter-requires
+    lex-word-requires
+    returns-5
+    lex-symbol-requires
+    returns-6)

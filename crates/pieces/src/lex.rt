@@ -1,0 +1,166 @@
+// One piece of a text at a place: what Cursor::lex answers, by the byte that stands there.
+ghost use mathlib.Core.Path.{_≡_};
+ghost use Prim.Native.Nat.{ℕ, _+_, _-_, _≤_, _<_};
+ghost use lib.ListN.{length, drop, getD};
+ghost use Rattle.pieces.specs.Pieces.{slashAt, digitAt, minusAt, nameAt, sigilAt, wordAt, symbolAt, tokenFrom};
+use crate::Comment;
+use crate::Cursor;
+use crate::Lexed;
+use crate::Location;
+use crate::Name;
+use crate::OptionValue;
+use crate::Refusal;
+use crate::Token;
+use crate::TokenValue;
+use crate::scan;
+use crate::tokens;
+
+// At a slash: a comment, or a byte that begins nothing.
+pub(crate) fn lex_slash(text: &[u8], at: usize, line: u32) -> Lexed
+    requires { ⌜ at < length (now text) ⌝ }
+    ensures { λ r. ⌜ r ≡ slashAt (now (text .entry)) at line ⌝ }
+{
+    let b = scan::peek(text, at + 1);
+    if b == 47 {
+        let place = scan::line_end(text, at + 2);
+        return Lexed::Skipped(Cursor { place, line });
+    }
+    if b == 42 {
+        return match scan::comment_end(text, at + 2) {
+            Comment::Closed(place) => Lexed::Skipped(Cursor { place, line }),
+            Comment::Open => Lexed::Refused(Refusal::CommentNotClosed(Cursor { place: at, line })),
+        };
+    }
+    Lexed::Refused(Refusal::UnexpectedByte(47, Cursor { place: at, line }))
+}
+
+// At a digit. The Rust drops what its parse::<i32>() refuses, and goes on.
+fn lex_digit(text: &[u8], at: usize, line: u32) -> Lexed
+    ensures { λ r. ⌜ r ≡ digitAt (now (text .entry)) at line ⌝ }
+{
+    let n = scan::lex_number(text, at);
+    let value = n.value;
+    let next = Cursor { place: n.end, line };
+    if value <= 2147483647 {
+        let token = Token {
+            value: TokenValue::Integer(value as u32),
+            line: Location(line),
+            place: at,
+        };
+        return Lexed::Token(token, next);
+    }
+    Lexed::Skipped(next)
+}
+
+// At a minus.
+fn lex_minus(text: &[u8], at: usize, line: u32) -> Lexed
+    requires { ⌜ at < length (now text) ⌝ }
+    ensures { λ r. ⌜ r ≡ minusAt (now (text .entry)) at line ⌝ }
+{
+    let b = scan::peek(text, at + 1);
+    if !scan::is_digit(b) {
+        return Lexed::Refused(Refusal::NumberExpected(Cursor { place: at, line }));
+    }
+    let n = scan::lex_number(text, at + 1);
+    let value = n.value;
+    if value <= 2147483648 {
+        let bits = (4294967296 - value) % 4294967296;
+        let token = Token {
+            value: TokenValue::Integer(bits as u32),
+            line: Location(line),
+            place: at,
+        };
+        return Lexed::Token(token, Cursor { place: n.end, line });
+    }
+    Lexed::Refused(Refusal::NumberExpected(Cursor { place: at, line }))
+}
+
+// From a name's first byte, a sigil or a letter, to its end.
+fn lex_name(kind: u32, text: &[u8], at: usize, line: u32) -> Lexed
+    requires { ⌜ at < length (now text) ⌝ }
+    ensures { λ r. ⌜ r ≡ nameAt kind (now (text .entry)) at line ⌝ }
+{
+    let end = scan::name_end(text, at + 1);
+    let name = Name {
+        kind,
+        place: at,
+        len: end - at,
+        line: Location(line),
+    };
+    Lexed::Name(name, Cursor { place: end, line })
+}
+
+// At `@` or `.`, which a letter must follow.
+fn lex_sigil(kind: u32, text: &[u8], at: usize, line: u32) -> Lexed
+    requires { ⌜ at < length (now text) ⌝ }
+    ensures { λ r. ⌜ r ≡ sigilAt kind (now (text .entry)) at line ⌝ }
+{
+    let b = scan::peek(text, at + 1);
+    if scan::is_letter(b) {
+        return lex_name(kind, text, at, line);
+    }
+    Lexed::Refused(Refusal::UnexpectedByte(text[at], Cursor { place: at, line }))
+}
+
+// At a letter: a word of the language, or a local.
+fn lex_word(text: &[u8], at: usize, line: u32) -> Lexed
+    requires { ⌜ at < length (now text) ⌝ }
+    ensures { λ r. ⌜ r ≡ wordAt (now (text .entry)) at line ⌝ }
+{
+    let end = scan::name_end(text, at + 1);
+    match tokens::get_keyword(text, at, end - at) {
+        OptionValue::Some(value) => {
+            let token = Token {
+                value,
+                line: Location(line),
+                place: at,
+            };
+            Lexed::Token(token, Cursor { place: end, line })
+        }
+        OptionValue::None => lex_name(1, text, at, line),
+    }
+}
+
+// A token of one byte, or a byte that begins nothing.
+fn lex_symbol(text: &[u8], at: usize, line: u32) -> Lexed
+    requires { ⌜ at < length (now text) ⌝ }
+    ensures { λ r. ⌜ r ≡ symbolAt (now (text .entry)) at line ⌝ }
+{
+    let b = text[at];
+    match tokens::from_char(b) {
+        OptionValue::Some(value) => {
+            let token = Token {
+                value,
+                line: Location(line),
+                place: at,
+            };
+            let place = at + 1;
+            Lexed::Token(token, Cursor { place, line })
+        }
+        OptionValue::None => Lexed::Refused(Refusal::UnexpectedByte(b, Cursor { place: at, line })),
+    }
+}
+
+// At a byte that is neither blank nor a comment's first.
+pub(crate) fn lex_token(text: &[u8], at: usize, line: u32) -> Lexed
+    requires { ⌜ at < length (now text) ⌝ }
+    ensures { λ r. ⌜ r ≡ tokenFrom (now (text .entry)) at line ⌝ }
+{
+    let b = text[at];
+    if b == 45 {
+        return lex_minus(text, at, line);
+    }
+    if b == 64 {
+        return lex_sigil(2, text, at, line);
+    }
+    if b == 46 {
+        return lex_sigil(3, text, at, line);
+    }
+    if scan::is_digit(b) {
+        return lex_digit(text, at, line);
+    }
+    if scan::is_letter(b) {
+        return lex_word(text, at, line);
+    }
+    lex_symbol(text, at, line)
+}
