@@ -1,0 +1,2 @@
+-- What the C functions answer, on bytes.
+pub mod Bytes

@@ -1,0 +1,91 @@
+// The C functions. Cells go out as little-endian bytes at the offsets of docs/INTERFACE.md.
+ghost use mathlib.Core.Path.{_≡_};
+ghost use Prim.Native.Nat.{ℕ, _+_, _-_, _*_, _<_, _≤_};
+ghost use lib.ListN.{length, replicate};
+ghost use lib.Seq.{sets};
+ghost use Rattle.lexer.specs.Read.{readOf, refusal};
+ghost use Rattle.pitchsleet.specs.Bytes.{le32, le32s, export, exported, Exports};
+use lexer::ReadAnswer;
+
+// A cell as four bytes, the lowest first.
+fn put_cell(out: &mut [u8], at: usize, cell: u32)
+    requires { ⌜ at + 4 ≤ length (now out) ⌝ }
+    ensures { λ r. ⌜ now (out .exit) ≡ sets (now (out .entry)) at (le32 cell) ⌝ }
+{
+    let a1 = at + 1;
+    let a2 = at + 2;
+    let a3 = at + 3;
+    out[at] = (cell % 256) as u8;
+    out[a1] = (cell / 256 % 256) as u8;
+    out[a2] = (cell / 65536 % 256) as u8;
+    out[a3] = (cell / 16777216 % 256) as u8;
+}
+
+fn put_cells(out: &mut [u8], at: usize, cells: &[u32])
+    requires { ⌜ at + length (now cells) * 4 ≤ length (now out) ⌝ }
+    ensures { λ r. ⌜ now (out .exit) ≡ sets (now (out .entry)) at (le32s (now (cells .entry))) ⌝ }
+{
+    let mut i: usize = 0;
+    while i < cells.len() {
+        put_cell(out, at + i * 4, cells[i]);
+        i += 1;
+    }
+}
+
+// Zeros from an offset to the end.
+fn clear_from(out: &mut [u8], from: usize)
+    requires { ⌜ from ≤ length (now out) ⌝ }
+    ensures { λ r. ⌜ now (out .exit) ≡ sets (now (out .entry)) from (replicate (length (now (out .entry)) - from) 0) ⌝ }
+{
+    let mut i = from;
+    while i < out.len() {
+        out[i] = 0;
+        i += 1;
+    }
+}
+
+fn short() -> ReadAnswer
+    ensures { λ r. ⌜ r ≡ refusal 30 0 0 ⌝ }
+{
+    ReadAnswer {
+        number: 30,
+        line: 0,
+        place: 0,
+        tokens: 0,
+        names: 0,
+    }
+}
+
+// Reads into cells, and stores them as bytes. Both slices have their sizes, so `read` never answers 30 here.
+fn read_out(
+    text: &[u8],
+    tokens: &mut [u32; 16384],
+    names: &mut [u32; 2048],
+    out: &mut [u8],
+    message: &mut [u8],
+) -> ReadAnswer
+    requires { ⌜ (length (now tokens) ≡ 16384) × (length (now names) ≡ 2048) × (73728 ≤ length (now out)) × (512 ≤ length (now message)) ⌝ }
+    ensures { λ r. ⌜ export r (now (out .exit)) (now (message .exit)) ≡ exported (now (out .entry)) (now (message .entry)) (readOf (now (text .entry))) ⌝ }
+{
+    let answer = lexer::read(text, tokens, names, message);
+    put_cells(out, 0, tokens);
+    put_cells(out, 65536, names);
+    clear_from(out, 73728);
+    answer
+}
+
+// Document 01's reading for a C or Rust host. The gate stands before anything is written, on both slices.
+#[no_mangle]
+pub extern "C" fn pitchsleet_read(text: &[u8], out: &mut [u8], message: &mut [u8]) -> ReadAnswer
+    ensures { λ r. ⌜ Exports (now (text .entry)) (now (out .entry)) (now (message .entry)) r (now (out .exit)) (now (message .exit)) ⌝ }
+{
+    if out.len() < 73728 {
+        return short();
+    }
+    if message.len() < 512 {
+        return short();
+    }
+    let mut tokens = [0u32; 16384];
+    let mut names = [0u32; 2048];
+    read_out(text, &mut tokens, &mut names, out, message)
+}
