@@ -2,7 +2,7 @@
 -- slices have their sizes nothing that they held before has a part in the answer.
 use Prim.Native.Nat.{ℕ}
 use mathlib.Core.Path.{_≡_, refl, sym, ap, _∙_}
-use mathlib.Core.List.{List, [], _∷_}
+use mathlib.Core.List.{List, []}
 use mathlib.Core.Bool.{true}
 use native.Mathlib.Omega.{arith}
 use lib.ListN.{length}
@@ -10,7 +10,6 @@ use Rattle.utils.specs.Bytes.{pick, padTo}
 use Rattle.lexer.specs.Numbered.{Outcome, tokensCells, namesCells}
 use Rattle.lexer.specs.Read.{Reading, reading, accepted, answered, resultOf, tokensIn, namesIn, readingOf, readOf}
 use Rattle.lexer.specs.Read.{Held, sized, readDef, Reads}
-use Rattle.lexer.specs.declared.LexResult.{LexResult}
 use Rattle.lexer.specs.declared.LexResult.the-variants as X
 use Rattle.lexer.specs.declared.ReadAnswer.{ReadAnswer}
 use Rattle.lexer.proofs.Accepted.{Done}

@@ -2,20 +2,20 @@
 -- the tokens and names found so far; `turn` says what one call of next_token makes of it, by cases of the piece.
 use Prim.Native.Nat.{ℕ, suc, _+_, _-_, _*_, _≤_, _<_}
 use mathlib.Core.Path.{_≡_, refl, sym, ap, _∙_}
-use mathlib.Core.List.{List, [], _∷_, _++_, append-nil}
-use mathlib.Core.Bool.{Bool, true, false}
+use mathlib.Core.List.{List, [], _∷_, _++_}
 use native.Mathlib.Omega.{arith}
-use borrow.Author.Tests.{lt-ltb, le-ltb, ltb-true, ltb-false}
+use borrow.Author.Tests.{lt-ltb, le-ltb, ltb-true}
 use lib.Dec.{ltb}
 use lib.ListN.{length, take, replicate, length-append, length-replicate}
-use lib.Seq.{sets, length-sets, take-at}
+use lib.Seq.{sets, length-sets}
 use Rattle.utils.specs.Bytes.{pick, padTo}
 use Rattle.utils.proofs.Runs.{sets-pad}
-use Rattle.pieces.specs.Tokens.{tokenCells, kindOf}
+use Rattle.pieces.specs.Tokens.{tokenCells}
 use Rattle.pieces.specs.Refusals.{factsOf}
 use Rattle.pieces.specs.Pieces.{Pieces, token, pieceAt, onPiece, piecesFrom}
-use Rattle.lexer.specs.Numbered.{Part, part, Outcome, identified, onFound, indexOf, spellings, spellingOf, named, atToken, thenIdentified, thenRoom}
-use Rattle.lexer.specs.Numbered.{numberedFrom, numbered, tokensCells, namesCells}
+use Rattle.lexer.specs.Numbered.{Part, part, Outcome, identified, onFound, indexOf, spellings, spellingOf, named}
+use Rattle.lexer.specs.Numbered.{atToken, thenIdentified, thenRoom, numberedFrom, numbered, tokensCells}
+use Rattle.lexer.specs.Numbered.{namesCells}
 use Rattle.lexer.specs.Steps.{partsOf, Within, newCells, nextName, nextOf, addedBy}
 use Rattle.lexer.proofs.Parts.{tokens-cells-snoc, names-cells-snoc, within-snoc}
 use Rattle.lexer.proofs.Cells.{length-tokens-cells, length-names-cells, cells-parts-padded}
@@ -28,7 +28,6 @@ use Rattle.lexer.specs.declared.Found.{Found}
 use Rattle.lexer.specs.declared.Found.the-variants as F
 use Rattle.lexer.specs.declared.Identified.{Identified}
 use Rattle.lexer.specs.declared.Identified.the-variants as I
-use Rattle.pieces.specs.declared.Refusal.{Refusal}
 use Rattle.pieces.specs.declared.Refusal.the-variants as R
 use Rattle.pieces.specs.declared.Lexed.{Lexed}
 use Rattle.pieces.specs.declared.Lexed.the-variants as L

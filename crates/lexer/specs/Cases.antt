@@ -10,9 +10,9 @@ use Rattle.utils.specs.Bytes.{pick, bytes, sameBytes}
 use Rattle.utils.specs.Message.{digits, reported}
 use Rattle.pieces.specs.Classes.{isBlank, isDigit, isLetter, isNamePart, isAscii}
 use Rattle.pieces.specs.Tokens.{valueOf, words, wordIn, symbol}
-use Rattle.pieces.specs.Pieces.{cursor, token, lineEnd, closes, starAfter, commentEnd, digitsFrom, nameEnd}
-use Rattle.pieces.specs.Pieces.{slashAt, digitAt, minusAt, nameAt, sigilAt, thenValue, wordAt, symbolAt, tokenFrom}
-use Rattle.pieces.specs.Pieces.{pieceAt, onPiece, piecesFrom, pieces}
+use Rattle.pieces.specs.Pieces.{cursor, token, lineEnd, closes, starAfter, commentEnd, digitsFrom, nameEnd, slashAt}
+use Rattle.pieces.specs.Pieces.{digitAt, minusAt, nameAt, sigilAt, thenValue, wordAt, symbolAt, tokenFrom, pieceAt}
+use Rattle.pieces.specs.Pieces.{onPiece, piecesFrom, pieces}
 use Rattle.lexer.specs.Numbered.{part, spellings, indexOf, identified, thenIdentified, thenRoom, numberedFrom}
 use Rattle.lexer.specs.Numbered.{numbered, tokensCells, namesCells}
 use Rattle.lexer.specs.Read.{Reading, refused, lexedFrom, readingOf, readOf, sized, readDef}

@@ -1,12 +1,10 @@
 -- What the cells that `read` writes hold, for callers: the tokens as a list, the token at an index, a name's spelling.
 use Prim.Native.Nat.{ℕ, _+_, _*_}
 use mathlib.Core.List.{List, [], _∷_}
-use mathlib.Core.Bool.{Bool, true, false}
 use lib.Dec.{ltb, leb, eqb}
 use lib.ListN.{length, getD}
 use lib.Seq.{slice}
 use Rattle.utils.specs.Bytes.{pick}
-use Rattle.pieces.specs.declared.Location.{Location}
 use Rattle.lexer.specs.declared.TokenAt.{TokenAt}
 
 -- a token as its four cells hold it

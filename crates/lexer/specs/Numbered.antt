@@ -1,8 +1,7 @@
 -- A fold over the pieces: names are numbered and the limits applied, from left to right.
 use Prim.Native.Nat.{ℕ, _+_}
 use mathlib.Core.List.{List, [], _∷_, _++_}
-use mathlib.Core.Bool.{Bool, true, false}
-use lib.Dec.{ltb, leb}
+use lib.Dec.{ltb}
 use lib.ListN.{length}
 use lib.Seq.{slice}
 use Rattle.utils.specs.Bytes.{pick, sameBytes}

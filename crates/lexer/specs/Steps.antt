@@ -1,9 +1,9 @@
 -- What the reader's loop does at one turn: a piece, its name numbered, and the names' cells that it adds.
 -- `numberedFrom` says the same of all pieces; that turns add up to it is shown in `proofs/Turns.antt`.
-use Prim.Native.Nat.{ℕ, _+_, _*_, _≤_}
-use mathlib.Core.List.{List, [], _∷_, _++_}
+use Prim.Native.Nat.{ℕ, _+_, _*_, _≤_, _<_}
+use mathlib.Core.List.{List, [], _∷_}
 use lib.Dec.{ltb}
-use lib.ListN.{length}
+use lib.ListN.{length, take}
 use lib.Seq.{sets}
 use Rattle.utils.specs.Bytes.{pick}
 use Rattle.pieces.specs.Tokens.{tokenCells}
@@ -30,6 +30,17 @@ partsOf [] = []
 abbrev pub Within : ℕ → List Part → Type 0
 Within n [] = Unit
 Within n (p ∷ ps) = (p .place + p .len ≤ n) × Within n ps
+
+-- the first `count` names that cells hold
+abbrev pub firstNames : ℕ → List ℕ → List Part
+firstNames count cells = partsOf (take (count * 2) cells)
+
+-- what the code may rely on of the table of names
+pub record Table (text cells : List ℕ) (count : ℕ) : Type 0 where
+  pub few : count ≤ 1024
+  pub room : 2048 ≤ length cells
+  pub small : length text < 4294967296
+  pub within : Within (length text) (firstNames count cells)
 
 -- what a name adds to the names' cells
 abbrev pub newCells : Name → Identified → List ℕ

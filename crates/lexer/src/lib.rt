@@ -11,9 +11,10 @@ ghost use lib.Seq.{sets};
 ghost use Rattle.utils.specs.Bytes.{pick, padTo};
 ghost use Rattle.pieces.specs.Pieces.{pieceAt};
 ghost use Rattle.lexer.specs.Numbered.{identified, numbered, atToken};
-ghost use Rattle.lexer.specs.Steps.{partsOf, Within, newCells, nextName, nextOf, addedBy, pushed};
+ghost use Rattle.lexer.specs.Steps.{firstNames, Table, newCells, nextName, nextOf, addedBy, pushed};
 ghost use Rattle.pieces.specs.Tokens.{tokenCells};
-ghost use Rattle.lexer.specs.Read.{lexedFrom, resultOf, Held, tokensIn, namesIn, reading, padded, readOf, sized, IfSized, Reads};
+ghost use Rattle.lexer.specs.Read.{lexedFrom, resultOf, tokensIn, namesIn, Held, reading, padded, readOf};
+ghost use Rattle.lexer.specs.Read.{sized, IfSized, Reads};
 ghost use Rattle.lexer.specs.Decoded.{tokensOf, tokenAt, nameOf};
 use pieces::Cursor;
 use pieces::Identifier;
@@ -75,10 +76,11 @@ pub struct TokenAt {
 
 // A name with its number in the table.
 fn number_name(text: &[u8], names: &mut [u32], count: usize, name: Name, next: Cursor) -> Next
-    requires { ⌜ (count ≤ 1024) × (2048 ≤ length (now names)) × (name .place + name .len ≤ length (now text)) × (length (now text) < 4294967296) ⌝ }
-    requires { ⌜ Within (length (now text)) (partsOf (take (count * 2) (now names))) ⌝ }
-    ensures { λ r. ⌜ r ≡ nextName count name next (identified (now (text .entry)) (partsOf (take (count * 2) (now (names .entry)))) name) ⌝ }
-    ensures { λ r. ⌜ now (names .exit) ≡ sets (now (names .entry)) (count * 2) (newCells name (identified (now (text .entry)) (partsOf (take (count * 2) (now (names .entry)))) name)) ⌝ }
+    requires { ⌜ Table (now text) (now names) count × (name .place + name .len ≤ length (now text)) ⌝ }
+    ensures { λ r. ⌜ r ≡ nextName count name next
+        (identified (now (text .entry)) (firstNames count (now (names .entry))) name) ⌝ }
+    ensures { λ r. ⌜ now (names .exit) ≡ sets (now (names .entry)) (count * 2)
+        (newCells name (identified (now (text .entry)) (firstNames count (now (names .entry))) name)) ⌝ }
 {
     let kind = name.kind;
     let line = name.line;
@@ -98,10 +100,13 @@ fn number_name(text: &[u8], names: &mut [u32], count: usize, name: Name, next: C
 
 // A piece, with its name numbered.
 fn next_token(text: &[u8], names: &mut [u32], count: usize, at: Cursor) -> Next
-    requires { ⌜ (at .place ≤ length (now text)) × (at .line < 4294967295) × (count ≤ 1024) × (2048 ≤ length (now names)) × (length (now text) < 4294967296) ⌝ }
-    requires { ⌜ Within (length (now text)) (partsOf (take (count * 2) (now names))) ⌝ }
-    ensures { λ r. ⌜ r ≡ nextOf (now (text .entry)) (partsOf (take (count * 2) (now (names .entry)))) count (pieceAt (now (text .entry)) (at .place) (at .line)) ⌝ }
-    ensures { λ r. ⌜ now (names .exit) ≡ sets (now (names .entry)) (count * 2) (addedBy (now (text .entry)) (partsOf (take (count * 2) (now (names .entry)))) (pieceAt (now (text .entry)) (at .place) (at .line))) ⌝ }
+    requires { ⌜ Table (now text) (now names) count
+        × (at .place ≤ length (now text)) × (at .line < 4294967295) ⌝ }
+    ensures { λ r. ⌜ r ≡ nextOf (now (text .entry)) (firstNames count (now (names .entry))) count
+        (pieceAt (now (text .entry)) (at .place) (at .line)) ⌝ }
+    ensures { λ r. ⌜ now (names .exit) ≡ sets (now (names .entry)) (count * 2)
+        (addedBy (now (text .entry)) (firstNames count (now (names .entry)))
+        (pieceAt (now (text .entry)) (at .place) (at .line))) ⌝ }
 {
     match at.lex(text) {
         Lexed::Skipped(next) => Next::Skipped(next),
@@ -128,11 +133,13 @@ fn push_token(cells: &mut [u32], count: usize, token: Token) -> bool
     false
 }
 
-// The cells of tokens and names, from cleared slices. On a refusal nothing is said of the slices: the caller clears them.
+// The cells of tokens and names, from cleared slices. On a refusal the caller clears them again.
 fn lex_all(text: &[u8], line: u32, tokens: &mut [u32], names: &mut [u32]) -> LexResult
-    requires { ⌜ (length (now text) ≤ 16384) × (line ≤ 2147483648) × (16384 ≤ length (now tokens)) × (2048 ≤ length (now names)) ⌝ }
+    requires { ⌜ (length (now text) ≤ 16384) × (line ≤ 2147483648)
+        × (16384 ≤ length (now tokens)) × (2048 ≤ length (now names)) ⌝ }
     ensures { λ r. ⌜ r ≡ resultOf (numbered (now (text .entry)) line) ⌝ }
-    ensures { λ r. ⌜ Held (numbered (now (text .entry)) line) (now (tokens .entry)) (now (names .entry)) (now (tokens .exit)) (now (names .exit)) ⌝ }
+    ensures { λ r. ⌜ Held (numbered (now (text .entry)) line)
+        (now (tokens .entry)) (now (names .entry)) (now (tokens .exit)) (now (names .exit)) ⌝ }
 {
     utils::clear(tokens);
     utils::clear(names);
@@ -178,7 +185,8 @@ fn too_many(token: Token) -> Refusal
 fn lex_text(text: &[u8], line: u32, tokens: &mut [u32], names: &mut [u32]) -> LexResult
     requires { ⌜ (line ≤ 2147483648) × (16384 ≤ length (now tokens)) × (2048 ≤ length (now names)) ⌝ }
     ensures { λ r. ⌜ r ≡ resultOf (lexedFrom line (now (text .entry))) ⌝ }
-    ensures { λ r. ⌜ Held (lexedFrom line (now (text .entry))) (now (tokens .entry)) (now (names .entry)) (now (tokens .exit)) (now (names .exit)) ⌝ }
+    ensures { λ r. ⌜ Held (lexedFrom line (now (text .entry)))
+        (now (tokens .entry)) (now (names .entry)) (now (tokens .exit)) (now (names .exit)) ⌝ }
 {
     if 16384 < text.len() {
         return LexResult::Refused(Refusal::TooManyBytes);
@@ -193,8 +201,10 @@ fn lex_text(text: &[u8], line: u32, tokens: &mut [u32], names: &mut [u32]) -> Le
 pub fn lex_from(text: &[u8], line: u32, tokens: &mut [u32], names: &mut [u32]) -> LexResult
     requires { ⌜ (line ≤ 2147483648) × (16384 ≤ length (now tokens)) × (2048 ≤ length (now names)) ⌝ }
     ensures { λ r. ⌜ r ≡ resultOf (lexedFrom line (now (text .entry))) ⌝ }
-    ensures { λ r. ⌜ now (tokens .exit) ≡ padTo (length (now (tokens .entry))) (tokensIn (lexedFrom line (now (text .entry)))) ⌝ }
-    ensures { λ r. ⌜ now (names .exit) ≡ padTo (length (now (names .entry))) (namesIn (lexedFrom line (now (text .entry)))) ⌝ }
+    ensures { λ r. ⌜ now (tokens .exit)
+        ≡ padTo (length (now (tokens .entry))) (tokensIn (lexedFrom line (now (text .entry)))) ⌝ }
+    ensures { λ r. ⌜ now (names .exit)
+        ≡ padTo (length (now (names .entry))) (namesIn (lexedFrom line (now (text .entry)))) ⌝ }
 {
     match lex_text(text, line, tokens, names) {
         LexResult::Done(count, known) => LexResult::Done(count, known),
@@ -224,8 +234,10 @@ fn fits(tokens: usize, names: usize, message: usize) -> bool
 
 // Slices that have their sizes.
 fn read_sized(text: &[u8], tokens: &mut [u32], names: &mut [u32], message: &mut [u8]) -> ReadAnswer
-    requires { ⌜ (16384 ≤ length (now tokens)) × (2048 ≤ length (now names)) × (512 ≤ length (now message)) ⌝ }
-    ensures { λ r. ⌜ reading r (now (tokens .exit)) (now (names .exit)) (now (message .exit)) ≡ padded (now (tokens .entry)) (now (names .entry)) (now (message .entry)) (readOf (now (text .entry))) ⌝ }
+    requires { ⌜ (16384 ≤ length (now tokens)) × (2048 ≤ length (now names))
+        × (512 ≤ length (now message)) ⌝ }
+    ensures { λ r. ⌜ reading r (now (tokens .exit)) (now (names .exit)) (now (message .exit))
+        ≡ padded (now (tokens .entry)) (now (names .entry)) (now (message .entry)) (readOf (now (text .entry))) ⌝ }
 {
     match lex_from(text, 1, tokens, names) {
         LexResult::Refused(refusal) => {
@@ -247,7 +259,8 @@ fn read_sized(text: &[u8], tokens: &mut [u32], names: &mut [u32], message: &mut 
 
 // Document 01's reading of any text: tokens and names as cells, or a refusal and its message.
 pub fn read(text: &[u8], tokens: &mut [u32], names: &mut [u32], message: &mut [u8]) -> ReadAnswer
-    ensures { λ r. ⌜ Reads (now (text .entry)) (now (tokens .entry)) (now (names .entry)) (now (message .entry)) r (now (tokens .exit)) (now (names .exit)) (now (message .exit)) ⌝ }
+    ensures { λ r. ⌜ Reads (now (text .entry)) (now (tokens .entry)) (now (names .entry)) (now (message .entry))
+        r (now (tokens .exit)) (now (names .exit)) (now (message .exit)) ⌝ }
 {
     if fits(tokens.len(), names.len(), message.len()) {
         return read_sized(text, tokens, names, message);

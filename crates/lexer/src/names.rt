@@ -5,7 +5,7 @@ ghost use lib.ListN.{length, take};
 ghost use lib.Seq.{slice, sets};
 ghost use Rattle.utils.specs.Bytes.{sameBytes};
 ghost use Rattle.lexer.specs.Numbered.{indexOf, spellings, identified};
-ghost use Rattle.lexer.specs.Steps.{partsOf, Within, newCells};
+ghost use Rattle.lexer.specs.Steps.{firstNames, Table, newCells};
 use crate::Cursor;
 use crate::Found;
 use crate::Identified;
@@ -17,7 +17,8 @@ use crate::tokens;
 // Whether m bytes of the text from a are the n bytes from b.
 fn same_name(text: &[u8], a: usize, m: usize, b: usize, n: usize) -> bool
     requires { ⌜ (a + m ≤ length (now text)) × (b + n ≤ length (now text)) ⌝ }
-    ensures { λ r. ⌜ r ≡ sameBytes (slice a (a + m) (now (text .entry))) (slice b (b + n) (now (text .entry))) ⌝ }
+    ensures { λ r. ⌜ r
+        ≡ sameBytes (slice a (a + m) (now (text .entry))) (slice b (b + n) (now (text .entry))) ⌝ }
 {
     if m != n {
         return false;
@@ -27,9 +28,9 @@ fn same_name(text: &[u8], a: usize, m: usize, b: usize, n: usize) -> bool
 
 // The number of the first of `count` names that is spelled as the `len` bytes from `place`.
 fn lookup(text: &[u8], names: &[u32], count: usize, place: usize, len: usize) -> Found
-    requires { ⌜ (count * 2 ≤ length (now names)) × (count ≤ 1024) × (place + len ≤ length (now text)) ⌝ }
-    requires { ⌜ Within (length (now text)) (partsOf (take (count * 2) (now names))) ⌝ }
-    ensures { λ r. ⌜ r ≡ indexOf (slice place (place + len) (now (text .entry))) (spellings (now (text .entry)) (partsOf (take (count * 2) (now (names .entry))))) 0 ⌝ }
+    requires { ⌜ Table (now text) (now names) count × (place + len ≤ length (now text)) ⌝ }
+    ensures { λ r. ⌜ r ≡ indexOf (slice place (place + len) (now (text .entry)))
+        (spellings (now (text .entry)) (firstNames count (now (names .entry)))) 0 ⌝ }
 {
     let mut k: usize = 0;
     while k < count {
@@ -47,9 +48,8 @@ fn lookup(text: &[u8], names: &[u32], count: usize, place: usize, len: usize) ->
 
 // A name's number; a new name is stored behind the `count` that there are.
 pub(crate) fn get_identifier(text: &[u8], names: &mut [u32], count: usize, name: Name) -> Identified
-    requires { ⌜ (count ≤ 1024) × (2048 ≤ length (now names)) × (name .place + name .len ≤ length (now text)) × (length (now text) < 4294967296) ⌝ }
-    requires { ⌜ Within (length (now text)) (partsOf (take (count * 2) (now names))) ⌝ }
-    ensures { λ r. ⌜ r ≡ identified (now (text .entry)) (partsOf (take (count * 2) (now (names .entry)))) name ⌝ }
+    requires { ⌜ Table (now text) (now names) count × (name .place + name .len ≤ length (now text)) ⌝ }
+    ensures { λ r. ⌜ r ≡ identified (now (text .entry)) (firstNames count (now (names .entry))) name ⌝ }
     ensures { λ r. ⌜ now (names .exit) ≡ sets (now (names .entry)) (count * 2) (newCells name r) ⌝ }
 {
     let place = name.place;

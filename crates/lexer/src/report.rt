@@ -41,7 +41,8 @@ pub(crate) fn answer_of(refusal: Refusal) -> ReadAnswer
 
 fn report_unexpected(message: &mut [u8], line: u32, b: u8)
     requires { ⌜ 512 ≤ length (now message) ⌝ }
-    ensures { λ r. ⌜ now (message .exit) ≡ padTo (length (now (message .entry))) (reported line [] (unexpected b)) ⌝ }
+    ensures { λ r. ⌜ now (message .exit)
+        ≡ padTo (length (now (message .entry))) (reported line [] (unexpected b)) ⌝ }
 {
     let mut text = *b"Unexpected token: ' '.";
     text[19] = b;

@@ -14,8 +14,8 @@ use Rattle.pieces.specs.Classes.{isBlank, isDigit, isLetter, isNamePart}
 use Rattle.pieces.specs.Tokens.{kindOf, Word, words, wordIn, symbol}
 use Rattle.pieces.specs.Refusals.{factsOf}
 use Rattle.pieces.specs.Pieces.{cursor, token, lineEnd, closes, starAfter, commentEnd, digitsFrom, nameEnd}
-use Rattle.pieces.specs.Pieces.{onComment, slashAt, digitAt, minusAt, nameAt, sigilAt, thenValue, wordAt, symbolAt}
-use Rattle.pieces.specs.Pieces.{tokenFrom, pieceAt, Pieces, onPiece, piecesFrom, pieces}
+use Rattle.pieces.specs.Pieces.{onComment, slashAt, digitAt, minusAt, nameAt, sigilAt, thenValue, wordAt}
+use Rattle.pieces.specs.Pieces.{symbolAt, tokenFrom, pieceAt, Pieces, onPiece, piecesFrom, pieces}
 use Rattle.pieces.specs.declared.Cursor.{Cursor}
 use Rattle.pieces.specs.declared.Comment.{Comment}
 use Rattle.pieces.specs.declared.Comment.the-variants as C

@@ -3,12 +3,12 @@ use Prim.Native.Nat.{ℕ, suc, _+_, _-_, _*_, _≤_}
 use Prim.Native.String.{String}
 use mathlib.Core.Path.{_≡_, refl}
 use mathlib.Core.List.{List, [], _∷_, _++_}
-use mathlib.Core.Bool.{Bool, true, false}
+use mathlib.Core.Bool.{true}
 use borrow.Author.Tests.{leb-true}
 use lib.Dec.{leb}
 use lib.ListN.{length, getD, replicate}
 use Rattle.utils.specs.Bytes.{pick, bytes}
-use Rattle.pieces.specs.Tokens.{valueOf, words, rowAt, rowsFrom, rowsFit}
+use Rattle.pieces.specs.Tokens.{valueOf, words, rowsFrom, rowsFit}
 use Rattle.pieces.proofs.Digits.{pick-both}
 
 pub fit-step : (n k : ℕ) (t : List ℕ) → rowsFit (suc n) k t ≡ true

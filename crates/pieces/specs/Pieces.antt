@@ -2,15 +2,14 @@
 -- refusal 2 to 4. No table of names and no limit has a part in it.
 use Prim.Native.Nat.{ℕ, zero, suc, _+_, _-_, _*_, _%_}
 use mathlib.Core.List.{List, [], _∷_}
-use mathlib.Core.Bool.{Bool, true, false}
-use lib.Dec.{ltb, leb, eqb}
+use mathlib.Core.Bool.{Bool, false}
+use lib.Dec.{leb, eqb}
 use lib.ListN.{getD, length, drop}
 use lib.Seq.{slice}
 use Rattle.utils.specs.Bytes.{pick}
 use Rattle.pieces.specs.Classes.{isBlank, isDigit, isLetter, isNamePart}
 use Rattle.pieces.specs.Tokens.{keyword, symbol}
 use Rattle.pieces.specs.declared.Cursor.{Cursor}
-use Rattle.pieces.specs.declared.Location.{Location}
 use Rattle.pieces.specs.declared.Token.{Token}
 use Rattle.pieces.specs.declared.TokenValue.{TokenValue}
 use Rattle.pieces.specs.declared.TokenValue.the-variants as T

@@ -1,7 +1,6 @@
 -- Document 01, "Numbers the reader answers with", for the refusals that reading gives: number, line, place, message.
 -- 30 is not among them: it is the gate's (`Read`), and writes no message.
 use Prim.Native.Nat.{ℕ}
-use Prim.Native.String.{String}
 use mathlib.Core.List.{List, [], _∷_, _++_}
 use Rattle.utils.specs.Bytes.{bytes}
 use Rattle.utils.specs.Message.{reported}

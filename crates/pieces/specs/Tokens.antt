@@ -7,7 +7,6 @@ use lib.ListN.{getD}
 use lib.Seq.{slice}
 use Prim.Native.String.{String}
 use Rattle.utils.specs.Bytes.{pick, bytes, sameBytes}
-use Rattle.pieces.specs.declared.Identifier.{Identifier}
 use Rattle.pieces.specs.declared.TokenValue.{TokenValue}
 use Rattle.pieces.specs.declared.TokenValue.the-variants as T
 use Rattle.pieces.specs.declared.Kinded.{Kinded}

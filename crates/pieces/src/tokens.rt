@@ -5,7 +5,8 @@ ghost use Prim.Native.Nat.{ℕ, _+_, _-_, _*_, _≤_, _<_};
 ghost use lib.ListN.{length, getD};
 ghost use lib.Seq.{slice, sets};
 ghost use Rattle.utils.specs.Bytes.{sameBytes};
-ghost use Rattle.pieces.specs.Tokens.{kindedOf, valueOf, tokenCells, rowAt, rowsFrom, rowsFit, wordIn, keyword, symbol};
+ghost use Rattle.pieces.specs.Tokens.{kindedOf, valueOf, tokenCells};
+ghost use Rattle.pieces.specs.Tokens.{rowAt, rowsFrom, rowsFit, wordIn, keyword, symbol};
 use crate::Identifier;
 use crate::Kinded;
 use crate::OptionValue;
@@ -167,8 +168,10 @@ const KEYWORDS: [u8; 175] = *b"\x05\x03add\0\0\
 
 // Whether the word of a row is the `len` bytes of the text from `at` on.
 fn is_row(text: &[u8], at: usize, len: usize, table: &[u8], row: usize) -> bool
-    requires { ⌜ (at + len ≤ length (now text)) × (row * 7 + 7 ≤ length (now table)) × (getD (now table) (row * 7 + 1) 0 ≤ 5) ⌝ }
-    ensures { λ r. ⌜ r ≡ sameBytes (rowAt (now (table .entry)) row .spelling) (slice at (at + len) (now (text .entry))) ⌝ }
+    requires { ⌜ (at + len ≤ length (now text)) × (row * 7 + 7 ≤ length (now table))
+        × (getD (now table) (row * 7 + 1) 0 ≤ 5) ⌝ }
+    ensures { λ r. ⌜ r
+        ≡ sameBytes (rowAt (now (table .entry)) row .spelling) (slice at (at + len) (now (text .entry))) ⌝ }
 {
     let size = row * 7 + 1;
     let letters = row * 7 + 2;
@@ -180,8 +183,10 @@ fn is_row(text: &[u8], at: usize, len: usize, table: &[u8], row: usize) -> bool
 
 // The value of the first of 25 rows whose word is the `len` bytes of the text from `at` on.
 fn find_word(text: &[u8], at: usize, len: usize, table: &[u8]) -> OptionValue
-    requires { ⌜ (at + len ≤ length (now text)) × (length (now table) ≡ 175) × (rowsFit 25 0 (now table) ≡ true) ⌝ }
-    ensures { λ r. ⌜ r ≡ wordIn (rowsFrom 25 0 (now (table .entry))) (slice at (at + len) (now (text .entry))) ⌝ }
+    requires { ⌜ (at + len ≤ length (now text)) × (length (now table) ≡ 175)
+        × (rowsFit 25 0 (now table) ≡ true) ⌝ }
+    ensures { λ r. ⌜ r
+        ≡ wordIn (rowsFrom 25 0 (now (table .entry))) (slice at (at + len) (now (text .entry))) ⌝ }
 {
     let mut row: usize = 0;
     while row < 25 {

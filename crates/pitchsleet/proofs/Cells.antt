@@ -1,22 +1,19 @@
 -- Cells as bytes, one after the other
-use Prim.Native.Nat.{ℕ, zero, suc, _+_, _-_, _*_, _≤_, _<_}
-use mathlib.Core.Bool.{Bool, true, false}
+use Prim.Native.Nat.{ℕ, suc, _+_, _-_, _*_, _≤_, _<_}
+use mathlib.Core.Bool.{true}
 use borrow.Author.Tests.{le-ltb}
-use Rattle.lexer.specs.Read.{Reading, Reads, readOf, readDef, sized}
+use Rattle.lexer.specs.Read.{Reads, readOf, readDef, sized}
 use Rattle.lexer.specs.declared.ReadAnswer.{ReadAnswer}
-use Rattle.pitchsleet.specs.Bytes.{Export, export, exported, bytesOf, exportDef, Exports}
+use Rattle.pitchsleet.specs.Bytes.{Export, export, exported, bytesOf, exportDef, Exports, le32, le32s}
 use mathlib.Core.Path.{_≡_, refl, ap, _∙_, sym}
-use mathlib.Core.List.{List, [], _∷_, _++_}
+use mathlib.Core.List.{List, [], _∷_, _++_, append-nil}
 use native.Mathlib.Omega.{arith}
 use native.Mathlib.Numerals.{add-one}
-use lib.ListN.{length, getD, drop, replicate, length-append, length-replicate}
+use lib.ListN.{length, getD, drop, replicate, length-append, length-replicate, set, drop-of-length-le}
 use lib.Seq.{sets, drop-cons, sets-eq}
-use lib.ListN.{set, drop-of-length-le}
-use mathlib.Core.List.{append-nil}
 use native.Mathlib.Nat.{zero-add}
 use Rattle.utils.specs.Bytes.{pick, padTo}
-use Rattle.utils.proofs.Runs.{sets-append, sets-pad}
-use Rattle.pitchsleet.specs.Bytes.{le32, le32s}
+use Rattle.utils.proofs.Runs.{sets-append}
 
 -- one more cell
 pub stored : (cells out : List ℕ) (at i : ℕ) → i < length cells

@@ -35,7 +35,8 @@ fn put_cells(out: &mut [u8], at: usize, cells: &[u32])
 // Zeros from an offset to the end.
 fn clear_from(out: &mut [u8], from: usize)
     requires { ⌜ from ≤ length (now out) ⌝ }
-    ensures { λ r. ⌜ now (out .exit) ≡ sets (now (out .entry)) from (replicate (length (now (out .entry)) - from) 0) ⌝ }
+    ensures { λ r. ⌜ now (out .exit)
+        ≡ sets (now (out .entry)) from (replicate (length (now (out .entry)) - from) 0) ⌝ }
 {
     let mut i = from;
     while i < out.len() {
@@ -64,8 +65,10 @@ fn read_out(
     out: &mut [u8],
     message: &mut [u8],
 ) -> ReadAnswer
-    requires { ⌜ (length (now tokens) ≡ 16384) × (length (now names) ≡ 2048) × (73728 ≤ length (now out)) × (512 ≤ length (now message)) ⌝ }
-    ensures { λ r. ⌜ export r (now (out .exit)) (now (message .exit)) ≡ exported (now (out .entry)) (now (message .entry)) (readOf (now (text .entry))) ⌝ }
+    requires { ⌜ (length (now tokens) ≡ 16384) × (length (now names) ≡ 2048)
+        × (73728 ≤ length (now out)) × (512 ≤ length (now message)) ⌝ }
+    ensures { λ r. ⌜ export r (now (out .exit)) (now (message .exit))
+        ≡ exported (now (out .entry)) (now (message .entry)) (readOf (now (text .entry))) ⌝ }
 {
     let answer = lexer::read(text, tokens, names, message);
     put_cells(out, 0, tokens);
@@ -77,7 +80,8 @@ fn read_out(
 // Document 01's reading for a C or Rust host. The gate stands before anything is written, on both slices.
 #[no_mangle]
 pub extern "C" fn pitchsleet_read(text: &[u8], out: &mut [u8], message: &mut [u8]) -> ReadAnswer
-    ensures { λ r. ⌜ Exports (now (text .entry)) (now (out .entry)) (now (message .entry)) r (now (out .exit)) (now (message .exit)) ⌝ }
+    ensures { λ r. ⌜ Exports (now (text .entry)) (now (out .entry)) (now (message .entry))
+        r (now (out .exit)) (now (message .exit)) ⌝ }
 {
     if out.len() < 73728 {
         return short();

@@ -1,17 +1,12 @@
 -- Runs of stores, one after the other
-use Prim.Native.Nat.{ℕ, zero, suc, _+_, _-_, _≤_, _<_}
+use Prim.Native.Nat.{ℕ, zero, suc, _+_, _-_, _≤_, _<_, _/_, _%_}
 use mathlib.Core.List.{List, [], _∷_, _++_, append-nil}
-use mathlib.Core.Path.{_≡_, refl, ap, _∙_, sym}
+use mathlib.Core.Path.{_≡_, refl, ap, _∙_}
 use native.Mathlib.Omega.{arith}
-use native.Mathlib.Nat.{add-zero, add-suc, suc-add, zero-add, add-sub-of-le}
+use native.Mathlib.Nat.{add-zero, zero-add, add-sub-of-le, sub-zero, zero-sub, suc-sub-suc}
 use native.Mathlib.Numerals.{add-one}
 use lib.ListN.{length, set, getD, drop, length-append, replicate, length-replicate, replicate-append-replicate}
-use lib.Seq.{sets, length-sets, drop-cons, sets-eq, drop-at, drop-length}
-use mathlib.Core.Bool.{true, false}
-use lib.Dec.{ltb}
-use Prim.Native.Nat.{_/_, _%_}
-use lib.Seq.{take-append-seam, drop-append-add}
-use native.Mathlib.Nat.{sub-zero, zero-sub, suc-sub-suc}
+use lib.Seq.{sets, drop-cons, sets-eq, drop-at, drop-length, take-append-seam, drop-append-add}
 use borrow.Author.Tests.{lt-ltb, le-ltb}
 use Rattle.utils.specs.Message.{digits}
 use Rattle.utils.specs.Bytes.{pick, padTo}

@@ -32,7 +32,8 @@ pub fn clear_bytes(buf: &mut [u8])
 // Stores a part from a place on, and hands back the place after it.
 pub fn put(buf: &mut [u8], at: usize, part: &[u8]) -> usize
     requires { ⌜ at + length (now part) ≤ length (now buf) ⌝ }
-    ensures { λ r. ⌜ (r ≡ at + length (now (part .entry))) × (now (buf .exit) ≡ sets (now (buf .entry)) at (now (part .entry))) ⌝ }
+    ensures { λ r. ⌜ (r ≡ at + length (now (part .entry)))
+        × (now (buf .exit) ≡ sets (now (buf .entry)) at (now (part .entry))) ⌝ }
 {
     let mut i: usize = 0;
     while i < part.len() {
@@ -45,7 +46,8 @@ pub fn put(buf: &mut [u8], at: usize, part: &[u8]) -> usize
 // The highest digits first, so that no digit is stored twice.
 fn put_digits(buf: &mut [u8], at: usize, n: u32, most: usize) -> usize
     requires { ⌜ at + most ≤ length (now buf) ⌝ }
-    ensures { λ r. ⌜ (r ≡ at + length (digits most n)) × (now (buf .exit) ≡ sets (now (buf .entry)) at (digits most n)) × (r ≤ at + most) ⌝ }
+    ensures { λ r. ⌜ (r ≡ at + length (digits most n))
+        × (now (buf .exit) ≡ sets (now (buf .entry)) at (digits most n)) × (r ≤ at + most) ⌝ }
 {
     if most == 0 {
         return at;
@@ -62,7 +64,8 @@ fn put_digits(buf: &mut [u8], at: usize, n: u32, most: usize) -> usize
 // A number in decimal, and the place after it.
 pub fn put_decimal(buf: &mut [u8], at: usize, n: u32) -> usize
     requires { ⌜ at + 10 ≤ length (now buf) ⌝ }
-    ensures { λ r. ⌜ (r ≡ at + length (decimal n)) × (now (buf .exit) ≡ sets (now (buf .entry)) at (decimal n)) × (r ≤ at + 10) ⌝ }
+    ensures { λ r. ⌜ (r ≡ at + length (decimal n))
+        × (now (buf .exit) ≡ sets (now (buf .entry)) at (decimal n)) × (r ≤ at + 10) ⌝ }
 {
     put_digits(buf, at, n, 10)
 }
@@ -70,7 +73,9 @@ pub fn put_decimal(buf: &mut [u8], at: usize, n: u32) -> usize
 // Everything of a message from its start, and the place after it.
 fn put_report(buf: &mut [u8], line: u32, item: &[u8], text: &[u8]) -> usize
     requires { ⌜ 27 + length (now item) + length (now text) ≤ length (now buf) ⌝ }
-    ensures { λ r. ⌜ (r ≡ length (reported line (now (item .entry)) (now (text .entry)))) × (r ≤ length (now (buf .entry))) × (now (buf .exit) ≡ sets (now (buf .entry)) 0 (reported line (now (item .entry)) (now (text .entry)))) ⌝ }
+    ensures { λ r. ⌜ (r ≡ length (reported line (now (item .entry)) (now (text .entry))))
+        × (r ≤ length (now (buf .entry)))
+        × (now (buf .exit) ≡ sets (now (buf .entry)) 0 (reported line (now (item .entry)) (now (text .entry)))) ⌝ }
 {
     let p1 = put(buf, 0, b"[line ");
     let p2 = put_decimal(buf, p1, line);
@@ -84,7 +89,8 @@ fn put_report(buf: &mut [u8], line: u32, item: &[u8], text: &[u8]) -> usize
 // DiagnosticEmitter::report: the message, and zeros after it.
 pub fn report(buf: &mut [u8], line: u32, item: &[u8], text: &[u8])
     requires { ⌜ 27 + length (now item) + length (now text) ≤ length (now buf) ⌝ }
-    ensures { λ r. ⌜ now (buf .exit) ≡ padTo (length (now (buf .entry))) (reported line (now (item .entry)) (now (text .entry))) ⌝ }
+    ensures { λ r. ⌜ now (buf .exit)
+        ≡ padTo (length (now (buf .entry))) (reported line (now (item .entry)) (now (text .entry))) ⌝ }
 {
     clear_bytes(buf);
     let end = put_report(buf, line, item, text);
@@ -93,7 +99,8 @@ pub fn report(buf: &mut [u8], line: u32, item: &[u8], text: &[u8])
 // DiagnosticEmitter::error: a message with no ITEM.
 pub fn error(buf: &mut [u8], line: u32, text: &[u8])
     requires { ⌜ 27 + length (now text) ≤ length (now buf) ⌝ }
-    ensures { λ r. ⌜ now (buf .exit) ≡ padTo (length (now (buf .entry))) (reported line [] (now (text .entry))) ⌝ }
+    ensures { λ r. ⌜ now (buf .exit)
+        ≡ padTo (length (now (buf .entry))) (reported line [] (now (text .entry))) ⌝ }
 {
     report(buf, line, b"", text);
 }

@@ -1,44 +1,29 @@
-use borrow.Author.Tests.{lt-ltb, le-ltb, le-leb, lt-leb, eq-eqb, ne-eqb}
 use native.Mathlib.Omega.{arith}
-use native.Mathlib.Numerals.{add-one}
-use Prim.Native.Nat.{ℕ, suc, _+_, _-_, _*_, _≤_, _<_}
-use mathlib.Core.Path.{_≡_, refl, sym, ap, _∙_}
-use mathlib.Core.Logic.{⊎-elim}
-use mathlib.Core.List.{List, [], _∷_, _++_}
-use mathlib.Core.Bool.{Bool, true, false}
-use lib.ListN.{length, drop, take, getD}
-use lib.Seq.{drop-cons}
+use mathlib.Core.Path.{refl, sym}
+use lib.ListN.{List·getD-eq-default}
 use denote.Ref.{now}
 use borrow.Author.Needs.{needs}
-use lib.ListN.{List·getD-eq-default}
 use Rattle.lexer.proofs.cell_at.Statement.{statement}
 use Rattle.lexer.proofs.cell_at.Tie as tie
-use Rattle.lexer.proofs.cell_at.Reads as reads
-use Rattle.lexer.proofs.cell_at.Lts as lts
 
--- src/lib.rt:438:16
 mul-result : tie.Need-mul-result
 mul-result c = search needs
 
--- src/lib.rt:438:16
 shared-slice-read-result : tie.Need-shared-slice-read-result
 shared-slice-read-result c = search needs
 
--- src/lib.rt:438:16
 cast-result : tie.Need-cast-result
 cast-result c =
     let shared-slice-known = c .shared-slice-known in
     let a = c .before .before .args in
     omega (arith, shared-slice-known .given (a .at))
 
--- src/lib.rt:438:9
 returns : tie.Need-returns
 returns c =
     let shared-slice-known = c .shared-slice-known in
     let a = c .before .before .args in
     (refl, omega (arith, shared-slice-known .given (a .at)))
 
--- src/lib.rt:433:1
 returns-2 : tie.Need-returns-2
 returns-2 c =
     let a = c .before .args in

@@ -1,13 +1,7 @@
-use borrow.Author.Tests.{lt-ltb, le-ltb, le-leb, lt-leb, eq-eqb, ne-eqb}
+use borrow.Author.Tests.{le-leb, lt-leb}
 use native.Mathlib.Omega.{arith}
-use native.Mathlib.Numerals.{add-one}
-use Prim.Native.Nat.{ℕ, suc, _+_, _-_, _*_, _≤_, _<_}
-use mathlib.Core.Path.{_≡_, refl, sym, ap, _∙_}
-use mathlib.Core.Logic.{⊎-elim}
-use mathlib.Core.List.{List, [], _∷_, _++_}
-use mathlib.Core.Bool.{Bool, true, false}
-use lib.ListN.{length, drop, take, getD}
-use lib.Seq.{drop-cons}
+use Prim.Native.Nat.{_+_, _-_}
+use mathlib.Core.Path.{_≡_}
 use denote.Ref.{now}
 use borrow.Author.Needs.{needs}
 use Rattle.pieces.proofs.Compare.{part-slice}
@@ -15,47 +9,34 @@ use Rattle.lexer.specs.Decoded.{nameOf}
 use Rattle.utils.specs.Bytes.{pick}
 use Rattle.lexer.proofs.get_name.Statement.{statement}
 use Rattle.lexer.proofs.get_name.Tie as tie
-use Rattle.lexer.proofs.get_name.Reads as reads
-use Rattle.lexer.proofs.get_name.Lts as lts
-use Rattle.lexer.proofs.cell_at.Reads as cell-at-reads
 
--- src/lib.rt:423:14
 cast-at : tie.Need-cast-at
 cast-at c = search needs
 
--- src/lib.rt:423:14
 mul-at : tie.Need-mul-at
 mul-at c = search needs
 
--- src/lib.rt:424:9
 cell-at-requires : tie.Need-cell-at-requires
 cell-at-requires c κs = search needs
 
--- src/lib.rt:425:38
 add-cell-at : tie.Need-add-cell-at
 add-cell-at c = search needs
 
--- src/lib.rt:425:23
 cell-at-requires-2 : tie.Need-cell-at-requires-2
 cell-at-requires-2 c κs = search needs
 
--- src/lib.rt:425:15
 add-end : tie.Need-add-end
 add-end c = search needs
 
--- src/lib.rt:427:16
 sub-result : tie.Need-sub-result
 sub-result c = search needs
 
--- src/lib.rt:427:16
 part-result-start : tie.Need-part-result-start
 part-result-start c = search needs
 
--- src/lib.rt:427:16
 part-result-end : tie.Need-part-result-end
 part-result-end c = search needs
 
--- src/lib.rt:427:9
 returns : tie.Need-returns
 unfolding nameOf pick
 returns c =
@@ -68,19 +49,15 @@ returns c =
     let e : place + len - place ≡ len = omega arith in
     rw (← cell-at .ensures .0, ← cell-at2 .ensures .0, le-leb _ _ (if1 .taken), e) (part-slice place len (now (a .text)))
 
--- src/lib.rt:429:5
 sub-result-2 : tie.Need-sub-result-2
 sub-result-2 c = search needs
 
--- src/lib.rt:429:5
 part-result-start-2 : tie.Need-part-result-start-2
 part-result-start-2 c = search needs
 
--- src/lib.rt:429:5
 part-result-end-2 : tie.Need-part-result-end-2
 part-result-end-2 c = search needs
 
--- src/lib.rt:420:1
 returns-2 : tie.Need-returns-2
 unfolding nameOf pick
 returns-2 c =

@@ -1,32 +1,16 @@
 use borrow.Author.Needs.{needs}
-use borrow.Author.Tests.{lt-ltb, le-ltb, le-leb, lt-leb, eq-eqb, ne-eqb}
-use native.Mathlib.Omega.{arith}
-use native.Mathlib.Numerals.{add-one}
-use Prim.Native.Nat.{ℕ, suc, _+_, _-_, _*_, _≤_, _<_}
-use mathlib.Core.Path.{_≡_, refl, sym, ap, _∙_}
-use mathlib.Core.Logic.{⊎-elim}
-use mathlib.Core.List.{List, [], _∷_, _++_}
-use mathlib.Core.Bool.{Bool, true, false}
-use lib.ListN.{length, drop, take, getD}
-use lib.Seq.{drop-cons}
-use denote.Ref.{now}
 use borrow.Author.Tests.{ltb-true, ltb-false, not-true, not-false}
+use native.Mathlib.Omega.{arith}
+use Prim.Native.Nat.{ℕ, _-_, _≤_, _<_}
+use mathlib.Core.Path.{refl, sym, ap, _∙_}
+use lib.ListN.{length}
+use denote.Ref.{now}
 use Rattle.lexer.specs.Numbered.{tokensCells, namesCells}
-use Rattle.lexer.specs.Numbered.{Outcome}
-use Rattle.utils.specs.Bytes.{padTo}
-use Rattle.lexer.specs.Read.{resultOf, Held}
-use Rattle.pieces.proofs.Progress.{piece-past}
-use Rattle.lexer.specs.Steps.{partsOf, nextOf, addedBy, pushed}
-use Rattle.utils.specs.Bytes.{pick}
+use Rattle.utils.specs.Bytes.{padTo, pick}
+use Rattle.lexer.specs.Steps.{pushed}
 use Rattle.lexer.proofs.Turns.{Lexing, start, taken, turn}
 use Rattle.lexer.proofs.lex_all.Statement.{statement}
 use Rattle.lexer.proofs.lex_all.Tie as tie
-use Rattle.lexer.proofs.lex_all.Reads as reads
-use Rattle.lexer.proofs.lex_all.Lts as lts
-use Rattle.lexer.proofs.next_token.Reads as next-token-reads
-use Rattle.lexer.proofs.push_token.Reads as push-token-reads
-use Rattle.lexer.proofs.too_many.Reads as too-many-reads
-use Rattle.utils.proofs.clear.Reads as clear-reads
 
 abbrev Inv-loop : tie.InvT-loop
 Inv-loop text line tokens₀ names₀ count₀ known₀ at₀ tokens names count known at = Lexing text line tokens₀ names₀ tokens names count known at
@@ -34,15 +18,12 @@ Inv-loop text line tokens₀ names₀ count₀ known₀ at₀ tokens names count
 abbrev μ-loop : tie.MeasureT-loop
 μ-loop text line tokens₀ names₀ count₀ known₀ at₀ tokens names count known at = length text - at .place
 
--- src/lib.rt:274:5
 clear-requires : tie.Need-clear-requires Inv-loop μ-loop
 clear-requires c κs = search needs
 
--- src/lib.rt:275:5
 clear-requires-2 : tie.Need-clear-requires-2 Inv-loop μ-loop
 clear-requires-2 c κs = search needs
 
--- src/lib.rt:279:5
 loop-holds : tie.Need-loop-holds Inv-loop μ-loop
 loop-holds c =
     let a = c .before .before .before .before .before .before .before .before .before .before .before .args in
@@ -50,7 +31,6 @@ loop-holds c =
     let clear2 = c .before .before .clear2 in
     start (now (a .text)) (a .line) _ _ (length (now (a .tokens))) (length (now (a .names))) (clear .ensures) (clear2 .ensures)
 
--- src/lib.rt:280:15
 next-token-requires : tie.Need-next-token-requires Inv-loop μ-loop
 next-token-requires c κs =
     let clear = c .before .before .before .before .before .before .before .before .clear in
@@ -59,13 +39,20 @@ next-token-requires c κs =
     let loop = c .before .loop in
     let ts : 16384 ≤ length (clear .last .0) = omega (arith, clear .kept .0, pre) in
     let ns : 2048 ≤ length (clear2 .last .0) = omega (arith, clear2 .kept .0, pre) in
-    (omega (arith, loop .inv .lines, loop .inv .within, loop .inv .parts-room, loop .inv .long-names, ns, pre), rw (taken ts ns (loop .inv)) (loop .inv .parts-within))
+    let v = loop .inv in (
+      record {
+        few = v .parts-room;
+        room = omega (arith, v .long-names, ns);
+        small = omega (arith, pre);
+        within = rw (taken ts ns v) (v .parts-within);
+      },
+      v .within,
+      omega (arith, v .lines, v .within, pre),
+    )
 
--- src/lib.rt:281:27
 enum-known-next : tie.Need-enum-known-next Inv-loop μ-loop
 enum-known-next c = search needs
 
--- src/lib.rt:279:5
 loop-less : tie.Need-loop-less Inv-loop μ-loop
 loop-less c =
     let clear = c .before .before .before .before .before .before .before .before .before .before .before .before .before .before .clear in
@@ -79,7 +66,6 @@ loop-less c =
     let after = rw (next .given .1) at (turn ts ns (loop .inv) (next-token .result) (next-token .last .1 .0) (next-token .ensures .0) (next-token .ensures .1)) in
     omega (arith, after .1)
 
--- src/lib.rt:279:5
 loop-again : tie.Need-loop-again Inv-loop μ-loop
 loop-again c =
     let clear = c .before .before .before .before .before .before .before .before .before .before .before .before .before .before .clear in
@@ -93,11 +79,9 @@ loop-again c =
     let after = rw (next .given .1) at (turn ts ns (loop .inv) (next-token .result) (next-token .last .1 .0) (next-token .ensures .0) (next-token .ensures .1)) in
     after .0
 
--- src/lib.rt:284:25
 enum-known-token : tie.Need-enum-known-token Inv-loop μ-loop
 enum-known-token c = search needs
 
--- src/lib.rt:285:21
 push-token-requires : tie.Need-push-token-requires Inv-loop μ-loop
 push-token-requires c κs =
     let clear = c .before .before .before .before .before .before .before .before .before .before .before .before .before .before .before .clear in
@@ -111,11 +95,9 @@ push-token-requires c κs =
     let after = rw (token .given .1) at (turn ts ns (loop .inv) (next-token .result) (next-token .last .1 .0) (next-token .ensures .0) (next-token .ensures .1)) in
     omega (arith, loop .inv .long, ts, after .place, pre)
 
--- src/lib.rt:286:47
 too-many-requires : tie.Need-too-many-requires Inv-loop μ-loop
 too-many-requires c κs = search needs
 
--- src/lib.rt:286:21
 same-length : tie.Need-same-length Inv-loop μ-loop
 same-length c =
     let loop = c .before .before .before .before .before .before .before .before .before .before .before .before .before .loop in
@@ -123,7 +105,6 @@ same-length c =
     let push-token = c .before .before .before .before .push-token in
     omega (arith, loop .inv .long, clear .kept .0, push-token .kept .0)
 
--- src/lib.rt:286:21
 same-length-2 : tie.Need-same-length-2 Inv-loop μ-loop
 same-length-2 c =
     let loop = c .before .before .before .before .before .before .before .before .before .before .before .before .before .loop in
@@ -131,7 +112,6 @@ same-length-2 c =
     let next-token = c .before .before .before .before .before .before .before .before .before .before .before .next-token in
     omega (arith, loop .inv .long-names, clear2 .kept .0, next-token .kept .1 .0)
 
--- src/lib.rt:286:21
 returns : tie.Need-returns Inv-loop μ-loop
 returns c =
     let clear = c .before .before .before .before .before .before .before .before .before .before .before .before .before .before .before .before .before .before .before .before .clear in
@@ -149,13 +129,11 @@ returns c =
     let full : 4096 ≤ loop .count = ltb-false _ _ (sym (push-token .ensures .0) ∙ not-true _ (if1 .taken)) in
     rw (after .full full, too-many .ensures) (refl, tt)
 
--- src/lib.rt:288:17
 add-count : tie.Need-add-count Inv-loop μ-loop
 add-count c =
     let loop = c .before .before .before .before .before .before .before .before .before .before .before .before .loop in
     omega (arith, loop .inv .room)
 
--- src/lib.rt:279:5
 loop-less-2 : tie.Need-loop-less-2 Inv-loop μ-loop
 loop-less-2 c =
     let clear = c .before .before .before .before .before .before .before .before .before .before .before .before .before .before .before .before .before .before .before .clear in
@@ -169,7 +147,6 @@ loop-less-2 c =
     let after = rw (token .given .1) at (turn ts ns (loop .inv) (next-token .result) (next-token .last .1 .0) (next-token .ensures .0) (next-token .ensures .1)) in
     omega (arith, after .later, after .inside)
 
--- src/lib.rt:279:5
 loop-again-2 : tie.Need-loop-again-2 Inv-loop μ-loop
 unfolding pushed pick
 loop-again-2 c =
@@ -188,11 +165,9 @@ loop-again-2 c =
     let put = rw (sym (push-token .ensures .0) ∙ not-false _ (if1 .left)) at (push-token .ensures .1) in
     after .more room _ put
 
--- src/lib.rt:292:23
 enum-known-token-2 : tie.Need-enum-known-token-2 Inv-loop μ-loop
 enum-known-token-2 c = search needs
 
--- src/lib.rt:293:21
 push-token-requires-2 : tie.Need-push-token-requires-2 Inv-loop μ-loop
 push-token-requires-2 c κs =
     let clear = c .before .before .before .before .before .before .before .before .before .before .before .before .before .before .before .clear in
@@ -206,11 +181,9 @@ push-token-requires-2 c κs =
     let after = rw (token2 .given .1) at (turn ts ns (loop .inv) (next-token .result) (next-token .last .1 .0) (next-token .ensures .0) (next-token .ensures .1)) in
     omega (arith, loop .inv .long, ts, after .place, pre)
 
--- src/lib.rt:294:47
 too-many-requires-2 : tie.Need-too-many-requires-2 Inv-loop μ-loop
 too-many-requires-2 c κs = search needs
 
--- src/lib.rt:294:21
 same-length-3 : tie.Need-same-length-3 Inv-loop μ-loop
 same-length-3 c =
     let loop = c .before .before .before .before .before .before .before .before .before .before .before .before .before .loop in
@@ -218,7 +191,6 @@ same-length-3 c =
     let push-token2 = c .before .before .before .before .push-token2 in
     omega (arith, loop .inv .long, clear .kept .0, push-token2 .kept .0)
 
--- src/lib.rt:294:21
 same-length-4 : tie.Need-same-length-4 Inv-loop μ-loop
 same-length-4 c =
     let loop = c .before .before .before .before .before .before .before .before .before .before .before .before .before .loop in
@@ -226,7 +198,6 @@ same-length-4 c =
     let next-token = c .before .before .before .before .before .before .before .before .before .before .before .next-token in
     omega (arith, loop .inv .long-names, clear2 .kept .0, next-token .kept .1 .0)
 
--- src/lib.rt:294:21
 returns-2 : tie.Need-returns-2 Inv-loop μ-loop
 returns-2 c =
     let clear = c .before .before .before .before .before .before .before .before .before .before .before .before .before .before .before .before .before .before .before .before .clear in
@@ -244,25 +215,21 @@ returns-2 c =
     let full : 4096 ≤ loop .count = ltb-false _ _ (sym (push-token2 .ensures .0) ∙ not-true _ (if2 .taken)) in
     rw (after .full full, too-many2 .ensures) (refl, tt)
 
--- src/lib.rt:296:40
 cast-t32 : tie.Need-cast-t32 Inv-loop μ-loop
 cast-t32 c =
     let loop = c .before .before .before .before .before .before .before .before .before .before .before .before .loop in
     omega (arith, loop .inv .room)
 
--- src/lib.rt:296:40
 add-t33 : tie.Need-add-t33 Inv-loop μ-loop
 add-t33 c =
     let loop = c .before .before .before .before .before .before .before .before .before .before .before .before .loop in
     omega (arith, loop .inv .room)
 
--- src/lib.rt:296:58
 cast-t34 : tie.Need-cast-t34 Inv-loop μ-loop
 cast-t34 c =
     let loop = c .before .before .before .before .before .before .before .before .before .before .before .before .loop in
     omega (arith, loop .inv .parts-room)
 
--- src/lib.rt:296:17
 same-length-5 : tie.Need-same-length-5 Inv-loop μ-loop
 same-length-5 c =
     let loop = c .before .before .before .before .before .before .before .before .before .before .before .before .loop in
@@ -270,7 +237,6 @@ same-length-5 c =
     let push-token2 = c .before .before .before .push-token2 in
     omega (arith, loop .inv .long, clear .kept .0, push-token2 .kept .0)
 
--- src/lib.rt:296:17
 same-length-6 : tie.Need-same-length-6 Inv-loop μ-loop
 same-length-6 c =
     let loop = c .before .before .before .before .before .before .before .before .before .before .before .before .loop in
@@ -278,7 +244,6 @@ same-length-6 c =
     let next-token = c .before .before .before .before .before .before .before .before .before .before .next-token in
     omega (arith, loop .inv .long-names, clear2 .kept .0, next-token .kept .1 .0)
 
--- src/lib.rt:296:17
 returns-3 : tie.Need-returns-3 Inv-loop μ-loop
 unfolding pushed pick
 returns-3 c =
@@ -298,18 +263,15 @@ returns-3 c =
     let end = after .done room _ put in
     rw (end .whole, end .counted, end .names-counted) (refl, (end .held ∙ ap (λ (m : ℕ). padTo m (tokensCells (end .tokens))) (clear .kept .0), end .names-held ∙ ap (λ (m : ℕ). padTo m (namesCells (end .names))) (clear2 .kept .0)))
 
--- src/lib.rt:298:27
 enum-known-refusal : tie.Need-enum-known-refusal Inv-loop μ-loop
 enum-known-refusal c = search needs
 
--- src/lib.rt:299:17
 same-length-7 : tie.Need-same-length-7 Inv-loop μ-loop
 same-length-7 c =
     let loop = c .before .before .before .before .before .before .before .loop in
     let clear = c .before .before .before .before .before .before .before .before .before .before .before .before .before .before .clear in
     omega (arith, loop .inv .long, clear .kept .0)
 
--- src/lib.rt:299:17
 same-length-8 : tie.Need-same-length-8 Inv-loop μ-loop
 same-length-8 c =
     let loop = c .before .before .before .before .before .before .before .loop in
@@ -317,7 +279,6 @@ same-length-8 c =
     let next-token = c .before .before .before .before .before .next-token in
     omega (arith, loop .inv .long-names, clear2 .kept .0, next-token .kept .1 .0)
 
--- src/lib.rt:299:17
 returns-4 : tie.Need-returns-4 Inv-loop μ-loop
 returns-4 c =
     let clear = c .before .before .before .before .before .before .before .before .before .before .before .before .before .before .clear in

@@ -1,43 +1,23 @@
-use borrow.Author.Tests.{lt-ltb, le-ltb, le-leb, lt-leb, eq-eqb, ne-eqb}
 use native.Mathlib.Omega.{arith}
-use native.Mathlib.Numerals.{add-one}
-use Prim.Native.Nat.{ℕ, suc, _+_, _-_, _*_, _≤_, _<_}
-use mathlib.Core.Path.{_≡_, refl, sym, ap, _∙_}
-use mathlib.Core.Logic.{⊎-elim}
-use mathlib.Core.List.{List, [], _∷_, _++_}
-use mathlib.Core.Bool.{Bool, true, false}
-use lib.ListN.{length, drop, take, getD}
-use lib.Seq.{drop-cons}
+use mathlib.Core.Path.{sym, _∙_}
 use denote.Ref.{now}
 use borrow.Author.Needs.{needs}
-use borrow.Author.Tests.{not-true, not-false}
-use Rattle.lexer.proofs.Promise.{held-done, done-reading, by-parts}
-use Rattle.lexer.proofs.Sound.{never-cut, refused-sound}
+use Rattle.lexer.proofs.Promise.{done-reading}
+use Rattle.lexer.proofs.Sound.{refused-sound}
 use Rattle.lexer.proofs.Accepted.{result-done, result-refused}
-use Rattle.lexer.specs.Read.{lexedFrom, readOf, readDef, tokensIn, namesIn}
-use Rattle.utils.specs.Bytes.{pick, padTo}
+use Rattle.lexer.specs.Read.{readOf}
 use Rattle.lexer.proofs.read_sized.Statement.{statement}
 use Rattle.lexer.proofs.read_sized.Tie as tie
-use Rattle.lexer.proofs.read_sized.Reads as reads
-use Rattle.lexer.proofs.read_sized.Lts as lts
-use Rattle.lexer.proofs.lex_from.Reads as lex-from-reads
-use Rattle.lexer.proofs.report.answer_of.Reads as answer-of-reads
-use Rattle.lexer.proofs.report.report.Reads as report-reads
-use Rattle.utils.proofs.clear_bytes.Reads as clear-bytes-reads
 
--- src/lib.rt:366:11
 lex-from-requires : tie.Need-lex-from-requires
 lex-from-requires c κs = search needs
 
--- src/lib.rt:367:28
 enum-known-refusal : tie.Need-enum-known-refusal
 enum-known-refusal c = search needs
 
--- src/lib.rt:368:13
 report-requires : tie.Need-report-requires
 report-requires c κs = search needs
 
--- src/lib.rt:369:13
 answer-of-requires : tie.Need-answer-of-requires
 answer-of-requires c κs =
     let a = c .before .before .before .before .before .before .before .before .before .before .before .before .before .before .before .before .before .before .args in
@@ -47,27 +27,21 @@ answer-of-requires c κs =
     let o = result-refused 1 s _ (sym (refusal .given .1) ∙ lex-from .ensures .0) in
     omega (arith, refused-sound 1 s _ o .place-small)
 
--- src/lib.rt:371:25
 enum-known-count : tie.Need-enum-known-count
 enum-known-count c = search needs
 
--- src/lib.rt:372:13
 clear-bytes-requires : tie.Need-clear-bytes-requires
 clear-bytes-requires c κs = search needs
 
--- src/lib.rt:362:1
 same-length : tie.Need-same-length
 same-length c = search needs
 
--- src/lib.rt:362:1
 same-length-2 : tie.Need-same-length-2
 same-length-2 c = search needs
 
--- src/lib.rt:362:1
 same-length-3 : tie.Need-same-length-3
 same-length-3 c = search needs
 
--- src/lib.rt:362:1
 returns : tie.Need-returns
 unfolding readOf
 returns c =
@@ -82,19 +56,15 @@ returns c =
     let names = rw o at (lex-from .ensures .1 .1) in
     rw (o, tokens, names, answer-of .ensures, report .ensures)
 
--- src/lib.rt:362:1
 same-length-4 : tie.Need-same-length-4
 same-length-4 c = search needs
 
--- src/lib.rt:362:1
 same-length-5 : tie.Need-same-length-5
 same-length-5 c = search needs
 
--- src/lib.rt:362:1
 same-length-6 : tie.Need-same-length-6
 same-length-6 c = search needs
 
--- src/lib.rt:362:1
 returns-2 : tie.Need-returns-2
 returns-2 c =
     let a = c .before .before .before .before .before .before .before .before .before .before .before .before .before .before .before .before .before .before .args in

@@ -1,49 +1,29 @@
 use Rattle.pitchsleet.proofs.Cells.{whole}
-use borrow.Author.Tests.{lt-ltb, le-ltb, le-leb, lt-leb, eq-eqb, ne-eqb}
 use native.Mathlib.Omega.{arith}
-use native.Mathlib.Numerals.{add-one}
-use Prim.Native.Nat.{ℕ, suc, _+_, _-_, _*_, _≤_, _<_}
-use mathlib.Core.Path.{_≡_, refl, sym, ap, _∙_}
-use mathlib.Core.Logic.{⊎-elim}
-use mathlib.Core.List.{List, [], _∷_, _++_}
-use mathlib.Core.Bool.{Bool, true, false}
-use lib.ListN.{length, drop, take, getD}
-use lib.Seq.{drop-cons}
+use mathlib.Core.Path.{_∙_}
 use denote.Ref.{now}
 use borrow.Author.Needs.{needs}
 use Rattle.pitchsleet.proofs.read_out.Statement.{statement}
 use Rattle.pitchsleet.proofs.read_out.Tie as tie
-use Rattle.pitchsleet.proofs.read_out.Reads as reads
-use Rattle.pitchsleet.proofs.read_out.Lts as lts
-use Rattle.pitchsleet.proofs.clear_from.Reads as clear-from-reads
-use Rattle.pitchsleet.proofs.put_cells.Reads as put-cells-reads
-use Rattle.lexer.proofs.read.Reads as read-reads
 
--- src/lib.rt:63:9
 read-requires : tie.Need-read-requires
 read-requires c κs = search needs
 
--- src/lib.rt:64:5
 put-cells-requires : tie.Need-put-cells-requires
 put-cells-requires c κs = search needs
 
--- src/lib.rt:65:5
 put-cells-requires-2 : tie.Need-put-cells-requires-2
 put-cells-requires-2 c κs = search needs
 
--- src/lib.rt:66:5
 clear-from-requires : tie.Need-clear-from-requires
 clear-from-requires c κs = search needs
 
--- src/lib.rt:59:1
 same-length : tie.Need-same-length
 same-length c = search needs
 
--- src/lib.rt:59:1
 same-length-2 : tie.Need-same-length-2
 same-length-2 c = search needs
 
--- src/lib.rt:59:1
 returns : tie.Need-returns
 returns c =
     let a = c .before .before .before .before .before .before .before .before .before .before .before .before .before .before .before .before .before .before .before .before .before .before .before .before .before .args in

@@ -1,13 +1,11 @@
 use mathlib.Core.Path.{refl}
 use mathlib.Core.List.{[], _∷_}
-use Prim.Native.Nat.{_+_, _-_, _/_, _%_}
-use native.Mathlib.Nat.{add-zero}
+use Prim.Native.Nat.{_+_, _-_, _/_, _%_, ℕ, _<_}
 use denote.Ref.{now}
 use Rattle.utils.specs.Message.{digits}
 use Rattle.utils.proofs.Runs.{none, one, more, both}
 use borrow.Author.Needs.{needs}
 use native.Mathlib.Omega.{arith}
-use Prim.Native.Nat.{ℕ, _<_}
 use borrow.Fn.Kinds.{In}
 use borrow.Fn.PlainCycle.{Measures, is, falls, and}
 use Rattle.utils.proofs.put_digits.Reads as put-digits
@@ -27,7 +25,6 @@ abbrev put-digits-below : ℕ → In 1 put-digits-kinds.ps
 put-digits-below t =
     and 1 put-digits-kinds.ps (falls 1 put-digits-kinds.ps _<_ μ-put-digits t) put-digits.Pre
 
--- src/lib.rt:25:9
 put-digits-returns :
     (t : ℕ) →
     put-digits-lts.Need-returns
@@ -38,7 +35,6 @@ put-digits-returns t c =
     let a = c .before .before .args in
     rw (none (a .most) (a .n) (c .if1 .taken)) (omega arith, refl, omega arith)
 
--- src/lib.rt:28:20
 put-digits-add-buf :
     (t : ℕ) →
     put-digits-lts.Need-add-buf
@@ -47,7 +43,6 @@ put-digits-add-buf :
     put-digits.Post
 put-digits-add-buf t c = search needs
 
--- src/lib.rt:28:19
 put-digits-cast-buf :
     (t : ℕ) →
     put-digits-lts.Need-cast-buf
@@ -56,28 +51,24 @@ put-digits-cast-buf :
     put-digits.Post
 put-digits-cast-buf t c = search needs
 
--- src/lib.rt:28:9
 put-digits-slice-write-buf : (t : ℕ) → put-digits-lts.Need-slice-write-buf (
   put-digits-below t,
   put-digits.Post,
 ) (put-digits-at t) put-digits.Post
 put-digits-slice-write-buf t c = search needs
 
--- src/lib.rt:29:16
 put-digits-add-result : (t : ℕ) → put-digits-lts.Need-add-result (
   put-digits-below t,
   put-digits.Post,
 ) (put-digits-at t) put-digits.Post
 put-digits-add-result t c = search needs
 
--- src/lib.rt:29:9
 put-digits-same-length : (t : ℕ) → put-digits-lts.Need-same-length (
   put-digits-below t,
   put-digits.Post,
 ) (put-digits-at t) put-digits.Post
 put-digits-same-length t c = search needs
 
--- src/lib.rt:29:9
 put-digits-returns-2 : (t : ℕ) → put-digits-lts.Need-returns-2 (
   put-digits-below t,
   put-digits.Post,
@@ -86,56 +77,48 @@ put-digits-returns-2 t c =
     let a = c .before .before .before .args in
     rw (one (a .most) (a .n) (c .before .if1 .left) (c .if2 .taken)) (omega arith, refl, omega arith)
 
--- src/lib.rt:31:41
 put-digits-sub-put-digits : (t : ℕ) → put-digits-lts.Need-sub-put-digits (
   put-digits-below t,
   put-digits.Post,
 ) (put-digits-at t) put-digits.Post
 put-digits-sub-put-digits t c = search needs
 
--- src/lib.rt:31:9
 put-digits-put-digits-requires : (t : ℕ) → put-digits-lts.Need-put-digits-requires (
   put-digits-below t,
   put-digits.Post,
 ) (put-digits-at t) put-digits.Post
 put-digits-put-digits-requires t c κs = search needs
 
--- src/lib.rt:32:15
 put-digits-add-buf-2 : (t : ℕ) → put-digits-lts.Need-add-buf-2 (
   put-digits-below t,
   put-digits.Post,
 ) (put-digits-at t) put-digits.Post
 put-digits-add-buf-2 t c = search needs
 
--- src/lib.rt:32:14
 put-digits-cast-buf-2 : (t : ℕ) → put-digits-lts.Need-cast-buf-2 (
   put-digits-below t,
   put-digits.Post,
 ) (put-digits-at t) put-digits.Post
 put-digits-cast-buf-2 t c = search needs
 
--- src/lib.rt:32:5
 put-digits-slice-write-buf-2 : (t : ℕ) → put-digits-lts.Need-slice-write-buf-2 (
   put-digits-below t,
   put-digits.Post,
 ) (put-digits-at t) put-digits.Post
 put-digits-slice-write-buf-2 t c = search needs
 
--- src/lib.rt:33:5
 put-digits-add-result-2 : (t : ℕ) → put-digits-lts.Need-add-result-2 (
   put-digits-below t,
   put-digits.Post,
 ) (put-digits-at t) put-digits.Post
 put-digits-add-result-2 t c = search needs
 
--- src/lib.rt:20:1
 put-digits-same-length-2 : (t : ℕ) → put-digits-lts.Need-same-length-2 (
   put-digits-below t,
   put-digits.Post,
 ) (put-digits-at t) put-digits.Post
 put-digits-same-length-2 t c = search needs
 
--- src/lib.rt:20:1
 put-digits-returns-3 : (t : ℕ) → put-digits-lts.Need-returns-3 (
   put-digits-below t,
   put-digits.Post,

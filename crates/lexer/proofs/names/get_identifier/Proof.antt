@@ -1,52 +1,36 @@
-use borrow.Author.Tests.{lt-ltb, le-ltb, le-leb, lt-leb, eq-eqb, ne-eqb}
+use borrow.Author.Tests.{lt-ltb, le-ltb}
 use native.Mathlib.Omega.{arith}
-use native.Mathlib.Numerals.{add-one}
-use Prim.Native.Nat.{ℕ, suc, _+_, _-_, _*_, _≤_, _<_}
-use mathlib.Core.Path.{_≡_, refl, sym, ap, _∙_}
-use mathlib.Core.Logic.{⊎-elim}
-use mathlib.Core.List.{List, [], _∷_, _++_}
-use mathlib.Core.Bool.{Bool, true, false}
-use lib.ListN.{length, drop, take, getD}
-use lib.Seq.{drop-cons}
+use native.Mathlib.Numerals.{towards-suc}
+use Prim.Native.Nat.{_*_}
+use mathlib.Core.Path.{refl}
+use lib.ListN.{take, length-set}
+use lib.Seq.{length-take-le}
 use denote.Ref.{now}
 use borrow.Author.Needs.{needs}
-use lib.Seq.{length-take-le}
-use lib.ListN.{length-set}
-use native.Mathlib.Numerals.{towards-suc}
 use Rattle.lexer.proofs.Parts.{parts-count}
-use Rattle.lexer.specs.Steps.{partsOf}
 use Rattle.lexer.specs.Numbered.{identified}
 use Rattle.utils.specs.Bytes.{pick}
 use Rattle.lexer.proofs.names.get_identifier.Statement.{statement}
 use Rattle.lexer.proofs.names.get_identifier.Tie as tie
-use Rattle.lexer.proofs.names.get_identifier.Reads as reads
-use Rattle.lexer.proofs.names.get_identifier.Lts as lts
-use Rattle.lexer.proofs.names.lookup.Reads as lookup-reads
 
--- src/names.rt:62:9
 returns : tie.Need-returns
 unfolding identified pick
 returns c =
     let if1 = c .if1 in
     rw (lt-ltb _ _ (if1 .taken)) (refl, refl)
 
--- src/names.rt:64:11
 lookup-requires : tie.Need-lookup-requires
 lookup-requires c κs = search needs
 
--- src/names.rt:65:19
 enum-known-i : tie.Need-enum-known-i
 enum-known-i c = search needs
 
--- src/names.rt:67:16
 enum-told : tie.Need-enum-told
 enum-told c = search needs
 
--- src/names.rt:68:17
 same-length : tie.Need-same-length
 same-length c = search needs
 
--- src/names.rt:68:17
 returns-2 : tie.Need-returns-2
 unfolding identified pick
 returns-2 c =
@@ -58,47 +42,36 @@ returns-2 c =
     let count = parts-count (take (a .count * 2) (now (a .names))) (a .count) (length-take-le (a .count * 2) (now (a .names)) (omega arith)) in
     rw (le-ltb _ _ (if1 .left), ← lookup .ensures, enum-told .given .1, count, le-ltb _ _ (if2 .taken)) (refl, refl)
 
--- src/names.rt:70:21
 mul-p : tie.Need-mul-p
 mul-p c = search needs
 
--- src/names.rt:71:21
 add-q : tie.Need-add-q
 add-q c = search needs
 
--- src/names.rt:72:24
 cast-names : tie.Need-cast-names
 cast-names c = search needs
 
--- src/names.rt:72:13
 mul-names : tie.Need-mul-names
 mul-names c = search needs
 
--- src/names.rt:72:13
 slice-write-names : tie.Need-slice-write-names
 slice-write-names c = search needs
 
--- src/names.rt:73:24
 cast-names-2 : tie.Need-cast-names-2
 cast-names-2 c = search needs
 
--- src/names.rt:73:13
 mul-names-2 : tie.Need-mul-names-2
 mul-names-2 c = search needs
 
--- src/names.rt:73:13
 slice-write-names-2 : tie.Need-slice-write-names-2
 slice-write-names-2 c = simp length-set (omega arith)
 
--- src/names.rt:74:40
 cast-t19 : tie.Need-cast-t19
 cast-t19 c = search needs
 
--- src/names.rt:49:1
 same-length-2 : tie.Need-same-length-2
 same-length-2 c = search needs
 
--- src/names.rt:49:1
 returns-3 : tie.Need-returns-3
 unfolding identified pick
 returns-3 c =
@@ -107,11 +80,9 @@ returns-3 c =
     let i = c .before .i in
     rw (le-ltb _ _ (if1 .left), ← lookup .ensures, i .given .1) (refl, refl)
 
--- src/names.rt:49:1
 same-length-3 : tie.Need-same-length-3
 same-length-3 c = search needs
 
--- src/names.rt:49:1
 returns-4 : tie.Need-returns-4
 unfolding identified pick
 returns-4 c =

@@ -1,153 +1,115 @@
-use borrow.Author.Tests.{lt-ltb, le-ltb, le-leb, lt-leb, eq-eqb, ne-eqb}
-use native.Mathlib.Omega.{arith}
-use native.Mathlib.Numerals.{add-one}
-use Prim.Native.Nat.{ℕ, suc, _+_, _-_, _*_, _≤_, _<_}
-use mathlib.Core.Path.{_≡_, refl, sym, ap, _∙_}
-use mathlib.Core.Logic.{⊎-elim}
-use mathlib.Core.List.{List, [], _∷_, _++_}
-use mathlib.Core.Bool.{Bool, true, false}
-use lib.ListN.{length, drop, take, getD}
-use lib.Seq.{drop-cons}
-use denote.Ref.{now}
 use borrow.Author.Needs.{needs}
 use Rattle.lexer.proofs.report.answer_of.Statement.{statement}
 use Rattle.lexer.proofs.report.answer_of.Tie as tie
-use Rattle.lexer.proofs.report.answer_of.Reads as reads
-use Rattle.lexer.proofs.report.answer_of.Lts as lts
-use Rattle.lexer.proofs.report.refuse_at.Reads as refuse-at-reads
 
--- src/report.rt:32:27
 enum-known-refusal : tie.Need-enum-known-refusal
 enum-known-refusal c = search needs
 
--- src/report.rt:32:36
 refuse-at-requires : tie.Need-refuse-at-requires
 refuse-at-requires c κs = search needs
 
--- src/report.rt:33:35
 enum-known-refusal-2 : tie.Need-enum-known-refusal-2
 enum-known-refusal-2 c = search needs
 
--- src/report.rt:33:42
 refuse-at-requires-2 : tie.Need-refuse-at-requires-2
 refuse-at-requires-2 c κs =
     let refusal2 = c .before .refusal2 in
     let pre = c .before .before .before .pre in
     rw (refusal2 .given .1) at (pre)
 
--- src/report.rt:34:36
 enum-known-refusal-3 : tie.Need-enum-known-refusal-3
 enum-known-refusal-3 c = search needs
 
--- src/report.rt:34:43
 refuse-at-requires-3 : tie.Need-refuse-at-requires-3
 refuse-at-requires-3 c κs =
     let refusal3 = c .before .refusal3 in
     let pre = c .before .before .before .pre in
     rw (refusal3 .given .1) at (pre)
 
--- src/report.rt:35:33
 enum-known-refusal-4 : tie.Need-enum-known-refusal-4
 enum-known-refusal-4 c = search needs
 
--- src/report.rt:35:40
 refuse-at-requires-4 : tie.Need-refuse-at-requires-4
 refuse-at-requires-4 c κs =
     let refusal4 = c .before .refusal4 in
     let pre = c .before .before .before .pre in
     rw (refusal4 .given .1) at (pre)
 
--- src/report.rt:36:34
 enum-told : tie.Need-enum-told
 enum-told c = search needs
 
--- src/report.rt:36:34
 refuse-at-requires-5 : tie.Need-refuse-at-requires-5
 refuse-at-requires-5 c κs = search needs
 
--- src/report.rt:37:32
 enum-known-refusal-5 : tie.Need-enum-known-refusal-5
 enum-known-refusal-5 c = search needs
 
--- src/report.rt:37:39
 refuse-at-requires-6 : tie.Need-refuse-at-requires-6
 refuse-at-requires-6 c κs =
     let refusal5 = c .before .refusal5 in
     let pre = c .before .before .before .pre in
     rw (refusal5 .given .1) at (pre)
 
--- src/report.rt:38:31
 enum-known-refusal-6 : tie.Need-enum-known-refusal-6
 enum-known-refusal-6 c = search needs
 
--- src/report.rt:38:38
 refuse-at-requires-7 : tie.Need-refuse-at-requires-7
 refuse-at-requires-7 c κs =
     let refusal6 = c .before .refusal6 in
     let pre = c .before .before .before .pre in
     rw (refusal6 .given .1) at (pre)
 
--- src/report.rt:39:30
 enum-known-refusal-7 : tie.Need-enum-known-refusal-7
 enum-known-refusal-7 c = search needs
 
--- src/report.rt:39:37
 refuse-at-requires-8 : tie.Need-refuse-at-requires-8
 refuse-at-requires-8 c κs =
     let refusal7 = c .before .refusal7 in
     let pre = c .before .before .before .pre in
     rw (refusal7 .given .1) at (pre)
 
--- src/report.rt:27:1
 returns : tie.Need-returns
 returns c =
     let refusal = c .before .before .refusal in
     let refuse-at = c .refuse-at in
     rw (refusal .given .1) (refuse-at .ensures)
 
--- src/report.rt:27:1
 returns-2 : tie.Need-returns-2
 returns-2 c =
     let refusal2 = c .before .before .refusal2 in
     let refuse-at2 = c .refuse-at2 in
     rw (refusal2 .given .1) (refuse-at2 .ensures)
 
--- src/report.rt:27:1
 returns-3 : tie.Need-returns-3
 returns-3 c =
     let refusal3 = c .before .before .refusal3 in
     let refuse-at3 = c .refuse-at3 in
     rw (refusal3 .given .1) (refuse-at3 .ensures)
 
--- src/report.rt:27:1
 returns-4 : tie.Need-returns-4
 returns-4 c =
     let refusal4 = c .before .before .refusal4 in
     let refuse-at4 = c .refuse-at4 in
     rw (refusal4 .given .1) (refuse-at4 .ensures)
 
--- src/report.rt:27:1
 returns-5 : tie.Need-returns-5
 returns-5 c =
     let enum-told = c .before .enum-told in
     let refuse-at5 = c .refuse-at5 in
     rw (enum-told .given .1) (refuse-at5 .ensures)
 
--- src/report.rt:27:1
 returns-6 : tie.Need-returns-6
 returns-6 c =
     let refusal5 = c .before .before .refusal5 in
     let refuse-at6 = c .refuse-at6 in
     rw (refusal5 .given .1) (refuse-at6 .ensures)
 
--- src/report.rt:27:1
 returns-7 : tie.Need-returns-7
 returns-7 c =
     let refusal6 = c .before .before .refusal6 in
     let refuse-at7 = c .refuse-at7 in
     rw (refusal6 .given .1) (refuse-at7 .ensures)
 
--- src/report.rt:27:1
 returns-8 : tie.Need-returns-8
 returns-8 c =
     let refusal7 = c .before .before .refusal7 in

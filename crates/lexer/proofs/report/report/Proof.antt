@@ -1,196 +1,142 @@
-use borrow.Author.Tests.{lt-ltb, le-ltb, le-leb, lt-leb, eq-eqb, ne-eqb}
-use native.Mathlib.Omega.{arith}
-use native.Mathlib.Numerals.{add-one}
-use Prim.Native.Nat.{ℕ, suc, _+_, _-_, _*_, _≤_, _<_}
-use mathlib.Core.Path.{_≡_, refl, sym, ap, _∙_}
-use mathlib.Core.Logic.{⊎-elim}
-use mathlib.Core.List.{List, [], _∷_, _++_}
-use mathlib.Core.Bool.{Bool, true, false}
-use lib.ListN.{length, drop, take, getD}
-use lib.Seq.{drop-cons}
-use denote.Ref.{now}
 use borrow.Author.Needs.{needs}
 use Rattle.lexer.proofs.report.report.Statement.{statement}
 use Rattle.lexer.proofs.report.report.Tie as tie
-use Rattle.lexer.proofs.report.report.Reads as reads
-use Rattle.lexer.proofs.report.report.Lts as lts
-use Rattle.lexer.proofs.report.report_unexpected.Reads as report-unexpected-reads
-use Rattle.utils.proofs.error.Reads as error-reads
 
--- src/report.rt:58:27
 enum-known-refusal : tie.Need-enum-known-refusal
 enum-known-refusal c = search needs
 
--- src/report.rt:58:64
 slice-aggregate-error : tie.Need-slice-aggregate-error
 slice-aggregate-error c = search needs
 
--- src/report.rt:58:36
 error-requires : tie.Need-error-requires
 error-requires c κs = search needs
 
--- src/report.rt:59:35
 enum-known-refusal-2 : tie.Need-enum-known-refusal-2
 enum-known-refusal-2 c = search needs
 
--- src/report.rt:60:44
 slice-aggregate-error-2 : tie.Need-slice-aggregate-error-2
 slice-aggregate-error-2 c = search needs
 
--- src/report.rt:60:13
 error-requires-2 : tie.Need-error-requires-2
 error-requires-2 c κs = search needs
 
--- src/report.rt:62:33
 enum-known-refusal-3 : tie.Need-enum-known-refusal-3
 enum-known-refusal-3 c = search needs
 
--- src/report.rt:62:43
 report-unexpected-requires : tie.Need-report-unexpected-requires
 report-unexpected-requires c κs = search needs
 
--- src/report.rt:63:33
 enum-known-refusal-4 : tie.Need-enum-known-refusal-4
 enum-known-refusal-4 c = search needs
 
--- src/report.rt:66:13
 slice-aggregate-error-3 : tie.Need-slice-aggregate-error-3
 slice-aggregate-error-3 c = search needs
 
--- src/report.rt:63:40
 error-requires-3 : tie.Need-error-requires-3
 error-requires-3 c κs = search needs
 
--- src/report.rt:68:47
 enum-told : tie.Need-enum-told
 enum-told c = search needs
 
--- src/report.rt:68:59
 slice-aggregate-error-4 : tie.Need-slice-aggregate-error-4
 slice-aggregate-error-4 c = search needs
 
--- src/report.rt:68:34
 error-requires-4 : tie.Need-error-requires-4
 error-requires-4 c κs = search needs
 
--- src/report.rt:69:32
 enum-known-refusal-5 : tie.Need-enum-known-refusal-5
 enum-known-refusal-5 c = search needs
 
--- src/report.rt:69:70
 slice-aggregate-error-5 : tie.Need-slice-aggregate-error-5
 slice-aggregate-error-5 c = search needs
 
--- src/report.rt:69:39
 error-requires-5 : tie.Need-error-requires-5
 error-requires-5 c κs = search needs
 
--- src/report.rt:70:31
 enum-known-refusal-6 : tie.Need-enum-known-refusal-6
 enum-known-refusal-6 c = search needs
 
--- src/report.rt:70:69
 slice-aggregate-error-6 : tie.Need-slice-aggregate-error-6
 slice-aggregate-error-6 c = search needs
 
--- src/report.rt:70:38
 error-requires-6 : tie.Need-error-requires-6
 error-requires-6 c κs = search needs
 
--- src/report.rt:71:30
 enum-known-refusal-7 : tie.Need-enum-known-refusal-7
 enum-known-refusal-7 c = search needs
 
--- src/report.rt:71:68
 slice-aggregate-error-7 : tie.Need-slice-aggregate-error-7
 slice-aggregate-error-7 c = search needs
 
--- src/report.rt:71:37
 error-requires-7 : tie.Need-error-requires-7
 error-requires-7 c κs = search needs
 
--- src/report.rt:53:1
 same-length : tie.Need-same-length
 same-length c = search needs
 
--- src/report.rt:53:1
 returns : tie.Need-returns
 returns c =
     let refusal = c .before .before .before .before .before .before .refusal in
     let error = c .before .before .error in
     rw (refusal .given .1) (error .ensures)
 
--- src/report.rt:53:1
 same-length-2 : tie.Need-same-length-2
 same-length-2 c = search needs
 
--- src/report.rt:53:1
 returns-2 : tie.Need-returns-2
 returns-2 c =
     let refusal2 = c .before .before .before .before .before .before .refusal2 in
     let error2 = c .before .before .error2 in
     rw (refusal2 .given .1) (error2 .ensures)
 
--- src/report.rt:53:1
 same-length-3 : tie.Need-same-length-3
 same-length-3 c = search needs
 
--- src/report.rt:53:1
 returns-3 : tie.Need-returns-3
 returns-3 c =
     let refusal3 = c .before .before .before .before .before .refusal3 in
     let report-unexpected = c .before .before .report-unexpected in
     rw (refusal3 .given .1) (report-unexpected .ensures)
 
--- src/report.rt:53:1
 same-length-4 : tie.Need-same-length-4
 same-length-4 c = search needs
 
--- src/report.rt:53:1
 returns-4 : tie.Need-returns-4
 returns-4 c =
     let refusal4 = c .before .before .before .before .before .before .refusal4 in
     let error3 = c .before .before .error3 in
     rw (refusal4 .given .1) (error3 .ensures)
 
--- src/report.rt:53:1
 same-length-5 : tie.Need-same-length-5
 same-length-5 c = search needs
 
--- src/report.rt:53:1
 returns-5 : tie.Need-returns-5
 returns-5 c =
     let enum-told = c .before .before .before .before .before .enum-told in
     let error4 = c .before .before .error4 in
     rw (enum-told .given .1) (error4 .ensures)
 
--- src/report.rt:53:1
 same-length-6 : tie.Need-same-length-6
 same-length-6 c = search needs
 
--- src/report.rt:53:1
 returns-6 : tie.Need-returns-6
 returns-6 c =
     let refusal5 = c .before .before .before .before .before .before .refusal5 in
     let error5 = c .before .before .error5 in
     rw (refusal5 .given .1) (error5 .ensures)
 
--- src/report.rt:53:1
 same-length-7 : tie.Need-same-length-7
 same-length-7 c = search needs
 
--- src/report.rt:53:1
 returns-7 : tie.Need-returns-7
 returns-7 c =
     let refusal6 = c .before .before .before .before .before .before .refusal6 in
     let error6 = c .before .before .error6 in
     rw (refusal6 .given .1) (error6 .ensures)
 
--- src/report.rt:53:1
 same-length-8 : tie.Need-same-length-8
 same-length-8 c = search needs
 
--- src/report.rt:53:1
 returns-8 : tie.Need-returns-8
 returns-8 c =
     let refusal7 = c .before .before .before .before .before .before .refusal7 in

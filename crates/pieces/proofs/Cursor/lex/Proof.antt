@@ -1,46 +1,25 @@
-use borrow.Author.Tests.{lt-ltb, le-ltb, le-leb, lt-leb, eq-eqb, ne-eqb}
-use native.Mathlib.Omega.{arith}
-use native.Mathlib.Numerals.{add-one}
-use Prim.Native.Nat.{ℕ, suc, _+_, _-_, _*_, _≤_, _<_}
-use mathlib.Core.Path.{_≡_, refl, sym, ap, _∙_}
-use mathlib.Core.Logic.{⊎-elim}
-use mathlib.Core.List.{List, [], _∷_, _++_}
-use mathlib.Core.Bool.{Bool, true, false}
-use lib.ListN.{length, drop, take, getD}
-use lib.Seq.{drop-cons}
-use denote.Ref.{now}
+use borrow.Author.Tests.{le-leb, lt-leb, eq-eqb, ne-eqb}
 use borrow.Author.Needs.{needs}
-use Rattle.pieces.specs.Pieces.{nameEndAt, wordAt, thenValue, tokenFrom, pieceAt}
+use Rattle.pieces.specs.Pieces.{pieceAt}
 use Rattle.utils.specs.Bytes.{pick}
 use Rattle.pieces.proofs.Cursor.lex.Statement.{statement}
 use Rattle.pieces.proofs.Cursor.lex.Tie as tie
-use Rattle.pieces.proofs.Cursor.lex.Reads as reads
-use Rattle.pieces.proofs.Cursor.lex.Lts as lts
-use Rattle.pieces.proofs.lex.lex_slash.Reads as lex-slash-reads
-use Rattle.pieces.proofs.lex.lex_token.Reads as lex-token-reads
-use Rattle.pieces.proofs.scan.is_blank.Reads as is-blank-reads
-use Rattle.pieces.proofs.scan.line_end.Reads as line-end-reads
 
--- src/lib.rt:195:13
 returns : tie.Need-returns
 unfolding pieceAt pick
 returns c =
     let if1 = c .if1 in
     rw (le-leb _ _ (if1 .taken))
 
--- src/lib.rt:197:17
 shared-slice-read-b : tie.Need-shared-slice-read-b
 shared-slice-read-b c = search needs
 
--- src/lib.rt:200:24
 add-t11 : tie.Need-add-t11
 add-t11 c = search needs
 
--- src/lib.rt:201:23
 add-t12 : tie.Need-add-t12
 add-t12 c = search needs
 
--- src/lib.rt:199:13
 returns-2 : tie.Need-returns-2
 unfolding pieceAt pick
 returns-2 c =
@@ -48,15 +27,12 @@ returns-2 c =
     let if2 = c .if2 in
     rw (lt-leb _ _ (if1 .left), eq-eqb _ _ (if2 .taken))
 
--- src/lib.rt:204:12
 is-blank-requires : tie.Need-is-blank-requires
 is-blank-requires c κs = search needs
 
--- src/lib.rt:206:24
 add-t15 : tie.Need-add-t15
 add-t15 c = search needs
 
--- src/lib.rt:205:13
 returns-3 : tie.Need-returns-3
 unfolding pieceAt pick
 returns-3 c =
@@ -66,15 +42,12 @@ returns-3 c =
     let if3 = c .if3 in
     rw (lt-leb _ _ (if1 .left), ne-eqb _ _ (if2 .left), ← is-blank .ensures, if3 .taken)
 
--- src/lib.rt:211:46
 add-line-end : tie.Need-add-line-end
 add-line-end c = search needs
 
--- src/lib.rt:211:17
 line-end-requires : tie.Need-line-end-requires
 line-end-requires c κs = search needs
 
--- src/lib.rt:212:13
 returns-4 : tie.Need-returns-4
 unfolding pieceAt pick
 returns-4 c =
@@ -86,11 +59,9 @@ returns-4 c =
     let line-end = c .line-end in
     rw (lt-leb _ _ (if1 .left), ne-eqb _ _ (if2 .left), ← is-blank .ensures, if3 .left, eq-eqb _ _ (if4 .taken), line-end .ensures)
 
--- src/lib.rt:215:13
 lex-slash-requires : tie.Need-lex-slash-requires
 lex-slash-requires c κs = search needs
 
--- src/lib.rt:215:13
 returns-5 : tie.Need-returns-5
 unfolding pieceAt pick
 returns-5 c =
@@ -103,11 +74,9 @@ returns-5 c =
     let lex-slash = c .lex-slash in
     rw (lt-leb _ _ (if1 .left), ne-eqb _ _ (if2 .left), ← is-blank .ensures, if3 .left, ne-eqb _ _ (if4 .left), eq-eqb _ _ (if5 .taken)) (lex-slash .ensures)
 
--- src/lib.rt:217:9
 lex-token-requires : tie.Need-lex-token-requires
 lex-token-requires c κs = search needs
 
--- src/lib.rt:188:5
 returns-6 : tie.Need-returns-6
 unfolding pieceAt pick
 returns-6 c =

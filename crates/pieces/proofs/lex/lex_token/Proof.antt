@@ -1,38 +1,16 @@
-use borrow.Author.Tests.{lt-ltb, le-ltb, le-leb, lt-leb, eq-eqb, ne-eqb}
-use native.Mathlib.Omega.{arith}
-use native.Mathlib.Numerals.{add-one}
-use Prim.Native.Nat.{ℕ, suc, _+_, _-_, _*_, _≤_, _<_}
-use mathlib.Core.Path.{_≡_, refl, sym, ap, _∙_}
-use mathlib.Core.Logic.{⊎-elim}
-use mathlib.Core.List.{List, [], _∷_, _++_}
-use mathlib.Core.Bool.{Bool, true, false}
-use lib.ListN.{length, drop, take, getD}
-use lib.Seq.{drop-cons}
-use denote.Ref.{now}
+use borrow.Author.Tests.{eq-eqb, ne-eqb}
 use borrow.Author.Needs.{needs}
-use Rattle.pieces.specs.Pieces.{nameEndAt, wordAt, thenValue, tokenFrom, pieceAt}
+use Rattle.pieces.specs.Pieces.{tokenFrom}
 use Rattle.utils.specs.Bytes.{pick}
 use Rattle.pieces.proofs.lex.lex_token.Statement.{statement}
 use Rattle.pieces.proofs.lex.lex_token.Tie as tie
-use Rattle.pieces.proofs.lex.lex_token.Reads as reads
-use Rattle.pieces.proofs.lex.lex_token.Lts as lts
-use Rattle.pieces.proofs.lex.lex_digit.Reads as lex-digit-reads
-use Rattle.pieces.proofs.lex.lex_minus.Reads as lex-minus-reads
-use Rattle.pieces.proofs.lex.lex_sigil.Reads as lex-sigil-reads
-use Rattle.pieces.proofs.lex.lex_symbol.Reads as lex-symbol-reads
-use Rattle.pieces.proofs.lex.lex_word.Reads as lex-word-reads
-use Rattle.pieces.proofs.scan.is_digit.Reads as is-digit-reads
-use Rattle.pieces.proofs.scan.is_letter.Reads as is-letter-reads
 
--- src/lex.rt:149:13
 shared-slice-read-b : tie.Need-shared-slice-read-b
 shared-slice-read-b c = search needs
 
--- src/lex.rt:151:9
 lex-minus-requires : tie.Need-lex-minus-requires
 lex-minus-requires c κs = search needs
 
--- src/lex.rt:151:9
 returns : tie.Need-returns
 unfolding tokenFrom pick
 returns c =
@@ -40,11 +18,9 @@ returns c =
     let lex-minus = c .lex-minus in
     rw (eq-eqb _ _ (if1 .taken)) (lex-minus .ensures)
 
--- src/lex.rt:154:9
 lex-sigil-requires : tie.Need-lex-sigil-requires
 lex-sigil-requires c κs = search needs
 
--- src/lex.rt:154:9
 returns-2 : tie.Need-returns-2
 unfolding tokenFrom pick
 returns-2 c =
@@ -53,11 +29,9 @@ returns-2 c =
     let lex-sigil = c .lex-sigil in
     rw (ne-eqb _ _ (if1 .left), eq-eqb _ _ (if2 .taken)) (lex-sigil .ensures)
 
--- src/lex.rt:157:9
 lex-sigil-requires-2 : tie.Need-lex-sigil-requires-2
 lex-sigil-requires-2 c κs = search needs
 
--- src/lex.rt:157:9
 returns-3 : tie.Need-returns-3
 unfolding tokenFrom pick
 returns-3 c =
@@ -67,15 +41,12 @@ returns-3 c =
     let lex-sigil2 = c .lex-sigil2 in
     rw (ne-eqb _ _ (if1 .left), ne-eqb _ _ (if2 .left), eq-eqb _ _ (if3 .taken)) (lex-sigil2 .ensures)
 
--- src/lex.rt:159:8
 is-digit-requires : tie.Need-is-digit-requires
 is-digit-requires c κs = search needs
 
--- src/lex.rt:160:9
 lex-digit-requires : tie.Need-lex-digit-requires
 lex-digit-requires c κs = search needs
 
--- src/lex.rt:160:9
 returns-4 : tie.Need-returns-4
 unfolding tokenFrom pick
 returns-4 c =
@@ -87,15 +58,12 @@ returns-4 c =
     let lex-digit = c .lex-digit in
     rw (ne-eqb _ _ (if1 .left), ne-eqb _ _ (if2 .left), ne-eqb _ _ (if3 .left), ← is-digit .ensures, if4 .taken) (lex-digit .ensures)
 
--- src/lex.rt:162:8
 is-letter-requires : tie.Need-is-letter-requires
 is-letter-requires c κs = search needs
 
--- src/lex.rt:163:9
 lex-word-requires : tie.Need-lex-word-requires
 lex-word-requires c κs = search needs
 
--- src/lex.rt:163:9
 returns-5 : tie.Need-returns-5
 unfolding tokenFrom pick
 returns-5 c =
@@ -109,11 +77,9 @@ returns-5 c =
     let lex-word = c .lex-word in
     rw (ne-eqb _ _ (if1 .left), ne-eqb _ _ (if2 .left), ne-eqb _ _ (if3 .left), ← is-digit .ensures, if4 .left, ← is-letter .ensures, if5 .taken) (lex-word .ensures)
 
--- src/lex.rt:165:5
 lex-symbol-requires : tie.Need-lex-symbol-requires
 lex-symbol-requires c κs = search needs
 
--- src/lex.rt:145:1
 returns-6 : tie.Need-returns-6
 unfolding tokenFrom pick
 returns-6 c =

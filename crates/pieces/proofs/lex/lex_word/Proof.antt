@@ -1,38 +1,23 @@
-use borrow.Author.Tests.{lt-ltb, le-ltb, le-leb, lt-leb, eq-eqb, ne-eqb}
 use native.Mathlib.Omega.{arith}
-use native.Mathlib.Numerals.{add-one}
-use Prim.Native.Nat.{ℕ, suc, _+_, _-_, _*_, _≤_, _<_}
-use mathlib.Core.Path.{_≡_, refl, sym, ap, _∙_}
-use mathlib.Core.Logic.{⊎-elim}
-use mathlib.Core.List.{List, [], _∷_, _++_}
-use mathlib.Core.Bool.{Bool, true, false}
-use lib.ListN.{length, drop, take, getD}
-use lib.Seq.{drop-cons}
+use Prim.Native.Nat.{_+_, _-_}
+use mathlib.Core.Path.{_≡_, sym, _∙_}
+use lib.ListN.{drop}
+use lib.Seq.{slice}
 use denote.Ref.{now}
 use borrow.Author.Needs.{needs}
-use lib.Seq.{slice}
 use Rattle.pieces.specs.declared.OptionValue.the-variants as O
 use Rattle.pieces.specs.Tokens.{keyword}
-use Rattle.pieces.proofs.Progress.{in-text, left-from, name-end-from, name-end-to}
-use Rattle.pieces.specs.Pieces.{slashAt, nameEndAt, wordAt, thenValue, tokenFrom, pieceAt}
-use Rattle.utils.specs.Bytes.{pick}
+use Rattle.pieces.proofs.Progress.{left-from, name-end-from, name-end-to}
+use Rattle.pieces.specs.Pieces.{wordAt, thenValue}
 use Rattle.pieces.proofs.lex.lex_word.Statement.{statement}
 use Rattle.pieces.proofs.lex.lex_word.Tie as tie
-use Rattle.pieces.proofs.lex.lex_word.Reads as reads
-use Rattle.pieces.proofs.lex.lex_word.Lts as lts
-use Rattle.pieces.proofs.lex.lex_name.Reads as lex-name-reads
-use Rattle.pieces.proofs.scan.name_end.Reads as name-end-reads
-use Rattle.pieces.proofs.tokens.get_keyword.Reads as get-keyword-reads
 
--- src/lex.rt:110:36
 add-name-end : tie.Need-add-name-end
 add-name-end c = search needs
 
--- src/lex.rt:110:9
 name-end-requires : tie.Need-name-end-requires
 name-end-requires c κs = search needs
 
--- src/lex.rt:111:41
 sub-get-keyword : tie.Need-sub-get-keyword
 sub-get-keyword c =
     let a = c .before .before .args in
@@ -40,7 +25,6 @@ sub-get-keyword c =
     let from = name-end-from (drop (a .at + 1) (now (a .text))) (a .at + 1) in
     omega (arith, name-end .ensures)
 
--- src/lex.rt:111:11
 get-keyword-requires : tie.Need-get-keyword-requires
 get-keyword-requires c κs =
     let a = c .before .before .args in
@@ -50,19 +34,15 @@ get-keyword-requires c κs =
     let left = left-from (now (a .text)) (a .at + 1) (omega arith) in
     omega (arith, name-end .ensures)
 
--- src/lex.rt:112:27
 enum-known-value : tie.Need-enum-known-value
 enum-known-value c = search needs
 
--- src/lex.rt:120:30
 enum-told : tie.Need-enum-told
 enum-told c = search needs
 
--- src/lex.rt:120:30
 lex-name-requires : tie.Need-lex-name-requires
 lex-name-requires c κs = search needs
 
--- src/lex.rt:106:1
 returns : tie.Need-returns
 unfolding wordAt thenValue
 returns c =
@@ -75,7 +55,6 @@ returns c =
     let k : keyword (slice (a .at) (name-end .result) (now (a .text))) ≡ O.Some (value .given .0 .0) = sym (rw e at (get-keyword .ensures)) ∙ value .given .1 in
     rw (← name-end .ensures, k)
 
--- src/lex.rt:106:1
 returns-2 : tie.Need-returns-2
 unfolding wordAt thenValue
 returns-2 c =

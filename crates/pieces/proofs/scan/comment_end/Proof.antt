@@ -1,25 +1,15 @@
 use borrow.Author.Needs.{needs}
-use borrow.Author.Tests.{lt-ltb, le-ltb, le-leb, lt-leb, eq-eqb, ne-eqb}
-use native.Mathlib.Omega.{arith}
 use native.Mathlib.Numerals.{add-one}
-use Prim.Native.Nat.{ℕ, suc, _+_, _-_, _*_, _≤_, _<_}
-use mathlib.Core.Path.{_≡_, refl, sym, ap, _∙_}
-use mathlib.Core.Logic.{⊎-elim}
-use mathlib.Core.List.{List, [], _∷_, _++_}
-use mathlib.Core.Bool.{Bool, true, false}
-use lib.ListN.{length, drop, take, getD}
+use Prim.Native.Nat.{_-_}
+use mathlib.Core.Path.{_≡_}
+use mathlib.Core.Bool.{false}
+use lib.ListN.{length, drop, drop-of-length-le}
 use lib.Seq.{drop-cons}
 use denote.Ref.{now}
-use lib.ListN.{drop-of-length-le}
-use borrow.Author.Tests.{not-true, not-false}
-use Rattle.pieces.specs.Pieces.{lineEnd, closes, starAfter, commentEnd, nameEnd, numberAt, digitsFrom}
+use Rattle.pieces.specs.Pieces.{commentEnd}
 use Rattle.utils.specs.Bytes.{pick}
 use Rattle.pieces.proofs.scan.comment_end.Statement.{statement}
 use Rattle.pieces.proofs.scan.comment_end.Tie as tie
-use Rattle.pieces.proofs.scan.comment_end.Reads as reads
-use Rattle.pieces.proofs.scan.comment_end.Lts as lts
-use Rattle.pieces.proofs.scan.closes_comment.Reads as closes-comment-reads
-use Rattle.pieces.proofs.scan.star_after.Reads as star-after-reads
 
 abbrev Inv-loop : tie.InvT-loop
 Inv-loop text at star₀ i₀ star i = commentEnd star (drop i text) i ≡ commentEnd false (drop at text) at
@@ -27,23 +17,18 @@ Inv-loop text at star₀ i₀ star i = commentEnd star (drop i text) i ≡ comme
 abbrev μ-loop : tie.MeasureT-loop
 μ-loop text at star₀ i₀ star i = length text - i
 
--- src/scan.rt:119:5
 loop-holds : tie.Need-loop-holds Inv-loop μ-loop
 loop-holds c = search needs
 
--- src/scan.rt:120:17
 shared-slice-read-b : tie.Need-shared-slice-read-b Inv-loop μ-loop
 shared-slice-read-b c = search needs
 
--- src/scan.rt:121:12
 closes-comment-requires : tie.Need-closes-comment-requires Inv-loop μ-loop
 closes-comment-requires c κs = search needs
 
--- src/scan.rt:122:36
 add-t11 : tie.Need-add-t11 Inv-loop μ-loop
 add-t11 c = search needs
 
--- src/scan.rt:122:13
 returns : tie.Need-returns Inv-loop μ-loop
 unfolding commentEnd pick
 returns c =
@@ -55,19 +40,15 @@ returns c =
     let s = now (a .text) in
     rw (← loop .inv, drop-cons s (loop .i) 0 (loop-test .taken), ← closes-comment .ensures, if1 .taken)
 
--- src/scan.rt:124:9
 star-after-requires : tie.Need-star-after-requires Inv-loop μ-loop
 star-after-requires c κs = search needs
 
--- src/scan.rt:125:9
 add-i : tie.Need-add-i Inv-loop μ-loop
 add-i c = search needs
 
--- src/scan.rt:119:5
 loop-less : tie.Need-loop-less Inv-loop μ-loop
 loop-less c = search needs
 
--- src/scan.rt:119:5
 loop-again : tie.Need-loop-again Inv-loop μ-loop
 unfolding commentEnd pick
 loop-again c =
@@ -80,7 +61,6 @@ loop-again c =
     let s = now (a .text) in
     rw (← loop .inv, drop-cons s (loop .i) 0 (loop-test .taken), ← closes-comment .ensures, if1 .left, star-after .ensures, add-one (loop .i))
 
--- src/scan.rt:114:1
 returns-2 : tie.Need-returns-2 Inv-loop μ-loop
 unfolding commentEnd pick
 returns-2 c =

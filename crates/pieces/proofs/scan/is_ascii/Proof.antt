@@ -1,23 +1,15 @@
 use borrow.Author.Needs.{needs}
-use borrow.Author.Tests.{lt-ltb, le-ltb, le-leb, lt-leb, eq-eqb, ne-eqb}
-use native.Mathlib.Omega.{arith}
+use borrow.Author.Tests.{lt-ltb, le-ltb}
 use native.Mathlib.Numerals.{add-one}
-use Prim.Native.Nat.{ℕ, suc, _+_, _-_, _*_, _≤_, _<_}
-use mathlib.Core.Path.{_≡_, refl, sym, ap, _∙_}
-use mathlib.Core.Logic.{⊎-elim}
-use mathlib.Core.List.{List, [], _∷_, _++_}
-use mathlib.Core.Bool.{Bool, true, false}
-use lib.ListN.{length, drop, take, getD}
+use Prim.Native.Nat.{_-_}
+use mathlib.Core.Path.{_≡_}
+use lib.ListN.{length, drop, drop-of-length-le}
 use lib.Seq.{drop-cons}
 use denote.Ref.{now}
-use lib.ListN.{drop-of-length-le}
-use borrow.Author.Tests.{not-true, not-false}
-use Rattle.pieces.specs.Classes.{isBlank, isDigit, isLetter, isNamePart, isAscii}
+use Rattle.pieces.specs.Classes.{isAscii}
 use Rattle.utils.specs.Bytes.{pick}
 use Rattle.pieces.proofs.scan.is_ascii.Statement.{statement}
 use Rattle.pieces.proofs.scan.is_ascii.Tie as tie
-use Rattle.pieces.proofs.scan.is_ascii.Reads as reads
-use Rattle.pieces.proofs.scan.is_ascii.Lts as lts
 
 abbrev Inv-loop : tie.InvT-loop
 Inv-loop text i₀ i = isAscii (drop i text) ≡ isAscii text
@@ -25,15 +17,12 @@ Inv-loop text i₀ i = isAscii (drop i text) ≡ isAscii text
 abbrev μ-loop : tie.MeasureT-loop
 μ-loop text i₀ i = length text - i
 
--- src/scan.rt:61:5
 loop-holds : tie.Need-loop-holds Inv-loop μ-loop
 loop-holds c = search needs
 
--- src/scan.rt:62:18
 shared-slice-read-if1 : tie.Need-shared-slice-read-if1 Inv-loop μ-loop
 shared-slice-read-if1 c = search needs
 
--- src/scan.rt:63:13
 returns : tie.Need-returns Inv-loop μ-loop
 unfolding isAscii pick
 returns c =
@@ -44,15 +33,12 @@ returns c =
     let s = now (a .text) in
     rw (← loop .inv, drop-cons s (loop .i) 0 (loop-test .taken), lt-ltb _ _ (if1 .taken))
 
--- src/scan.rt:65:9
 add-i : tie.Need-add-i Inv-loop μ-loop
 add-i c = search needs
 
--- src/scan.rt:61:5
 loop-less : tie.Need-loop-less Inv-loop μ-loop
 loop-less c = search needs
 
--- src/scan.rt:61:5
 loop-again : tie.Need-loop-again Inv-loop μ-loop
 unfolding isAscii pick
 loop-again c =
@@ -63,7 +49,6 @@ loop-again c =
     let s = now (a .text) in
     rw (← loop .inv, drop-cons s (loop .i) 0 (loop-test .taken), le-ltb _ _ (if1 .left), add-one (loop .i))
 
--- src/scan.rt:57:1
 returns-2 : tie.Need-returns-2 Inv-loop μ-loop
 unfolding isAscii pick
 returns-2 c =

@@ -1,30 +1,15 @@
-use borrow.Author.Needs.{needs}
-use borrow.Author.Tests.{lt-ltb, le-ltb, le-leb, lt-leb, eq-eqb, ne-eqb}
-use native.Mathlib.Omega.{arith}
-use native.Mathlib.Numerals.{add-one}
-use Prim.Native.Nat.{ℕ, suc, _+_, _-_, _*_, _≤_, _<_}
-use mathlib.Core.Path.{_≡_, refl, sym, ap, _∙_}
-use mathlib.Core.Logic.{⊎-elim}
-use mathlib.Core.List.{List, [], _∷_, _++_}
-use mathlib.Core.Bool.{Bool, true, false}
-use lib.ListN.{length, drop, take, getD}
-use lib.Seq.{drop-cons}
-use denote.Ref.{now}
-use Rattle.pieces.specs.Classes.{isBlank, isDigit, isLetter, isNamePart, isAscii}
+use borrow.Author.Tests.{le-leb, lt-leb}
+use Rattle.pieces.specs.Classes.{isLetter}
 use Rattle.utils.specs.Bytes.{pick}
 use Rattle.pieces.proofs.scan.is_letter.Statement.{statement}
 use Rattle.pieces.proofs.scan.is_letter.Tie as tie
-use Rattle.pieces.proofs.scan.is_letter.Reads as reads
-use Rattle.pieces.proofs.scan.is_letter.Lts as lts
 
--- src/scan.rt:37:9
 returns : tie.Need-returns
 unfolding isLetter pick
 returns c =
     let if1 = c .if1 in
     rw (le-leb _ _ (if1 .taken))
 
--- src/scan.rt:40:9
 returns-2 : tie.Need-returns-2
 unfolding isLetter pick
 returns-2 c =
@@ -32,7 +17,6 @@ returns-2 c =
     let if2 = c .if2 in
     rw (lt-leb _ _ (if1 .left), le-leb _ _ (if2 .taken))
 
--- src/scan.rt:33:1
 returns-3 : tie.Need-returns-3
 unfolding isLetter pick
 returns-3 c =

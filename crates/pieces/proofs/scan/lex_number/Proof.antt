@@ -1,28 +1,18 @@
 use borrow.Author.Needs.{needs}
-use borrow.Author.Tests.{lt-ltb, le-ltb, le-leb, lt-leb, eq-eqb, ne-eqb}
+use borrow.Author.Tests.{not-true, not-false}
 use native.Mathlib.Omega.{arith}
 use native.Mathlib.Numerals.{add-one}
-use Prim.Native.Nat.{ℕ, suc, _+_, _-_, _*_, _≤_, _<_}
-use mathlib.Core.Path.{_≡_, refl, sym, ap, _∙_}
-use mathlib.Core.Logic.{⊎-elim}
-use mathlib.Core.List.{List, [], _∷_, _++_}
-use mathlib.Core.Bool.{Bool, true, false}
-use lib.ListN.{length, drop, take, getD}
+use Prim.Native.Nat.{ℕ, _+_, _-_, _*_}
+use mathlib.Core.Path.{_≡_, refl, sym, _∙_}
+use lib.ListN.{length, drop, getD, drop-of-length-le}
 use lib.Seq.{drop-cons}
 use denote.Ref.{now}
-use borrow.Author.Tests.{not-true, not-false}
-use lib.ListN.{drop-of-length-le}
-use Rattle.pieces.specs.Classes.{isDigit}
-use Rattle.pieces.specs.Pieces.{digitsFrom, numberAt, number, slashAt, digitAt, minusAt, nameAt, sigilAt, wordAt, symbolAt, thenValue, tokenFrom, pieceAt, onComment, nameEnd}
-use Rattle.pieces.specs.Capped.{capped, cappedNumber}
-use Rattle.pieces.proofs.Capping.{capped-low, capped-high, capped-most, capped-grow, number-low, number-high}
+use Rattle.pieces.specs.Pieces.{digitsFrom, numberAt}
+use Rattle.pieces.specs.Capped.{capped}
+use Rattle.pieces.proofs.Capping.{capped-low, capped-most, capped-grow}
 use Rattle.utils.specs.Bytes.{pick}
 use Rattle.pieces.proofs.scan.lex_number.Statement.{statement}
 use Rattle.pieces.proofs.scan.lex_number.Tie as tie
-use Rattle.pieces.proofs.scan.lex_number.Reads as reads
-use Rattle.pieces.proofs.scan.lex_number.Lts as lts
-use Rattle.pieces.proofs.scan.grow.Reads as grow-reads
-use Rattle.pieces.proofs.scan.is_digit.Reads as is-digit-reads
 
 abbrev Inv-loop : tie.InvT-loop
 Inv-loop text at value₀ i₀ value i = (n : ℕ) × (value ≡ capped n) × (digitsFrom (drop i text) i n ≡ numberAt text at)
@@ -30,19 +20,15 @@ Inv-loop text at value₀ i₀ value i = (n : ℕ) × (value ≡ capped n) × (d
 abbrev μ-loop : tie.MeasureT-loop
 μ-loop text at value₀ i₀ value i = length text - i
 
--- src/scan.rt:147:5
 loop-holds : tie.Need-loop-holds Inv-loop μ-loop
 loop-holds c = (0, sym (capped-low 0 (omega arith)), refl)
 
--- src/scan.rt:148:17
 shared-slice-read-b : tie.Need-shared-slice-read-b Inv-loop μ-loop
 shared-slice-read-b c = search needs
 
--- src/scan.rt:149:13
 is-digit-requires : tie.Need-is-digit-requires Inv-loop μ-loop
 is-digit-requires c κs = search needs
 
--- src/scan.rt:150:13
 returns : tie.Need-returns Inv-loop μ-loop
 unfolding digitsFrom pick
 returns c =
@@ -54,7 +40,6 @@ returns c =
     let s = now (a .text) in
     rw (← loop .inv .2, drop-cons s (loop .i) 0 (loop-test .taken), ← is-digit .ensures, not-true (is-digit .result) (if1 .taken), loop .inv .1)
 
--- src/scan.rt:152:9
 grow-requires : tie.Need-grow-requires Inv-loop μ-loop
 grow-requires c κs =
     let loop = c .before .before .before .before .loop in
@@ -62,15 +47,12 @@ grow-requires c κs =
     let if1 = c .if1 in
     (rw (loop .inv .1) (capped-most (loop .inv .0)), sym (is-digit .ensures) ∙ not-false _ (if1 .left))
 
--- src/scan.rt:153:9
 add-i : tie.Need-add-i Inv-loop μ-loop
 add-i c = search needs
 
--- src/scan.rt:147:5
 loop-less : tie.Need-loop-less Inv-loop μ-loop
 loop-less c = omega arith
 
--- src/scan.rt:147:5
 loop-again : tie.Need-loop-again Inv-loop μ-loop
 unfolding digitsFrom pick
 loop-again c =
@@ -85,7 +67,6 @@ loop-again c =
     let d = getD s (loop .i) 0 - 48 in
     (n * 10 + d, grow .ensures ∙ rw (loop .inv .1) (capped-grow n d), rw (← loop .inv .2, drop-cons s (loop .i) 0 (loop-test .taken), ← is-digit .ensures, not-false (is-digit .result) (if1 .left), add-one (loop .i)))
 
--- src/scan.rt:142:1
 returns-2 : tie.Need-returns-2 Inv-loop μ-loop
 unfolding digitsFrom pick
 returns-2 c =

@@ -1,23 +1,15 @@
 use borrow.Author.Needs.{needs}
-use borrow.Author.Tests.{lt-ltb, le-ltb, le-leb, lt-leb, eq-eqb, ne-eqb}
-use native.Mathlib.Omega.{arith}
+use borrow.Author.Tests.{eq-eqb, ne-eqb}
 use native.Mathlib.Numerals.{add-one}
-use Prim.Native.Nat.{ℕ, suc, _+_, _-_, _*_, _≤_, _<_}
-use mathlib.Core.Path.{_≡_, refl, sym, ap, _∙_}
-use mathlib.Core.Logic.{⊎-elim}
-use mathlib.Core.List.{List, [], _∷_, _++_}
-use mathlib.Core.Bool.{Bool, true, false}
-use lib.ListN.{length, drop, take, getD}
+use Prim.Native.Nat.{_-_}
+use mathlib.Core.Path.{_≡_}
+use lib.ListN.{length, drop, drop-of-length-le}
 use lib.Seq.{drop-cons}
 use denote.Ref.{now}
-use lib.ListN.{drop-of-length-le}
-use borrow.Author.Tests.{not-true, not-false}
-use Rattle.pieces.specs.Pieces.{lineEnd, closes, starAfter, commentEnd, nameEnd, numberAt, digitsFrom}
+use Rattle.pieces.specs.Pieces.{lineEnd}
 use Rattle.utils.specs.Bytes.{pick}
 use Rattle.pieces.proofs.scan.line_end.Statement.{statement}
 use Rattle.pieces.proofs.scan.line_end.Tie as tie
-use Rattle.pieces.proofs.scan.line_end.Reads as reads
-use Rattle.pieces.proofs.scan.line_end.Lts as lts
 
 abbrev Inv-loop : tie.InvT-loop
 Inv-loop text at i₀ i = lineEnd (drop i text) i ≡ lineEnd (drop at text) at
@@ -25,19 +17,15 @@ Inv-loop text at i₀ i = lineEnd (drop i text) i ≡ lineEnd (drop at text) at
 abbrev μ-loop : tie.MeasureT-loop
 μ-loop text at i₀ i = length text - i
 
--- src/scan.rt:85:5
 loop-holds : tie.Need-loop-holds Inv-loop μ-loop
 loop-holds c = search needs
 
--- src/scan.rt:86:12
 shared-slice-read-if1 : tie.Need-shared-slice-read-if1 Inv-loop μ-loop
 shared-slice-read-if1 c = search needs
 
--- src/scan.rt:87:20
 add-result : tie.Need-add-result Inv-loop μ-loop
 add-result c = search needs
 
--- src/scan.rt:87:13
 returns : tie.Need-returns Inv-loop μ-loop
 unfolding lineEnd pick
 returns c =
@@ -48,15 +36,12 @@ returns c =
     let s = now (a .text) in
     rw (← loop .inv, drop-cons s (loop .i) 0 (loop-test .taken), eq-eqb _ _ (if1 .taken))
 
--- src/scan.rt:89:9
 add-i : tie.Need-add-i Inv-loop μ-loop
 add-i c = search needs
 
--- src/scan.rt:85:5
 loop-less : tie.Need-loop-less Inv-loop μ-loop
 loop-less c = search needs
 
--- src/scan.rt:85:5
 loop-again : tie.Need-loop-again Inv-loop μ-loop
 unfolding lineEnd pick
 loop-again c =
@@ -67,7 +52,6 @@ loop-again c =
     let s = now (a .text) in
     rw (← loop .inv, drop-cons s (loop .i) 0 (loop-test .taken), ne-eqb _ _ (if1 .left), add-one (loop .i))
 
--- src/scan.rt:81:1
 returns-2 : tie.Need-returns-2 Inv-loop μ-loop
 unfolding lineEnd pick
 returns-2 c =

@@ -1,24 +1,15 @@
 use borrow.Author.Needs.{needs}
-use borrow.Author.Tests.{lt-ltb, le-ltb, le-leb, lt-leb, eq-eqb, ne-eqb}
-use native.Mathlib.Omega.{arith}
+use borrow.Author.Tests.{not-true, not-false}
 use native.Mathlib.Numerals.{add-one}
-use Prim.Native.Nat.{ℕ, suc, _+_, _-_, _*_, _≤_, _<_}
-use mathlib.Core.Path.{_≡_, refl, sym, ap, _∙_}
-use mathlib.Core.Logic.{⊎-elim}
-use mathlib.Core.List.{List, [], _∷_, _++_}
-use mathlib.Core.Bool.{Bool, true, false}
-use lib.ListN.{length, drop, take, getD}
+use Prim.Native.Nat.{_-_}
+use mathlib.Core.Path.{_≡_}
+use lib.ListN.{length, drop, drop-of-length-le}
 use lib.Seq.{drop-cons}
 use denote.Ref.{now}
-use lib.ListN.{drop-of-length-le}
-use borrow.Author.Tests.{not-true, not-false}
-use Rattle.pieces.specs.Pieces.{lineEnd, closes, starAfter, commentEnd, nameEnd, numberAt, digitsFrom}
+use Rattle.pieces.specs.Pieces.{nameEnd}
 use Rattle.utils.specs.Bytes.{pick}
 use Rattle.pieces.proofs.scan.name_end.Statement.{statement}
 use Rattle.pieces.proofs.scan.name_end.Tie as tie
-use Rattle.pieces.proofs.scan.name_end.Reads as reads
-use Rattle.pieces.proofs.scan.name_end.Lts as lts
-use Rattle.pieces.proofs.scan.is_name_part.Reads as is-name-part-reads
 
 abbrev Inv-loop : tie.InvT-loop
 Inv-loop text at i₀ i = nameEnd (drop i text) i ≡ nameEnd (drop at text) at
@@ -26,19 +17,15 @@ Inv-loop text at i₀ i = nameEnd (drop i text) i ≡ nameEnd (drop at text) at
 abbrev μ-loop : tie.MeasureT-loop
 μ-loop text at i₀ i = length text - i
 
--- src/scan.rt:163:5
 loop-holds : tie.Need-loop-holds Inv-loop μ-loop
 loop-holds c = search needs
 
--- src/scan.rt:164:17
 shared-slice-read-b : tie.Need-shared-slice-read-b Inv-loop μ-loop
 shared-slice-read-b c = search needs
 
--- src/scan.rt:165:13
 is-name-part-requires : tie.Need-is-name-part-requires Inv-loop μ-loop
 is-name-part-requires c κs = search needs
 
--- src/scan.rt:166:13
 returns : tie.Need-returns Inv-loop μ-loop
 unfolding nameEnd pick
 returns c =
@@ -50,15 +37,12 @@ returns c =
     let s = now (a .text) in
     rw (← loop .inv, drop-cons s (loop .i) 0 (loop-test .taken), ← is-name-part .ensures, not-true (is-name-part .result) (if1 .taken))
 
--- src/scan.rt:168:9
 add-i : tie.Need-add-i Inv-loop μ-loop
 add-i c = search needs
 
--- src/scan.rt:163:5
 loop-less : tie.Need-loop-less Inv-loop μ-loop
 loop-less c = search needs
 
--- src/scan.rt:163:5
 loop-again : tie.Need-loop-again Inv-loop μ-loop
 unfolding nameEnd pick
 loop-again c =
@@ -70,7 +54,6 @@ loop-again c =
     let s = now (a .text) in
     rw (← loop .inv, drop-cons s (loop .i) 0 (loop-test .taken), ← is-name-part .ensures, not-false (is-name-part .result) (if1 .left), add-one (loop .i))
 
--- src/scan.rt:159:1
 returns-2 : tie.Need-returns-2 Inv-loop μ-loop
 unfolding nameEnd pick
 returns-2 c =

@@ -1,25 +1,15 @@
 use borrow.Author.Needs.{needs}
-use borrow.Author.Tests.{lt-ltb, le-ltb, le-leb, lt-leb, eq-eqb, ne-eqb}
 use native.Mathlib.Omega.{arith}
-use native.Mathlib.Numerals.{add-one}
-use Prim.Native.Nat.{ℕ, suc, _+_, _-_, _*_, _≤_, _<_}
-use mathlib.Core.Path.{_≡_, refl, sym, ap, _∙_}
-use mathlib.Core.Logic.{⊎-elim}
-use mathlib.Core.List.{List, [], _∷_, _++_}
-use mathlib.Core.Bool.{Bool, true, false}
-use lib.ListN.{length, drop, take, getD}
-use lib.Seq.{drop-cons}
-use denote.Ref.{now}
+use Prim.Native.Nat.{suc, _+_, _-_, _*_, _≤_}
+use mathlib.Core.Path.{_≡_, refl}
+use mathlib.Core.Bool.{true}
 use lib.Seq.{slice}
-use Rattle.pieces.proofs.Rows.{fit-step, table, table-long, table-fits, keywords-are-words}
-use Rattle.pieces.specs.Tokens.{rowAt, rowsFrom, rowsFit, wordIn, words}
+use denote.Ref.{now}
+use Rattle.pieces.proofs.Rows.{fit-step, table}
+use Rattle.pieces.specs.Tokens.{rowsFrom, rowsFit, wordIn}
 use Rattle.utils.specs.Bytes.{pick}
 use Rattle.pieces.proofs.tokens.find_word.Statement.{statement}
 use Rattle.pieces.proofs.tokens.find_word.Tie as tie
-use Rattle.pieces.proofs.tokens.find_word.Reads as reads
-use Rattle.pieces.proofs.tokens.find_word.Lts as lts
-use Rattle.pieces.proofs.tokens.is_row.Reads as is-row-reads
-use Rattle.pieces.proofs.tokens.value_of.Reads as value-of-reads
 
 abbrev Inv-loop : tie.InvT-loop
 Inv-loop text at len table row₀ row = (row ≤ 25) × (wordIn (rowsFrom (25 - row) row table) (slice at (at + len) text) ≡ wordIn (rowsFrom 25 0 table) (slice at (at + len) text)) × (rowsFit (25 - row) row table ≡ true)
@@ -27,13 +17,11 @@ Inv-loop text at len table row₀ row = (row ≤ 25) × (wordIn (rowsFrom (25 - 
 abbrev μ-loop : tie.MeasureT-loop
 μ-loop text at len table row₀ row = 25 - row
 
--- src/tokens.rt:186:5
 loop-holds : tie.Need-loop-holds Inv-loop μ-loop
 loop-holds c =
     let pre = c .before .before .pre in
     (omega arith, refl, pre .2)
 
--- src/tokens.rt:187:12
 is-row-requires : tie.Need-is-row-requires Inv-loop μ-loop
 is-row-requires c κs =
     let loop = c .before .loop in
@@ -42,26 +30,21 @@ is-row-requires c κs =
     let fit = fit-step (25 - (loop .row + 1)) (loop .row) (now (a .table)) (rw (← e) (loop .inv .2)) in
     omega arith
 
--- src/tokens.rt:188:24
 mul-kind : tie.Need-mul-kind Inv-loop μ-loop
 mul-kind c = search needs
 
--- src/tokens.rt:189:47
 shared-slice-read-value-of : tie.Need-shared-slice-read-value-of Inv-loop μ-loop
 shared-slice-read-value-of c = search needs
 
--- src/tokens.rt:189:47
 cast-value-of : tie.Need-cast-value-of Inv-loop μ-loop
 cast-value-of c =
     let shared-slice-known3 = c .shared-slice-known3 in
     let loop = c .before .before .before .before .loop in
     omega (arith, shared-slice-known3 .given (loop .row * 7))
 
--- src/tokens.rt:189:38
 value-of-requires : tie.Need-value-of-requires Inv-loop μ-loop
 value-of-requires c κs = search needs
 
--- src/tokens.rt:189:13
 returns : tie.Need-returns Inv-loop μ-loop
 unfolding rowsFrom wordIn pick
 returns c =
@@ -72,15 +55,12 @@ returns c =
     let e : 25 - loop .row ≡ suc (25 - (loop .row + 1)) = omega arith in
     rw (← loop .inv .1, e, ← is-row .ensures, if1 .taken, value-of .ensures)
 
--- src/tokens.rt:191:9
 add-row : tie.Need-add-row Inv-loop μ-loop
 add-row c = search needs
 
--- src/tokens.rt:186:5
 loop-less : tie.Need-loop-less Inv-loop μ-loop
 loop-less c = omega arith
 
--- src/tokens.rt:186:5
 loop-again : tie.Need-loop-again Inv-loop μ-loop
 unfolding rowsFrom wordIn pick
 loop-again c =
@@ -92,7 +72,6 @@ loop-again c =
     let fit = fit-step (25 - (loop .row + 1)) (loop .row) (now (a .table)) (rw (← e) (loop .inv .2)) in
     (omega arith, rw (← loop .inv .1, e, ← is-row .ensures, if1 .left), fit .1)
 
--- src/tokens.rt:181:1
 returns-2 : tie.Need-returns-2 Inv-loop μ-loop
 unfolding rowsFrom wordIn
 returns-2 c =

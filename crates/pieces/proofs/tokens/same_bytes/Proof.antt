@@ -1,23 +1,15 @@
 use borrow.Author.Needs.{needs}
-use borrow.Author.Tests.{lt-ltb, le-ltb, le-leb, lt-leb, eq-eqb, ne-eqb}
+use borrow.Author.Tests.{eq-eqb, ne-eqb}
 use native.Mathlib.Omega.{arith}
-use native.Mathlib.Numerals.{add-one}
-use Prim.Native.Nat.{ℕ, suc, _+_, _-_, _*_, _≤_, _<_}
-use mathlib.Core.Path.{_≡_, refl, sym, ap, _∙_}
-use mathlib.Core.Logic.{⊎-elim}
-use mathlib.Core.List.{List, [], _∷_, _++_}
-use mathlib.Core.Bool.{Bool, true, false}
-use lib.ListN.{length, drop, take, getD}
-use lib.Seq.{drop-cons}
-use denote.Ref.{now}
+use Prim.Native.Nat.{_+_, _-_, _≤_}
+use mathlib.Core.Path.{_≡_, sym, _∙_}
 use lib.Seq.{slice}
+use denote.Ref.{now}
 use native.Mathlib.Nat.{add-zero}
 use Rattle.pieces.proofs.Compare.{same-step, same-end}
 use Rattle.utils.specs.Bytes.{pick, sameBytes}
 use Rattle.pieces.proofs.tokens.same_bytes.Statement.{statement}
 use Rattle.pieces.proofs.tokens.same_bytes.Tie as tie
-use Rattle.pieces.proofs.tokens.same_bytes.Reads as reads
-use Rattle.pieces.proofs.tokens.same_bytes.Lts as lts
 
 abbrev Inv-loop : tie.InvT-loop
 Inv-loop a i b j n k₀ k = (k ≤ n) × (sameBytes (slice (i + k) (i + n) a) (slice (j + k) (j + n) b) ≡ sameBytes (slice i (i + n) a) (slice j (j + n) b))
@@ -25,27 +17,21 @@ Inv-loop a i b j n k₀ k = (k ≤ n) × (sameBytes (slice (i + k) (i + n) a) (s
 abbrev μ-loop : tie.MeasureT-loop
 μ-loop a i b j n k₀ k = n - k
 
--- src/tokens.rt:138:5
 loop-holds : tie.Need-loop-holds Inv-loop μ-loop
 loop-holds c = (omega arith, simp add-zero)
 
--- src/tokens.rt:139:17
 add-p : tie.Need-add-p Inv-loop μ-loop
 add-p c = search needs
 
--- src/tokens.rt:140:17
 add-q : tie.Need-add-q Inv-loop μ-loop
 add-q c = search needs
 
--- src/tokens.rt:141:12
 shared-slice-read-if1 : tie.Need-shared-slice-read-if1 Inv-loop μ-loop
 shared-slice-read-if1 c = search needs
 
--- src/tokens.rt:141:20
 shared-slice-read-if1-2 : tie.Need-shared-slice-read-if1-2 Inv-loop μ-loop
 shared-slice-read-if1-2 c = search needs
 
--- src/tokens.rt:142:13
 returns : tie.Need-returns Inv-loop μ-loop
 unfolding pick
 returns c =
@@ -55,15 +41,12 @@ returns c =
     let if1 = c .if1 in
     rw (← loop .inv .1, same-step (now (a .a)) (now (a .b)) (a .i) (a .j) (a .n) (loop .k) (loop-test .taken) (omega arith) (omega arith), ne-eqb _ _ (if1 .taken))
 
--- src/tokens.rt:144:9
 add-k : tie.Need-add-k Inv-loop μ-loop
 add-k c = search needs
 
--- src/tokens.rt:138:5
 loop-less : tie.Need-loop-less Inv-loop μ-loop
 loop-less c = search needs
 
--- src/tokens.rt:138:5
 loop-again : tie.Need-loop-again Inv-loop μ-loop
 unfolding pick
 loop-again c =
@@ -73,7 +56,6 @@ loop-again c =
     let if1 = c .if1 in
     (omega arith, rw (← loop .inv .1, same-step (now (a .a)) (now (a .b)) (a .i) (a .j) (a .n) (loop .k) (loop-test .taken) (omega arith) (omega arith), eq-eqb _ _ (if1 .left)))
 
--- src/tokens.rt:133:1
 returns-2 : tie.Need-returns-2 Inv-loop μ-loop
 returns-2 c =
     let loop = c .before .loop in

@@ -1,23 +1,11 @@
-use borrow.Author.Needs.{needs}
-use borrow.Author.Tests.{lt-ltb, le-ltb, le-leb, lt-leb, eq-eqb, ne-eqb}
-use native.Mathlib.Omega.{arith}
-use native.Mathlib.Numerals.{add-one}
-use Prim.Native.Nat.{ℕ, suc, _+_, _-_, _*_, _≤_, _<_}
-use mathlib.Core.Path.{_≡_, refl, sym, ap, _∙_}
-use mathlib.Core.Logic.{⊎-elim}
-use mathlib.Core.List.{List, [], _∷_, _++_}
-use mathlib.Core.Bool.{Bool, true, false}
-use lib.ListN.{length, drop, take, getD}
-use lib.Seq.{drop-cons}
-use denote.Ref.{now}
-use Rattle.pieces.specs.Tokens.{kindOf, carried, valueOf, symbol}
+use borrow.Author.Tests.{ne-eqb}
+use Prim.Native.Nat.{ℕ}
+use mathlib.Core.Path.{sym, ap}
+use Rattle.pieces.specs.Tokens.{valueOf}
 use Rattle.utils.specs.Bytes.{pick}
 use Rattle.pieces.proofs.tokens.value_of.Statement.{statement}
 use Rattle.pieces.proofs.tokens.value_of.Tie as tie
-use Rattle.pieces.proofs.tokens.value_of.Reads as reads
-use Rattle.pieces.proofs.tokens.value_of.Lts as lts
 
--- src/tokens.rt:59:1
 returns : tie.Need-returns
 unfolding valueOf pick
 returns c =
@@ -25,7 +13,6 @@ returns c =
     let match = c .match in
     sym (ap (λ (k : ℕ). valueOf k (a .carried)) (match .keys1))
 
--- src/tokens.rt:59:1
 returns-2 : tie.Need-returns-2
 unfolding valueOf pick
 returns-2 c =
@@ -33,7 +20,6 @@ returns-2 c =
     let match = c .match in
     sym (ap (λ (k : ℕ). valueOf k (a .carried)) (match .keys2))
 
--- src/tokens.rt:59:1
 returns-3 : tie.Need-returns-3
 unfolding valueOf pick
 returns-3 c =
@@ -41,7 +27,6 @@ returns-3 c =
     let match = c .match in
     sym (ap (λ (k : ℕ). valueOf k (a .carried)) (match .keys3))
 
--- src/tokens.rt:59:1
 returns-4 : tie.Need-returns-4
 unfolding valueOf pick
 returns-4 c =
@@ -49,7 +34,6 @@ returns-4 c =
     let match = c .match in
     sym (ap (λ (k : ℕ). valueOf k (a .carried)) (match .keys4))
 
--- src/tokens.rt:59:1
 returns-5 : tie.Need-returns-5
 unfolding valueOf pick
 returns-5 c =
@@ -57,7 +41,6 @@ returns-5 c =
     let match = c .match in
     sym (ap (λ (k : ℕ). valueOf k (a .carried)) (match .keys5))
 
--- src/tokens.rt:59:1
 returns-6 : tie.Need-returns-6
 unfolding valueOf pick
 returns-6 c =
@@ -65,7 +48,6 @@ returns-6 c =
     let match = c .match in
     sym (ap (λ (k : ℕ). valueOf k (a .carried)) (match .keys6))
 
--- src/tokens.rt:59:1
 returns-7 : tie.Need-returns-7
 unfolding valueOf pick
 returns-7 c =
@@ -73,7 +55,6 @@ returns-7 c =
     let match = c .match in
     sym (ap (λ (k : ℕ). valueOf k (a .carried)) (match .keys7))
 
--- src/tokens.rt:59:1
 returns-8 : tie.Need-returns-8
 unfolding valueOf pick
 returns-8 c =
@@ -81,7 +62,6 @@ returns-8 c =
     let match = c .match in
     sym (ap (λ (k : ℕ). valueOf k (a .carried)) (match .keys8))
 
--- src/tokens.rt:59:1
 returns-9 : tie.Need-returns-9
 unfolding valueOf pick
 returns-9 c =
@@ -89,7 +69,6 @@ returns-9 c =
     let match = c .match in
     sym (ap (λ (k : ℕ). valueOf k (a .carried)) (match .keys9))
 
--- src/tokens.rt:59:1
 returns-10 : tie.Need-returns-10
 unfolding valueOf pick
 returns-10 c =
@@ -97,7 +76,6 @@ returns-10 c =
     let match = c .match in
     sym (ap (λ (k : ℕ). valueOf k (a .carried)) (match .keys10))
 
--- src/tokens.rt:59:1
 returns-11 : tie.Need-returns-11
 unfolding valueOf pick
 returns-11 c =
@@ -105,7 +83,6 @@ returns-11 c =
     let match = c .match in
     sym (ap (λ (k : ℕ). valueOf k (a .carried)) (match .keys11))
 
--- src/tokens.rt:59:1
 returns-12 : tie.Need-returns-12
 unfolding valueOf pick
 returns-12 c =
@@ -113,7 +90,6 @@ returns-12 c =
     let match = c .match in
     sym (ap (λ (k : ℕ). valueOf k (a .carried)) (match .keys12))
 
--- src/tokens.rt:59:1
 returns-13 : tie.Need-returns-13
 unfolding valueOf pick
 returns-13 c =
@@ -121,7 +97,6 @@ returns-13 c =
     let match = c .match in
     sym (ap (λ (k : ℕ). valueOf k (a .carried)) (match .keys13))
 
--- src/tokens.rt:59:1
 returns-14 : tie.Need-returns-14
 unfolding valueOf pick
 returns-14 c =
@@ -129,7 +104,6 @@ returns-14 c =
     let match = c .match in
     sym (ap (λ (k : ℕ). valueOf k (a .carried)) (match .keys14))
 
--- src/tokens.rt:59:1
 returns-15 : tie.Need-returns-15
 unfolding valueOf pick
 returns-15 c =
@@ -137,7 +111,6 @@ returns-15 c =
     let match = c .match in
     sym (ap (λ (k : ℕ). valueOf k (a .carried)) (match .keys15))
 
--- src/tokens.rt:59:1
 returns-16 : tie.Need-returns-16
 unfolding valueOf pick
 returns-16 c =
@@ -145,7 +118,6 @@ returns-16 c =
     let match = c .match in
     sym (ap (λ (k : ℕ). valueOf k (a .carried)) (match .keys16))
 
--- src/tokens.rt:59:1
 returns-17 : tie.Need-returns-17
 unfolding valueOf pick
 returns-17 c =
@@ -153,7 +125,6 @@ returns-17 c =
     let match = c .match in
     sym (ap (λ (k : ℕ). valueOf k (a .carried)) (match .keys17))
 
--- src/tokens.rt:59:1
 returns-18 : tie.Need-returns-18
 unfolding valueOf pick
 returns-18 c =
@@ -161,7 +132,6 @@ returns-18 c =
     let match = c .match in
     sym (ap (λ (k : ℕ). valueOf k (a .carried)) (match .keys18))
 
--- src/tokens.rt:59:1
 returns-19 : tie.Need-returns-19
 unfolding valueOf pick
 returns-19 c =
@@ -169,7 +139,6 @@ returns-19 c =
     let match = c .match in
     sym (ap (λ (k : ℕ). valueOf k (a .carried)) (match .keys19))
 
--- src/tokens.rt:59:1
 returns-20 : tie.Need-returns-20
 unfolding valueOf pick
 returns-20 c =
@@ -177,7 +146,6 @@ returns-20 c =
     let match = c .match in
     sym (ap (λ (k : ℕ). valueOf k (a .carried)) (match .keys20))
 
--- src/tokens.rt:59:1
 returns-21 : tie.Need-returns-21
 unfolding valueOf pick
 returns-21 c =
@@ -185,7 +153,6 @@ returns-21 c =
     let match = c .match in
     sym (ap (λ (k : ℕ). valueOf k (a .carried)) (match .keys21))
 
--- src/tokens.rt:59:1
 returns-22 : tie.Need-returns-22
 unfolding valueOf pick
 returns-22 c =
@@ -193,7 +160,6 @@ returns-22 c =
     let match = c .match in
     sym (ap (λ (k : ℕ). valueOf k (a .carried)) (match .keys22))
 
--- src/tokens.rt:59:1
 returns-23 : tie.Need-returns-23
 unfolding valueOf pick
 returns-23 c =
@@ -201,7 +167,6 @@ returns-23 c =
     let match = c .match in
     sym (ap (λ (k : ℕ). valueOf k (a .carried)) (match .keys23))
 
--- src/tokens.rt:59:1
 returns-24 : tie.Need-returns-24
 unfolding valueOf pick
 returns-24 c =
@@ -209,7 +174,6 @@ returns-24 c =
     let match = c .match in
     sym (ap (λ (k : ℕ). valueOf k (a .carried)) (match .keys24))
 
--- src/tokens.rt:59:1
 returns-25 : tie.Need-returns-25
 unfolding valueOf pick
 returns-25 c =
@@ -217,7 +181,6 @@ returns-25 c =
     let match = c .match in
     sym (ap (λ (k : ℕ). valueOf k (a .carried)) (match .keys25))
 
--- src/tokens.rt:59:1
 returns-26 : tie.Need-returns-26
 unfolding valueOf pick
 returns-26 c =
@@ -225,7 +188,6 @@ returns-26 c =
     let match = c .match in
     sym (ap (λ (k : ℕ). valueOf k (a .carried)) (match .keys26))
 
--- src/tokens.rt:59:1
 returns-27 : tie.Need-returns-27
 unfolding valueOf pick
 returns-27 c =
@@ -233,7 +195,6 @@ returns-27 c =
     let match = c .match in
     sym (ap (λ (k : ℕ). valueOf k (a .carried)) (match .keys27))
 
--- src/tokens.rt:59:1
 returns-28 : tie.Need-returns-28
 unfolding valueOf pick
 returns-28 c =
@@ -241,7 +202,6 @@ returns-28 c =
     let match = c .match in
     sym (ap (λ (k : ℕ). valueOf k (a .carried)) (match .keys28))
 
--- src/tokens.rt:59:1
 returns-29 : tie.Need-returns-29
 unfolding valueOf pick
 returns-29 c =
@@ -249,7 +209,6 @@ returns-29 c =
     let match = c .match in
     sym (ap (λ (k : ℕ). valueOf k (a .carried)) (match .keys29))
 
--- src/tokens.rt:59:1
 returns-30 : tie.Need-returns-30
 unfolding valueOf pick
 returns-30 c =
@@ -257,7 +216,6 @@ returns-30 c =
     let match = c .match in
     sym (ap (λ (k : ℕ). valueOf k (a .carried)) (match .keys30))
 
--- src/tokens.rt:59:1
 returns-31 : tie.Need-returns-31
 unfolding valueOf pick
 returns-31 c =
@@ -265,7 +223,6 @@ returns-31 c =
     let match = c .match in
     sym (ap (λ (k : ℕ). valueOf k (a .carried)) (match .keys31))
 
--- src/tokens.rt:59:1
 returns-32 : tie.Need-returns-32
 unfolding valueOf pick
 returns-32 c =
@@ -273,7 +230,6 @@ returns-32 c =
     let match = c .match in
     sym (ap (λ (k : ℕ). valueOf k (a .carried)) (match .keys32))
 
--- src/tokens.rt:59:1
 returns-33 : tie.Need-returns-33
 unfolding valueOf pick
 returns-33 c =
@@ -281,7 +237,6 @@ returns-33 c =
     let match = c .match in
     sym (ap (λ (k : ℕ). valueOf k (a .carried)) (match .keys33))
 
--- src/tokens.rt:59:1
 returns-34 : tie.Need-returns-34
 unfolding valueOf pick
 returns-34 c =
@@ -289,7 +244,6 @@ returns-34 c =
     let match = c .match in
     sym (ap (λ (k : ℕ). valueOf k (a .carried)) (match .keys34))
 
--- src/tokens.rt:59:1
 returns-35 : tie.Need-returns-35
 unfolding valueOf pick
 returns-35 c =
@@ -297,7 +251,6 @@ returns-35 c =
     let match = c .match in
     sym (ap (λ (k : ℕ). valueOf k (a .carried)) (match .keys35))
 
--- src/tokens.rt:59:1
 returns-36 : tie.Need-returns-36
 unfolding valueOf pick
 returns-36 c =
@@ -305,7 +258,6 @@ returns-36 c =
     let match = c .match in
     sym (ap (λ (k : ℕ). valueOf k (a .carried)) (match .keys36))
 
--- src/tokens.rt:59:1
 returns-37 : tie.Need-returns-37
 unfolding valueOf pick
 returns-37 c =
@@ -313,7 +265,6 @@ returns-37 c =
     let match = c .match in
     sym (ap (λ (k : ℕ). valueOf k (a .carried)) (match .keys37))
 
--- src/tokens.rt:59:1
 returns-38 : tie.Need-returns-38
 unfolding valueOf pick
 returns-38 c =
