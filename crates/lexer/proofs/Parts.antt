@@ -42,6 +42,7 @@ unfolding namesCells
 names-cells-snoc [] p = refl
 names-cells-snoc (q ∷ ps) p = ap (λ (l : List ℕ). q .place ∷ q .len ∷ l) (names-cells-snoc ps p)
 
-pub within-snoc : (n : ℕ) (ps : List Part) (p : Part) → Within n ps → p .place + p .len ≤ n → Within n (ps ++ (p ∷ []))
+pub within-snoc : (n : ℕ) (ps : List Part) (p : Part) → Within n ps → p .place + p .len ≤ n
+    → Within n (ps ++ (p ∷ []))
 within-snoc n [] p w h = (h, tt)
 within-snoc n (q ∷ ps) p w h = (w .0, within-snoc n ps p (w .1) h)

@@ -1,5 +1,5 @@
--- The promise of `read` as one equation and by parts, and what it shuts out: two answers that it permits are equal, and where the
--- slices have their sizes nothing that they held before has a part in the answer.
+-- The promise of `read` as one equation and by parts, and what it shuts out: two answers that it permits are equal,
+-- and where the slices have their sizes nothing that they held before has a part in the answer.
 use Prim.Native.Nat.{ℕ}
 use mathlib.Core.Path.{_≡_, refl, sym, ap, _∙_}
 use mathlib.Core.List.{List, []}

@@ -320,7 +320,8 @@ pub read-sound : (line : ℕ) (s : List ℕ) (ts : List Token) (ns : List Part)
     → lexedFrom line s ≡ Outcome.done ts ns → Sound s line ts ns
 read-sound line s ts ns e = rw e at (lexed-good line s)
 
-pub refused-sound : (line : ℕ) (s : List ℕ) (r : Refusal) → lexedFrom line s ≡ Outcome.refused r → SoundRefusal s line r
+pub refused-sound : (line : ℕ) (s : List ℕ) (r : Refusal) → lexedFrom line s ≡ Outcome.refused r
+    → SoundRefusal s line r
 refused-sound line s r e = rw e at (lexed-good line s)
 
 pub never-cut : (line : ℕ) (s : List ℕ) → lexedFrom line s ≡ Outcome.cut → ⊥

@@ -1,5 +1,5 @@
--- Why the reader's loop is right: what is left to do, done from here, gives the whole answer. `Lexing` is the loop's state with
--- the tokens and names found so far; `turn` says what one call of next_token makes of it, by cases of the piece.
+-- Why the reader's loop is right: what is left to do, done from here, gives the whole answer. `Lexing` is the loop's
+-- state with the tokens and names found so far; `turn` says what next_token makes of it, by cases of the piece.
 use Prim.Native.Nat.{ℕ, suc, _+_, _-_, _*_, _≤_, _<_}
 use mathlib.Core.Path.{_≡_, refl, sym, ap, _∙_}
 use mathlib.Core.List.{List, [], _∷_, _++_}
@@ -99,7 +99,7 @@ start s first t n i j e f =
     }
 
 -- a token made: the refusal where there is no room for it, and the state where there is
-pub record Made (s : List ℕ) (first : ℕ) (t₀ n₀ t n : List ℕ) (count known : ℕ) (at : Cursor) (u : Token) (c : Cursor) : Type 0 where
+pub record Made (s : List ℕ) (first : ℕ) (t₀ n₀ t n : List ℕ) (count known : ℕ) (at c : Cursor) (u : Token) : Type 0 where
   pub later : at .place < c .place
   pub inside : c .place ≤ length s
   pub place : u .place ≤ length s
@@ -127,13 +127,13 @@ pub record Closed (s : List ℕ) (first : ℕ) (t₀ n₀ t n : List ℕ) (count
 abbrev pub After : List ℕ → ℕ → List ℕ → List ℕ → List ℕ → List ℕ → ℕ → ℕ → Cursor → Next → Type 0
 After s first t₀ n₀ t n count known at (N.Skipped c) =
     Lexing s first t₀ n₀ t n count known c × (at .place < c .place) × (c .place ≤ length s)
-After s first t₀ n₀ t n count known at (N.Token u c k) = Made s first t₀ n₀ t n count k at u c
+After s first t₀ n₀ t n count known at (N.Token u c k) = Made s first t₀ n₀ t n count k at c u
 After s first t₀ n₀ t n count known at (N.End u) = Closed s first t₀ n₀ t n count known u
 After s first t₀ n₀ t n count known at (N.Refused r) =
     (numbered s first ≡ Outcome.refused r) × (factsOf r .place ≤ length s)
 
-module _ {s : List ℕ} {first : ℕ} {t₀ n₀ t n : List ℕ} {count known : ℕ} {at : Cursor}
-    (tokens-sized : 16384 ≤ length t₀) (names-sized : 2048 ≤ length n₀) (v : Lexing s first t₀ n₀ t n count known at) where
+module _ {s : List ℕ} {first : ℕ} {t₀ n₀ t n : List ℕ} {count known : ℕ} {at : Cursor} (tokens-sized : 16384 ≤ length t₀)
+    (names-sized : 2048 ≤ length n₀) (v : Lexing s first t₀ n₀ t n count known at) where
   pub taken : partsOf (take (known * 2) n) ≡ v .parts
   taken = rw (v .parts-held, ← v .parts-counted) (cells-parts-padded (length n₀) (v .parts))
 
@@ -141,8 +141,10 @@ module _ {s : List ℕ} {first : ℕ} {t₀ n₀ t n : List ℕ} {count known : 
   stored : (u : Token) (t′ : List ℕ) → count < 4096 → t′ ≡ sets t (count * 4) (tokenCells u)
       → t′ ≡ padTo (length t₀) (tokensCells (v .found ++ (u ∷ [])))
   stored u t′ f e =
-      let l : length (tokensCells (v .found)) ≡ count * 4 = omega (arith, length-tokens-cells (v .found), v .counted) in
-      e ∙ rw (v .held, tokens-cells-snoc) (sets-pad (length t₀) (count * 4) (tokensCells (v .found)) (tokenCells u) l (omega arith))
+      let l : length (tokensCells (v .found)) ≡ count * 4 =
+      omega (arith, length-tokens-cells (v .found), v .counted) in
+      e ∙ rw (v .held, tokens-cells-snoc)
+      (sets-pad (length t₀) (count * 4) (tokensCells (v .found)) (tokenCells u) l (omega arith))
 
   -- the pieces from a later place on, with one turn less
   fewer : (c : Cursor) → at .place < c .place → c .place ≤ length s
@@ -155,8 +157,9 @@ module _ {s : List ℕ} {first : ℕ} {t₀ n₀ t n : List ℕ} {count known : 
   made : (u : Token) (c : Cursor) (ps : List Part) (k : ℕ) (n′ : List ℕ)
       → at .place < c .place → c .place ≤ length s → c .line ≡ at .line → u .place ≡ at .place
       → length ps ≡ k → k ≤ 1024 → length n′ ≡ length n₀ → n′ ≡ padTo (length n₀) (namesCells ps) → Within (length s) ps
-      → numbered s first ≡ thenRoom (v .found) u (numberedFrom s (v .found ++ (u ∷ [])) ps (piecesFrom (v .turns) s (c .place) (c .line)))
-      → Made s first t₀ n₀ t n′ count k at u c
+      → numbered s first
+      ≡ thenRoom (v .found) u (numberedFrom s (v .found ++ (u ∷ [])) ps (piecesFrom (v .turns) s (c .place) (c .line)))
+      → Made s first t₀ n₀ t n′ count k at c u
   unfolding thenRoom pick
   made u c ps k n′ later inside line place counted few long held inner whole =
       record {
@@ -191,13 +194,16 @@ module _ {s : List ℕ} {first : ℕ} {t₀ n₀ t n : List ℕ} {count known : 
 
   -- what the numbers of the whole say of one piece
   unfolded : (p : Lexed) → pieceAt s (at .place) (at .line) ≡ p
-      → numbered s first ≡ numberedFrom s (v .found) (v .parts) (onPiece (λ c. piecesFrom (v .turns) s (c .place) (c .line)) p)
+      → numbered s first
+      ≡ numberedFrom s (v .found) (v .parts) (onPiece (λ c. piecesFrom (v .turns) s (c .place) (c .line)) p)
   unfolding piecesFrom
   unfolded p e = sym (v .same) ∙ rw e
 
   of-name : (m : Name) (c : Cursor) (i : Identified) (n′ : List ℕ)
-      → Past (length s) (at .place) (at .line) (L.Name m c) → identified s (v .parts) m ≡ i → Room (length (v .parts)) m i
-      → numbered s first ≡ numberedFrom s (v .found) (v .parts) (Pieces.spelled m (piecesFrom (v .turns) s (c .place) (c .line)))
+      → Past (length s) (at .place) (at .line) (L.Name m c)
+      → identified s (v .parts) m ≡ i → Room (length (v .parts)) m i
+      → numbered s first
+      ≡ numberedFrom s (v .found) (v .parts) (Pieces.spelled m (piecesFrom (v .turns) s (c .place) (c .line)))
       → n′ ≡ sets n (known * 2) (newCells m i)
       → After s first t₀ n₀ t n′ count known at (nextName known m c i)
   unfolding numberedFrom thenIdentified
@@ -206,18 +212,22 @@ module _ {s : List ℕ} {first : ℕ} {t₀ n₀ t n : List ℕ} {count known : 
       (v .parts-counted) (v .parts-room) (rw d (v .long-names)) (kept n′ d) (v .parts-within) (whole ∙ rw e)
   of-name m c (I.New i) n′ past e r whole d =
       let p = part (m .place) (m .len) in
-      let l : length (namesCells (v .parts)) ≡ known * 2 = omega (arith, length-names-cells (v .parts), v .parts-counted) in
-      let q : length (v .parts ++ (p ∷ [])) ≡ known + 1 = length-append (v .parts) (p ∷ []) ∙ omega (arith, v .parts-counted) in
+      let l : length (namesCells (v .parts)) ≡ known * 2 =
+      omega (arith, length-names-cells (v .parts), v .parts-counted) in
+      let q : length (v .parts ++ (p ∷ [])) ≡ known + 1 =
+      length-append (v .parts) (p ∷ []) ∙ omega (arith, v .parts-counted) in
       let room : known < 1024 = omega (arith, r, v .parts-counted) in
       let cells : List ℕ = m .place ∷ m .len ∷ [] in
       let held : n′ ≡ padTo (length n₀) (namesCells (v .parts ++ (p ∷ []))) =
-      d ∙ rw (v .parts-held, names-cells-snoc) (sets-pad (length n₀) (known * 2) (namesCells (v .parts)) cells l (omega arith)) in
-      made (named m i) c (v .parts ++ (p ∷ [])) (known + 1) n′ (past .on) (past .within) (past .same-line) (past .name-place)
-      q (omega arith) (rw d (length-sets n _ cells ∙ v .long-names)) held
+      d ∙ rw (v .parts-held, names-cells-snoc)
+      (sets-pad (length n₀) (known * 2) (namesCells (v .parts)) cells l (omega arith)) in
+      made (named m i) c (v .parts ++ (p ∷ [])) (known + 1) n′ (past .on) (past .within) (past .same-line)
+      (past .name-place) q (omega arith) (rw d (length-sets n _ cells ∙ v .long-names)) held
       (within-snoc (length s) (v .parts) p (v .parts-within) (omega (arith, past .name-end, past .within))) (whole ∙ rw e)
   of-name m c (I.Refused x) n′ past e r whole d = (whole ∙ rw e, omega (arith, r, past .name-place, v .within))
 
-  of-piece : (p : Lexed) (n′ : List ℕ) → pieceAt s (at .place) (at .line) ≡ p → Past (length s) (at .place) (at .line) p
+  of-piece : (p : Lexed) (n′ : List ℕ)
+      → pieceAt s (at .place) (at .line) ≡ p → Past (length s) (at .place) (at .line) p
       → n′ ≡ sets n (known * 2) (addedBy s (v .parts) p)
       → After s first t₀ n₀ t n′ count known at (nextOf s (v .parts) known p)
   unfolding nextOf addedBy onPiece numberedFrom thenRoom pick
@@ -244,10 +254,12 @@ module _ {s : List ℕ} {first : ℕ} {t₀ n₀ t n : List ℕ} {count known : 
     past .within,
   )
   of-piece (L.Name m c) n′ e past d =
-      of-name m c (identified s (v .parts) m) n′ past refl (identified-room s (v .parts) m) (unfolded (L.Name m c) e) d
+      of-name m c (identified s (v .parts) m) n′ past refl (identified-room s (v .parts) m)
+      (unfolded (L.Name m c) e) d
   of-piece (L.Token u c) n′ e past d =
       made u c (v .parts) known n′ (past .on) (past .within) (past .same-line) (past .token-place)
-      (v .parts-counted) (v .parts-room) (rw d (v .long-names)) (kept n′ d) (v .parts-within) (unfolded (L.Token u c) e)
+      (v .parts-counted) (v .parts-room) (rw d (v .long-names)) (kept n′ d) (v .parts-within)
+      (unfolded (L.Token u c) e)
   of-piece (L.End c) n′ e past d =
       let u = token T.EndOfFile (c .line) (c .place) in
       record {

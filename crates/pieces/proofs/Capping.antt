@@ -1,5 +1,5 @@
--- Counting a number no higher than 2147483649 changes no answer: a digit more keeps two numbers above it there, and the tests
--- against 2147483647 and 2147483648 come out the same.
+-- Counting a number no higher than 2147483649 changes no answer: a digit more keeps a number that is above it there,
+-- and the tests against 2147483647 and 2147483648 come out the same.
 use Prim.Native.Nat.{ℕ, _+_, _*_, _≤_, _<_}
 use mathlib.Core.Path.{_≡_, refl, sym, ap, _∙_}
 use mathlib.Core.Bool.{Bool, true, false}
@@ -35,7 +35,11 @@ capped-most n =
 pub capped-grow : (n d : ℕ) → capped (capped n * 10 + d) ≡ capped (n * 10 + d)
 capped-grow n d =
     ⊎-elim (λ h. rw (capped-low n h))
-    (λ h. rw (capped-high n h, capped-high (2147483649 * 10 + d) (omega arith), capped-high (n * 10 + d) (omega arith)))
+    (λ h. rw (
+      capped-high n h,
+      capped-high (2147483649 * 10 + d) (omega arith),
+      capped-high (n * 10 + d) (omega arith),
+    ))
     (low-or-high n)
 
 -- a test against a number below

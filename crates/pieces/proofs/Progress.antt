@@ -99,13 +99,19 @@ pub digits-end-past : (s : List ℕ) (at v : ℕ)
     → at < length s → isDigit (getD s at 0) ≡ true → at < digitsFrom (drop at s) at v .end
 unfolding digitsFrom pick
 digits-end-past s at v h d =
-    rw (drop-cons s at 0 h, d) (omega (arith, digits-end-from (drop (suc at) s) (at + 1) (v * 10 + (getD s at 0 - 48))))
+    rw (drop-cons s at 0 h, d) (omega (
+      arith,
+      digits-end-from (drop (suc at) s) (at + 1) (v * 10 + (getD s at 0 - 48)),
+    ))
 
 pub name-end-from : (r : List ℕ) (at : ℕ) → at ≤ nameEnd r at
 unfolding nameEnd
 name-end-from [] at = omega arith
 name-end-from (b ∷ r) at =
-    pick-either (λ (e : ℕ). at ≤ e) (isNamePart b) _ _ (λ t. omega (arith, name-end-from r (at + 1))) (λ t. omega arith)
+    pick-either (λ (e : ℕ). at ≤ e) (isNamePart b) _ _ (λ t. omega (
+      arith,
+      name-end-from r (at + 1),
+    )) (λ t. omega arith)
 
 pub name-end-to : (r : List ℕ) (at : ℕ) → nameEnd r at ≤ at + length r
 unfolding nameEnd

@@ -1,4 +1,5 @@
--- The rows of the code's table of words: one row more, and the law that they are the 25 words of the Rust, each with its kind.
+-- The rows of the code's table of words: one row more, and the law that they are the 25 words of the Rust, each with
+-- its kind, shown by computation over the table.
 use Prim.Native.Nat.{ℕ, suc, _+_, _-_, _*_, _≤_}
 use Prim.Native.String.{String}
 use mathlib.Core.Path.{_≡_, refl}

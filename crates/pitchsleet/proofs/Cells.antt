@@ -17,7 +17,8 @@ use Rattle.utils.proofs.Runs.{sets-append}
 
 -- one more cell
 pub stored : (cells out : List ℕ) (at i : ℕ) → i < length cells
-    → sets (sets out (at + i * 4) (le32 (getD cells i 0))) (at + (i + 1) * 4) (le32s (drop (i + 1) cells)) ≡ sets out (at + i * 4) (le32s (drop i cells))
+    → sets (sets out (at + i * 4) (le32 (getD cells i 0))) (at + (i + 1) * 4) (le32s (drop (i + 1) cells)) ≡ sets out
+    (at + i * 4) (le32s (drop i cells))
 unfolding le32s
 stored cells out at i h =
     let e : at + (i + 1) * 4 ≡ at + i * 4 + 4 = omega arith in
@@ -29,31 +30,40 @@ unfolding le32s
 length-le32s [] = refl
 length-le32s (x ∷ s) = omega (arith, length-le32s s)
 
-pub zeroed-more : (out : List ℕ) (n i : ℕ) → i < n → sets out i (replicate (n - i) 0) ≡ sets (set out i 0) (i + 1) (replicate (n - (i + 1)) 0)
+pub zeroed-more : (out : List ℕ) (n i : ℕ) → i < n
+    → sets out i (replicate (n - i) 0) ≡ sets (set out i 0) (i + 1) (replicate (n - (i + 1)) 0)
 zeroed-more out n i h =
     let e : n - i ≡ suc (n - suc i) = omega arith in
     rw (add-one, e)
 
 -- a run over the whole list
 sets-all : (l vs : List ℕ) → length vs ≡ length l → sets l 0 vs ≡ vs
-sets-all l vs e = sets-eq vs l 0 (omega arith) ∙ rw (zero-add, drop-of-length-le l {i = length vs} (omega arith)) (append-nil vs)
+sets-all l vs e = sets-eq vs l 0 (omega arith) ∙ rw (
+  zero-add,
+  drop-of-length-le l {i = length vs} (omega arith),
+) (append-nil vs)
 
 -- two runs of cells, and zeros after them
-pub two-runs : (l b b′ o : List ℕ) (xs ys : List ℕ) → length xs ≡ 16384 → length ys ≡ 2048 → 73728 ≤ length l → b ≡ sets l 0 (le32s xs) → b′ ≡ sets b 65536 (le32s ys)
+pub two-runs : (l b b′ o : List ℕ) (xs ys : List ℕ) → length xs ≡ 16384 → length ys ≡ 2048 → 73728 ≤ length l
+    → b ≡ sets l 0 (le32s xs) → b′ ≡ sets b 65536 (le32s ys)
     → o ≡ sets b′ 73728 (replicate (length l - 73728) 0) → o ≡ padTo (length l) (le32s xs ++ le32s ys)
 two-runs l b b′ o xs ys p q h d e z =
     let lx : length (le32s xs) ≡ 65536 = omega (arith, length-le32s xs) in
     let ly : length (le32s ys) ≡ 8192 = omega (arith, length-le32s ys) in
     let xy = le32s xs ++ le32s ys in
     let lxy : length xy ≡ 73728 = length-append (le32s xs) (le32s ys) ∙ omega arith in
-    let w : b′ ≡ sets l 0 xy = e ∙ rw d (ap (λ (k : ℕ). sets (sets l 0 (le32s xs)) k (le32s ys)) (sym lx ∙ sym (zero-add _)) ∙ sym (sets-append (le32s xs) (le32s ys) l 0)) in
+    let w : b′ ≡ sets l 0 xy =
+    e ∙ rw d (ap (λ (k : ℕ). sets (sets l 0 (le32s xs)) k (le32s ys)) (sym lx ∙ sym (zero-add _))
+    ∙ sym (sets-append (le32s xs) (le32s ys) l 0)) in
     let r : List ℕ = replicate (length l - 73728) 0 in
-    let v : o ≡ sets l 0 (xy ++ r) = z ∙ rw w (ap (λ (k : ℕ). sets (sets l 0 xy) k r) (sym lxy ∙ sym (zero-add _)) ∙ sym (sets-append xy r l 0)) in
+    let v : o ≡ sets l 0 (xy ++ r) =
+    z ∙ rw w (ap (λ (k : ℕ). sets (sets l 0 xy) k r) (sym lxy ∙ sym (zero-add _)) ∙ sym (sets-append xy r l 0)) in
     let f : length (xy ++ r) ≡ length l = length-append xy r ∙ rw (lxy, length-replicate) (omega arith) in
     v ∙ sets-all l (xy ++ r) f ∙ rw lxy
 
 -- a reading, and its cells stored
-pub whole : {text t₀ n₀ m₀ : List ℕ} {r : ReadAnswer} {t n m : List ℕ} (o₀ b b′ o : List ℕ) → Reads text t₀ n₀ m₀ r t n m
+pub whole : {text t₀ n₀ m₀ : List ℕ} {r : ReadAnswer} {t n m : List ℕ} (o₀ b b′ o : List ℕ)
+    → Reads text t₀ n₀ m₀ r t n m
     → length t₀ ≡ 16384 → length n₀ ≡ 2048 → 512 ≤ length m₀ → 73728 ≤ length o₀ → length t ≡ 16384 → length n ≡ 2048
     → b ≡ sets o₀ 0 (le32s t) → b′ ≡ sets b 65536 (le32s n) → o ≡ sets b′ 73728 (replicate (length o₀ - 73728) 0)
     → export r o m ≡ exported o₀ m₀ (readOf text)

@@ -18,7 +18,8 @@ sets-append (x ∷ xs) ys l i =
     rw e (sets-append xs ys (set l i x) (suc i))
 
 -- one more store of a copy
-pub copied : (part buf : List ℕ) (at i : ℕ) → i < length part → sets buf (at + i) (drop i part) ≡ sets (set buf (at + i) (getD part i 0)) (at + (i + 1)) (drop (i + 1) part)
+pub copied : (part buf : List ℕ) (at i : ℕ) → i < length part
+    → sets buf (at + i) (drop i part) ≡ sets (set buf (at + i) (getD part i 0)) (at + (i + 1)) (drop (i + 1) part)
 copied part buf at i h =
     let e : at + (i + 1) ≡ suc (at + i) = omega arith in
     rw (drop-cons part i 0 h, e, add-one)
@@ -41,7 +42,8 @@ more (suc most) n z h =
     rw (le-ltb _ _ h, e)
 
 -- one write after another
-pub both : (b₀ b₁ b₂ xs ys : List ℕ) (at k r : ℕ) → k ≡ at + length xs → b₁ ≡ sets b₀ at xs → r ≡ k + length ys → b₂ ≡ sets b₁ k ys
+pub both : (b₀ b₁ b₂ xs ys : List ℕ) (at k r : ℕ) → k ≡ at + length xs → b₁ ≡ sets b₀ at xs → r ≡ k + length ys
+    → b₂ ≡ sets b₁ k ys
     → (r ≡ at + length (xs ++ ys)) × (b₂ ≡ sets b₀ at (xs ++ ys))
 both b₀ b₁ b₂ xs ys at k r p q u v =
     (omega (arith, length-append xs ys), v ∙ rw (p, q, sets-append xs ys b₀ at))
@@ -55,7 +57,11 @@ onZeros n m h =
     let l : 0 + length m ≤ length (zeros n) = simp (length-replicate, zero-add) h in
     let s : zeros (length m) ++ zeros (n - length m) ≡ zeros n =
     replicate-append-replicate (length m) (n - length m) 0 ∙ ap zeros (add-sub-of-le h) in
-    sets-eq m (zeros n) 0 l ∙ rw (zero-add, ← s, drop-at (zeros (length m)) (zeros (n - length m)) (length m) (length-replicate (length m) 0))
+    sets-eq m (zeros n) 0 l ∙ rw (
+      zero-add,
+      ← s,
+      drop-at (zeros (length m)) (zeros (n - length m)) (length m) (length-replicate (length m) 0),
+    )
 
 pub cleared : (b d : List ℕ) (i : ℕ) → i ≡ length b → d ≡ zeros i ++ drop i b → d ≡ zeros (length b)
 cleared b d i q p = p ∙ rw (q, drop-length b, append-nil)
@@ -66,8 +72,15 @@ drop-replicate (suc k) zero = rw zero-sub
 drop-replicate (suc k) (suc m) = rw suc-sub-suc (drop-replicate k m)
 
 -- a run of stores behind a padded list makes it longer
-pub sets-pad : (n i : ℕ) (l vs : List ℕ) → length l ≡ i → i + length vs ≤ n → sets (padTo n l) i vs ≡ padTo n (l ++ vs)
+pub sets-pad : (n i : ℕ) (l vs : List ℕ) → length l ≡ i → i + length vs ≤ n
+    → sets (padTo n l) i vs ≡ padTo n (l ++ vs)
 sets-pad n i l vs e h =
     let q : n - length l - length vs ≡ n - (length l + length vs) = omega arith in
     let h′ : length l + length vs ≤ length (padTo n l) = simp (length-append, length-replicate) (omega arith) in
-    rw (← e) (sets-eq vs (padTo n l) (length l) h′ ∙ rw (take-append-seam, drop-append-add, drop-replicate, length-append, q))
+    rw (← e) (sets-eq vs (padTo n l) (length l) h′ ∙ rw (
+      take-append-seam,
+      drop-append-add,
+      drop-replicate,
+      length-append,
+      q,
+    ))

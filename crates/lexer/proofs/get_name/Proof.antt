@@ -47,7 +47,12 @@ returns c =
     let place = cell-at .result in
     let len = cell-at2 .result in
     let e : place + len - place ≡ len = omega arith in
-    rw (← cell-at .ensures .0, ← cell-at2 .ensures .0, le-leb _ _ (if1 .taken), e) (part-slice place len (now (a .text)))
+    rw (
+      ← cell-at .ensures .0,
+      ← cell-at2 .ensures .0,
+      le-leb _ _ (if1 .taken),
+      e,
+    ) (part-slice place len (now (a .text)))
 
 sub-result-2 : tie.Need-sub-result-2
 sub-result-2 c = search needs

@@ -35,11 +35,16 @@ same-length-2 c = search needs
 returns-3 : tie.Need-returns-3
 unfolding lexedFrom pick
 returns-3 c =
-    let if1 = c .before .before .before .before .before .before .before .before .before .if1 in
+    let back8 = c .before .before .before .before .before .before .before .before in
+    let if1 = back8 .before .if1 in
     let is-ascii = c .before .before .before .before .before .before .before .before .is-ascii in
     let if2 = c .before .before .before .before .before .before .before .if2 in
     let lex-all = c .before .before .before .before .lex-all in
-    rw (le-ltb _ _ (if1 .left), ← is-ascii .ensures, not-false (is-ascii .result) (if2 .left)) (lex-all .ensures .0, lex-all .ensures .1)
+    rw (
+      le-ltb _ _ (if1 .left),
+      ← is-ascii .ensures,
+      not-false (is-ascii .result) (if2 .left),
+    ) (lex-all .ensures .0, lex-all .ensures .1)
 
 pub lex-text-spec : {M : Type 1} → statement M
 lex-text-spec =

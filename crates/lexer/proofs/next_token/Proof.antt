@@ -25,7 +25,8 @@ number-name-requires c κs =
     let name = c .before .before .name in
     let a = c .before .before .before .before .before .before .before .args in
     let pre = c .before .before .before .before .before .before .before .pre in
-    let past = rw (← lex .ensures, name .given .1) at (piece-past (now (a .text)) (a .at .place) (a .at .line) (pre .1)) in
+    let past =
+    rw (← lex .ensures, name .given .1) at (piece-past (now (a .text)) (a .at .place) (a .at .line) (pre .1)) in
     (pre .0, omega (arith, past .name-end, past .within))
 
 enum-known-end : tie.Need-enum-known-end

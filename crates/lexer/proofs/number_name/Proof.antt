@@ -32,7 +32,11 @@ returns c =
     let get-identifier = c .before .before .before .before .before .before .get-identifier in
     let i = c .before .before .i in
     let value-of = c .value-of in
-    rw (← get-identifier .ensures .0, i .given .1, value-of .ensures) (refl, rw (i .given .1) at (get-identifier .ensures .1))
+    rw (
+      ← get-identifier .ensures .0,
+      i .given .1,
+      value-of .ensures,
+    ) (refl, rw (i .given .1) at (get-identifier .ensures .1))
 
 same-length-2 : tie.Need-same-length-2
 same-length-2 c = search needs
@@ -42,7 +46,11 @@ returns-2 c =
     let get-identifier = c .before .before .before .before .before .before .get-identifier in
     let i2 = c .before .before .i2 in
     let value-of2 = c .value-of2 in
-    rw (← get-identifier .ensures .0, i2 .given .1, value-of2 .ensures) (refl, rw (i2 .given .1) at (get-identifier .ensures .1))
+    rw (
+      ← get-identifier .ensures .0,
+      i2 .given .1,
+      value-of2 .ensures,
+    ) (refl, rw (i2 .given .1) at (get-identifier .ensures .1))
 
 same-length-3 : tie.Need-same-length-3
 same-length-3 c = search needs
@@ -51,7 +59,10 @@ returns-3 : tie.Need-returns-3
 returns-3 c =
     let get-identifier = c .before .before .before .before .before .get-identifier in
     let refusal = c .before .refusal in
-    rw (← get-identifier .ensures .0, refusal .given .1) (refl, rw (refusal .given .1) at (get-identifier .ensures .1))
+    rw (← get-identifier .ensures .0, refusal .given .1) (
+      refl,
+      rw (refusal .given .1) at (get-identifier .ensures .1),
+    )
 
 pub number-name-spec : {M : Type 1} → statement M
 number-name-spec =

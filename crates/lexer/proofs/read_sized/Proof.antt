@@ -20,9 +20,11 @@ report-requires c κs = search needs
 
 answer-of-requires : tie.Need-answer-of-requires
 answer-of-requires c κs =
-    let a = c .before .before .before .before .before .before .before .before .before .before .before .before .before .before .before .before .before .before .args in
+    let back8 = c .before .before .before .before .before .before .before .before in
+    let back16 = back8 .before .before .before .before .before .before .before .before in
+    let a = back16 .before .before .args in
     let refusal = c .before .before .before .before .before .refusal in
-    let lex-from = c .before .before .before .before .before .before .before .before .before .before .before .lex-from in
+    let lex-from = back8 .before .before .before .lex-from in
     let s = now (a .text) in
     let o = result-refused 1 s _ (sym (refusal .given .1) ∙ lex-from .ensures .0) in
     omega (arith, refused-sound 1 s _ o .place-small)
@@ -45,9 +47,11 @@ same-length-3 c = search needs
 returns : tie.Need-returns
 unfolding readOf
 returns c =
-    let a = c .before .before .before .before .before .before .before .before .before .before .before .before .before .before .before .before .before .before .before .args in
+    let back8 = c .before .before .before .before .before .before .before .before in
+    let back16 = back8 .before .before .before .before .before .before .before .before in
+    let a = back16 .before .before .before .args in
     let refusal = c .before .before .before .before .before .before .refusal in
-    let lex-from = c .before .before .before .before .before .before .before .before .before .before .before .before .lex-from in
+    let lex-from = back8 .before .before .before .before .lex-from in
     let answer-of = c .answer-of in
     let report = c .before .before .before .report in
     let s = now (a .text) in
@@ -67,9 +71,11 @@ same-length-6 c = search needs
 
 returns-2 : tie.Need-returns-2
 returns-2 c =
-    let a = c .before .before .before .before .before .before .before .before .before .before .before .before .before .before .before .before .before .before .args in
+    let back8 = c .before .before .before .before .before .before .before .before in
+    let back16 = back8 .before .before .before .before .before .before .before .before in
+    let a = back16 .before .before .args in
     let count = c .before .before .before .before .before .count in
-    let lex-from = c .before .before .before .before .before .before .before .before .before .before .before .lex-from in
+    let lex-from = back8 .before .before .before .lex-from in
     let clear-bytes = c .before .before .clear-bytes in
     let s = now (a .text) in
     let d = result-done 1 s _ _ (sym (count .given .1) ∙ lex-from .ensures .0) in

@@ -49,7 +49,12 @@ returns c =
     let if1 = c .before .before .before .before .before .if1 in
     let a = c .before .before .before .before .before .before .args in
     let if2 = c .if2 in
-    simp (tokens-count, lt-ltb _ _ (if1 .taken), token-record (now (a .tokens)) (a .at) (if1 .taken), eq-eqb _ _ (if2 .taken))
+    simp (
+      tokens-count,
+      lt-ltb _ _ (if1 .taken),
+      token-record (now (a .tokens)) (a .at) (if1 .taken),
+      eq-eqb _ _ (if2 .taken),
+    )
 
 add-t11 : tie.Need-add-t11
 add-t11 c = search needs
@@ -60,7 +65,12 @@ returns-2 c =
     let if1 = c .before .before .before .before .before .if1 in
     let a = c .before .before .before .before .before .before .args in
     let if2 = c .if2 in
-    simp (tokens-count, lt-ltb _ _ (if1 .taken), token-record (now (a .tokens)) (a .at) (if1 .taken), ne-eqb _ _ (if2 .left))
+    simp (
+      tokens-count,
+      lt-ltb _ _ (if1 .taken),
+      token-record (now (a .tokens)) (a .at) (if1 .taken),
+      ne-eqb _ _ (if2 .left),
+    )
 
 returns-3 : tie.Need-returns-3
 unfolding tokenAt pick

@@ -11,7 +11,8 @@ use Rattle.pitchsleet.proofs.clear_from.Tie as tie
 
 abbrev Inv-loop : tie.InvT-loop
 Inv-loop out₀ from i₀ out i =
-    (i ≤ length out₀) × (length out ≡ length out₀) × (sets out i (replicate (length out₀ - i) 0) ≡ sets out₀ from (replicate (length out₀ - from) 0))
+    (i ≤ length out₀) × (length out ≡ length out₀) ×
+    (sets out i (replicate (length out₀ - i) 0) ≡ sets out₀ from (replicate (length out₀ - from) 0))
 
 abbrev μ-loop : tie.MeasureT-loop
 μ-loop out₀ from i₀ out i = length out₀ - i

@@ -12,7 +12,9 @@ use Rattle.pitchsleet.proofs.put_cells.Statement.{statement}
 use Rattle.pitchsleet.proofs.put_cells.Tie as tie
 
 abbrev Inv-loop : tie.InvT-loop
-Inv-loop out₀ at cells i₀ out i = (i ≤ length cells) × (length out ≡ length out₀) × (sets out (at + i * 4) (le32s (drop i cells)) ≡ sets out₀ at (le32s cells))
+Inv-loop out₀ at cells i₀ out i =
+    (i ≤ length cells) × (length out ≡ length out₀)
+    × (sets out (at + i * 4) (le32s (drop i cells)) ≡ sets out₀ at (le32s cells))
 
 abbrev μ-loop : tie.MeasureT-loop
 μ-loop out₀ at cells i₀ out i = length cells - i
@@ -43,19 +45,25 @@ loop-less c = search needs
 
 loop-again : tie.Need-loop-again Inv-loop μ-loop
 loop-again c =
+    let back8 = c .before .before .before .before .before .before .before .before in
     let put-cell = c .before .before .put-cell in
     let loop = c .before .before .before .before .before .before .loop in
-    let a = c .before .before .before .before .before .before .before .before .before .args in
+    let a = back8 .before .args in
     let loop-test = c .before .before .before .before .before .loop-test in
-    let p = put-cell in
-    (omega arith, p .kept .0 ∙ loop .inv .1, rw (p .ensures) (stored (now (a .cells)) (loop .out) (a .at) (loop .i) (loop-test .taken)) ∙ loop .inv .2)
+    let p = put-cell in (
+      omega arith,
+      p .kept .0 ∙ loop .inv .1,
+      rw (p .ensures) (stored (now (a .cells)) (loop .out) (a .at) (loop .i) (loop-test .taken)) ∙ loop .inv .2,
+    )
 
 same-length : tie.Need-same-length Inv-loop μ-loop
 same-length c = search needs
 
 returns : tie.Need-returns Inv-loop μ-loop
 unfolding le32s
-returns c = rw (drop-of-length-le (now (c .before .before .before .before .args .cells)) (c .loop-test .left)) at (c .before .loop .inv .2)
+returns c =
+    rw (drop-of-length-le (now (c .before .before .before .before .args .cells)) (c .loop-test .left)) at
+    (c .before .loop .inv .2)
 
 pub put-cells-spec : {M : Type 1} → statement M
 put-cells-spec =

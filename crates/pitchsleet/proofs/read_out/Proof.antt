@@ -26,12 +26,15 @@ same-length-2 c = search needs
 
 returns : tie.Need-returns
 returns c =
-    let a = c .before .before .before .before .before .before .before .before .before .before .before .before .before .before .before .before .before .before .before .before .before .before .before .before .before .args in
-    let put-cells = c .before .before .before .before .before .before .before .before .before .before .before .before .put-cells in
+    let back8 = c .before .before .before .before .before .before .before .before in
+    let back16 = back8 .before .before .before .before .before .before .before .before in
+    let back24 = back16 .before .before .before .before .before .before .before .before in
+    let a = back24 .before .args in
+    let put-cells = back8 .before .before .before .before .put-cells in
     let put-cells2 = c .before .before .before .before .before .before .put-cells2 in
     let clear-from = c .before .before .clear-from in
-    let read = c .before .before .before .before .before .before .before .before .before .before .before .before .before .before .before .before .before .before .read in
-    let pre = c .before .before .before .before .before .before .before .before .before .before .before .before .before .before .before .before .before .before .before .before .before .before .before .before .before .pre in
+    let read = back16 .before .before .read in
+    let pre = back24 .before .pre in
     let o₀ = now (a .out) in
     let tokens = put-cells .last .0 in
     let names = put-cells2 .last .0 in

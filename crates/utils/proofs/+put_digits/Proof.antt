@@ -126,8 +126,11 @@ put-digits-returns-3 : (t : ℕ) → put-digits-lts.Need-returns-3 (
 put-digits-returns-3 t c =
     let a = c .before .before .before .before .before .before .before .args in
     let p = c .before .before .put-digits in
-    let w = both (now (a .buf)) (p .last .0) _ (digits (a .most - 1) (a .n / 10)) ((48 + a .n % 10) ∷ []) (a .at) (p .result) (p .result + 1) (p .ensures .0) (p .ensures .1) refl refl in
-    rw (more (a .most) (a .n) (c .before .before .before .before .before .if1 .left) (c .before .before .before .before .if2 .left))
+    let w =
+    both (now (a .buf)) (p .last .0) _ (digits (a .most - 1) (a .n / 10)) ((48 + a .n % 10) ∷ []) (a .at) (p .result)
+    (p .result + 1) (p .ensures .0) (p .ensures .1) refl refl in
+    let if2 = c .before .before .before .before in
+    rw (more (a .most) (a .n) (if2 .before .if1 .left) (if2 .if2 .left))
     (w .0, w .1, omega arith)
 
 pub +put-digits-spec : {M : Type 1} → statement M

@@ -11,7 +11,8 @@ use Rattle.utils.proofs.put.Statement.{statement}
 use Rattle.utils.proofs.put.Tie as tie
 
 abbrev Inv-loop : tie.InvT-loop
-Inv-loop buf₀ at part i₀ buf i = (i ≤ length part) × (length buf ≡ length buf₀) × (sets buf (at + i) (drop i part) ≡ sets buf₀ at part)
+Inv-loop buf₀ at part i₀ buf i =
+    (i ≤ length part) × (length buf ≡ length buf₀) × (sets buf (at + i) (drop i part) ≡ sets buf₀ at part)
 
 abbrev μ-loop : tie.MeasureT-loop
 μ-loop buf₀ at part i₀ buf i = length part - i
@@ -37,8 +38,11 @@ loop-less c = search needs
 loop-again : tie.Need-loop-again Inv-loop μ-loop
 loop-again c =
     let a = c .before .before .before .args in
-    let l = c .before .before .loop in
-    (omega arith, simp length-set (omega arith), sym (copied (now (a .part)) (l .buf) (a .at) (l .i) (c .before .loop-test .taken)) ∙ l .inv .2)
+    let l = c .before .before .loop in (
+      omega arith,
+      simp length-set (omega arith),
+      sym (copied (now (a .part)) (l .buf) (a .at) (l .i) (c .before .loop-test .taken)) ∙ l .inv .2,
+    )
 
 add-result : tie.Need-add-result Inv-loop μ-loop
 add-result c = search needs

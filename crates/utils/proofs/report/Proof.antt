@@ -20,11 +20,18 @@ same-length c = search needs
 
 returns : tie.Need-returns
 returns c =
-    let a = c .before .before .before .before .before .before .before .before .before .before .before .args in
+    let back8 = c .before .before .before .before .before .before .before .before in
+    let a = back8 .before .before .before .args in
     let p = c .before .before .put-report in
     let n = length (now (a .buf)) in
     let m = reported (a .line) (now (a .item)) (now (a .text)) in
-    let h = onZeros n m (omega (arith, p .ensures .0, p .ensures .1, c .before .before .before .before .before .before .clear-bytes .kept)) in
+    let h =
+    onZeros n m (omega (
+      arith,
+      p .ensures .0,
+      p .ensures .1,
+      c .before .before .before .before .before .before .clear-bytes .kept,
+    )) in
     (rw (c .before .before .before .before .before .before .clear-bytes .ensures, sub-zero) at (p .ensures .2)) ∙ h
 
 pub report-spec : {M : Type 1} → statement M

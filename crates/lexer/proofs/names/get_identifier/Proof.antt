@@ -39,7 +39,9 @@ returns-2 c =
     let lookup = c .before .before .before .lookup in
     let enum-told = c .before .enum-told in
     let if2 = c .if2 in
-    let count = parts-count (take (a .count * 2) (now (a .names))) (a .count) (length-take-le (a .count * 2) (now (a .names)) (omega arith)) in
+    let count =
+    parts-count (take (a .count * 2) (now (a .names))) (a .count)
+    (length-take-le (a .count * 2) (now (a .names)) (omega arith)) in
     rw (le-ltb _ _ (if1 .left), ← lookup .ensures, enum-told .given .1, count, le-ltb _ _ (if2 .taken)) (refl, refl)
 
 mul-p : tie.Need-mul-p
@@ -91,8 +93,16 @@ returns-4 c =
     let lookup = c .before .before .before .lookup in
     let enum-told = c .before .enum-told in
     let if2 = c .if2 in
-    let count = parts-count (take (a .count * 2) (now (a .names))) (a .count) (length-take-le (a .count * 2) (now (a .names)) (omega arith)) in
-    rw (le-ltb _ _ (if1 .left), ← lookup .ensures, enum-told .given .1, count, lt-ltb _ _ (if2 .left)) (refl, simp towards-suc)
+    let count =
+    parts-count (take (a .count * 2) (now (a .names))) (a .count)
+    (length-take-le (a .count * 2) (now (a .names)) (omega arith)) in
+    rw (
+      le-ltb _ _ (if1 .left),
+      ← lookup .ensures,
+      enum-told .given .1,
+      count,
+      lt-ltb _ _ (if2 .left),
+    ) (refl, simp towards-suc)
 
 pub get-identifier-spec : {M : Type 1} → statement M
 get-identifier-spec =

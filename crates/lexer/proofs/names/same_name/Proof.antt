@@ -10,7 +10,8 @@ returns : tie.Need-returns
 returns c =
     let a = c .before .before .args in
     let if1 = c .if1 in
-    sym (other-part (now (a .text)) (now (a .text)) (a .a) (a .m) (a .b) (a .n) (omega arith) (omega arith) (if1 .taken))
+    let s = now (a .text) in
+    sym (other-part s s (a .a) (a .m) (a .b) (a .n) (omega arith) (omega arith) (if1 .taken))
 
 same-bytes-requires : tie.Need-same-bytes-requires
 same-bytes-requires c κs = search needs

@@ -57,7 +57,14 @@ returns-4 c =
     let if3 = c .before .before .if3 in
     let if4 = c .before .if4 in
     let line-end = c .line-end in
-    rw (lt-leb _ _ (if1 .left), ne-eqb _ _ (if2 .left), ← is-blank .ensures, if3 .left, eq-eqb _ _ (if4 .taken), line-end .ensures)
+    rw (
+      lt-leb _ _ (if1 .left),
+      ne-eqb _ _ (if2 .left),
+      ← is-blank .ensures,
+      if3 .left,
+      eq-eqb _ _ (if4 .taken),
+      line-end .ensures,
+    )
 
 lex-slash-requires : tie.Need-lex-slash-requires
 lex-slash-requires c κs = search needs
@@ -72,7 +79,14 @@ returns-5 c =
     let if4 = c .before .before .if4 in
     let if5 = c .before .if5 in
     let lex-slash = c .lex-slash in
-    rw (lt-leb _ _ (if1 .left), ne-eqb _ _ (if2 .left), ← is-blank .ensures, if3 .left, ne-eqb _ _ (if4 .left), eq-eqb _ _ (if5 .taken)) (lex-slash .ensures)
+    rw (
+      lt-leb _ _ (if1 .left),
+      ne-eqb _ _ (if2 .left),
+      ← is-blank .ensures,
+      if3 .left,
+      ne-eqb _ _ (if4 .left),
+      eq-eqb _ _ (if5 .taken),
+    ) (lex-slash .ensures)
 
 lex-token-requires : tie.Need-lex-token-requires
 lex-token-requires c κs = search needs
@@ -87,7 +101,14 @@ returns-6 c =
     let if4 = c .before .before .if4 in
     let if5 = c .before .if5 in
     let lex-token = c .lex-token in
-    rw (lt-leb _ _ (if1 .left), ne-eqb _ _ (if2 .left), ← is-blank .ensures, if3 .left, ne-eqb _ _ (if4 .left), ne-eqb _ _ (if5 .left)) (lex-token .ensures)
+    rw (
+      lt-leb _ _ (if1 .left),
+      ne-eqb _ _ (if2 .left),
+      ← is-blank .ensures,
+      if3 .left,
+      ne-eqb _ _ (if4 .left),
+      ne-eqb _ _ (if5 .left),
+    ) (lex-token .ensures)
 
 pub lex-spec : {M : Type 1} → statement M
 lex-spec =

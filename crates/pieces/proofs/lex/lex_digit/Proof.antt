@@ -19,7 +19,9 @@ returns c =
     let lex-number = c .before .lex-number in
     let a = c .before .before .before .args in
     let if1 = c .if1 in
-    let low = number-low (lex-number .result) (numberAt (now (a .text)) (a .at)) 2147483647 (omega arith) (lex-number .ensures) (if1 .taken) in
+    let low =
+    number-low (lex-number .result) (numberAt (now (a .text)) (a .at)) 2147483647 (omega arith) (lex-number .ensures)
+    (if1 .taken) in
     rw (low .0, low .1)
 
 returns-2 : tie.Need-returns-2
@@ -28,7 +30,9 @@ returns-2 c =
     let lex-number = c .before .lex-number in
     let a = c .before .before .before .args in
     let if1 = c .if1 in
-    let high = number-high (lex-number .result) (numberAt (now (a .text)) (a .at)) 2147483647 (omega arith) (lex-number .ensures) (if1 .left) in
+    let high =
+    number-high (lex-number .result) (numberAt (now (a .text)) (a .at)) 2147483647 (omega arith) (lex-number .ensures)
+    (if1 .left) in
     rw (high .0, high .1)
 
 pub lex-digit-spec : {M : Type 1} → statement M

@@ -47,7 +47,9 @@ returns-2 c =
     let peek = c .before .before .before .before .peek in
     let is-digit = c .before .before .before .is-digit in
     let if1 = c .before .before .if1 in
-    let low = number-low (lex-number .result) (numberAt (now (a .text)) (a .at + 1)) 2147483648 (omega arith) (lex-number .ensures) (if2 .taken) in
+    let low =
+    number-low (lex-number .result) (numberAt (now (a .text)) (a .at + 1)) 2147483648 (omega arith)
+    (lex-number .ensures) (if2 .taken) in
     rw (← peek .ensures, ← is-digit .ensures, not-false (is-digit .result) (if1 .left), low .0, low .1)
 
 returns-3 : tie.Need-returns-3
@@ -59,7 +61,9 @@ returns-3 c =
     let peek = c .before .before .before .before .peek in
     let is-digit = c .before .before .before .is-digit in
     let if1 = c .before .before .if1 in
-    let high = number-high (lex-number .result) (numberAt (now (a .text)) (a .at + 1)) 2147483648 (omega arith) (lex-number .ensures) (if2 .left) in
+    let high =
+    number-high (lex-number .result) (numberAt (now (a .text)) (a .at + 1)) 2147483648 (omega arith)
+    (lex-number .ensures) (if2 .left) in
     rw (← peek .ensures, ← is-digit .ensures, not-false (is-digit .result) (if1 .left), high .0)
 
 pub lex-minus-spec : {M : Type 1} → statement M

@@ -56,7 +56,13 @@ returns-4 c =
     let is-digit = c .before .before .is-digit in
     let if4 = c .before .if4 in
     let lex-digit = c .lex-digit in
-    rw (ne-eqb _ _ (if1 .left), ne-eqb _ _ (if2 .left), ne-eqb _ _ (if3 .left), ← is-digit .ensures, if4 .taken) (lex-digit .ensures)
+    rw (
+      ne-eqb _ _ (if1 .left),
+      ne-eqb _ _ (if2 .left),
+      ne-eqb _ _ (if3 .left),
+      ← is-digit .ensures,
+      if4 .taken,
+    ) (lex-digit .ensures)
 
 is-letter-requires : tie.Need-is-letter-requires
 is-letter-requires c κs = search needs
@@ -75,7 +81,15 @@ returns-5 c =
     let is-letter = c .before .before .is-letter in
     let if5 = c .before .if5 in
     let lex-word = c .lex-word in
-    rw (ne-eqb _ _ (if1 .left), ne-eqb _ _ (if2 .left), ne-eqb _ _ (if3 .left), ← is-digit .ensures, if4 .left, ← is-letter .ensures, if5 .taken) (lex-word .ensures)
+    rw (
+      ne-eqb _ _ (if1 .left),
+      ne-eqb _ _ (if2 .left),
+      ne-eqb _ _ (if3 .left),
+      ← is-digit .ensures,
+      if4 .left,
+      ← is-letter .ensures,
+      if5 .taken,
+    ) (lex-word .ensures)
 
 lex-symbol-requires : tie.Need-lex-symbol-requires
 lex-symbol-requires c κs = search needs
@@ -91,7 +105,15 @@ returns-6 c =
     let is-letter = c .before .before .is-letter in
     let if5 = c .before .if5 in
     let lex-symbol = c .lex-symbol in
-    rw (ne-eqb _ _ (if1 .left), ne-eqb _ _ (if2 .left), ne-eqb _ _ (if3 .left), ← is-digit .ensures, if4 .left, ← is-letter .ensures, if5 .left) (lex-symbol .ensures)
+    rw (
+      ne-eqb _ _ (if1 .left),
+      ne-eqb _ _ (if2 .left),
+      ne-eqb _ _ (if3 .left),
+      ← is-digit .ensures,
+      if4 .left,
+      ← is-letter .ensures,
+      if5 .left,
+    ) (lex-symbol .ensures)
 
 pub lex-token-spec : {M : Type 1} → statement M
 lex-token-spec =

@@ -52,7 +52,8 @@ returns c =
     let get-keyword = c .before .before .before .get-keyword in
     let from = name-end-from (drop (a .at + 1) (now (a .text))) (a .at + 1) in
     let e : a .at + (name-end .result - a .at) ≡ name-end .result = omega (arith, name-end .ensures) in
-    let k : keyword (slice (a .at) (name-end .result) (now (a .text))) ≡ O.Some (value .given .0 .0) = sym (rw e at (get-keyword .ensures)) ∙ value .given .1 in
+    let k : keyword (slice (a .at) (name-end .result) (now (a .text))) ≡ O.Some (value .given .0 .0) =
+    sym (rw e at (get-keyword .ensures)) ∙ value .given .1 in
     rw (← name-end .ensures, k)
 
 returns-2 : tie.Need-returns-2
@@ -65,7 +66,8 @@ returns-2 c =
     let lex-name = c .lex-name in
     let from = name-end-from (drop (a .at + 1) (now (a .text))) (a .at + 1) in
     let e : a .at + (name-end .result - a .at) ≡ name-end .result = omega (arith, name-end .ensures) in
-    let k : keyword (slice (a .at) (name-end .result) (now (a .text))) ≡ O.None = sym (rw e at (get-keyword .ensures)) ∙ enum-told .given .1 in
+    let k : keyword (slice (a .at) (name-end .result) (now (a .text))) ≡ O.None =
+    sym (rw e at (get-keyword .ensures)) ∙ enum-told .given .1 in
     rw (← name-end .ensures, k) (lex-name .ensures)
 
 pub lex-word-spec : {M : Type 1} → statement M

@@ -59,7 +59,14 @@ loop-again c =
     let if1 = c .before .if1 in
     let star-after = c .star-after in
     let s = now (a .text) in
-    rw (← loop .inv, drop-cons s (loop .i) 0 (loop-test .taken), ← closes-comment .ensures, if1 .left, star-after .ensures, add-one (loop .i))
+    rw (
+      ← loop .inv,
+      drop-cons s (loop .i) 0 (loop-test .taken),
+      ← closes-comment .ensures,
+      if1 .left,
+      star-after .ensures,
+      add-one (loop .i),
+    )
 
 returns-2 : tie.Need-returns-2 Inv-loop μ-loop
 unfolding commentEnd pick

@@ -38,7 +38,13 @@ returns c =
     let is-digit = c .before .is-digit in
     let if1 = c .if1 in
     let s = now (a .text) in
-    rw (← loop .inv .2, drop-cons s (loop .i) 0 (loop-test .taken), ← is-digit .ensures, not-true (is-digit .result) (if1 .taken), loop .inv .1)
+    rw (
+      ← loop .inv .2,
+      drop-cons s (loop .i) 0 (loop-test .taken),
+      ← is-digit .ensures,
+      not-true (is-digit .result) (if1 .taken),
+      loop .inv .1,
+    )
 
 grow-requires : tie.Need-grow-requires Inv-loop μ-loop
 grow-requires c κs =
@@ -64,8 +70,17 @@ loop-again c =
     let if1 = c .before .if1 in
     let s = now (a .text) in
     let n = loop .inv .0 in
-    let d = getD s (loop .i) 0 - 48 in
-    (n * 10 + d, grow .ensures ∙ rw (loop .inv .1) (capped-grow n d), rw (← loop .inv .2, drop-cons s (loop .i) 0 (loop-test .taken), ← is-digit .ensures, not-false (is-digit .result) (if1 .left), add-one (loop .i)))
+    let d = getD s (loop .i) 0 - 48 in (
+      n * 10 + d,
+      grow .ensures ∙ rw (loop .inv .1) (capped-grow n d),
+      rw (
+        ← loop .inv .2,
+        drop-cons s (loop .i) 0 (loop-test .taken),
+        ← is-digit .ensures,
+        not-false (is-digit .result) (if1 .left),
+        add-one (loop .i),
+      ),
+    )
 
 returns-2 : tie.Need-returns-2 Inv-loop μ-loop
 unfolding digitsFrom pick

@@ -35,7 +35,12 @@ returns c =
     let is-name-part = c .before .is-name-part in
     let if1 = c .if1 in
     let s = now (a .text) in
-    rw (← loop .inv, drop-cons s (loop .i) 0 (loop-test .taken), ← is-name-part .ensures, not-true (is-name-part .result) (if1 .taken))
+    rw (
+      ← loop .inv,
+      drop-cons s (loop .i) 0 (loop-test .taken),
+      ← is-name-part .ensures,
+      not-true (is-name-part .result) (if1 .taken),
+    )
 
 add-i : tie.Need-add-i Inv-loop μ-loop
 add-i c = search needs
@@ -52,7 +57,13 @@ loop-again c =
     let is-name-part = c .before .is-name-part in
     let if1 = c .if1 in
     let s = now (a .text) in
-    rw (← loop .inv, drop-cons s (loop .i) 0 (loop-test .taken), ← is-name-part .ensures, not-false (is-name-part .result) (if1 .left), add-one (loop .i))
+    rw (
+      ← loop .inv,
+      drop-cons s (loop .i) 0 (loop-test .taken),
+      ← is-name-part .ensures,
+      not-false (is-name-part .result) (if1 .left),
+      add-one (loop .i),
+    )
 
 returns-2 : tie.Need-returns-2 Inv-loop μ-loop
 unfolding nameEnd pick

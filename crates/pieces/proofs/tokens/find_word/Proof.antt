@@ -12,7 +12,11 @@ use Rattle.pieces.proofs.tokens.find_word.Statement.{statement}
 use Rattle.pieces.proofs.tokens.find_word.Tie as tie
 
 abbrev Inv-loop : tie.InvT-loop
-Inv-loop text at len table row₀ row = (row ≤ 25) × (wordIn (rowsFrom (25 - row) row table) (slice at (at + len) text) ≡ wordIn (rowsFrom 25 0 table) (slice at (at + len) text)) × (rowsFit (25 - row) row table ≡ true)
+Inv-loop text at len table row₀ row =
+    (row ≤ 25) ×
+    (wordIn (rowsFrom (25 - row) row table) (slice at (at + len) text)
+    ≡ wordIn (rowsFrom 25 0 table) (slice at (at + len) text))
+    × (rowsFit (25 - row) row table ≡ true)
 
 abbrev μ-loop : tie.MeasureT-loop
 μ-loop text at len table row₀ row = 25 - row

@@ -65,7 +65,16 @@ returns-9 c =
     let r5 = r4 .0 in
     let r6 = r5 .0 in
     let r7 = r6 .0 in
-    simp (ne-eqb _ _ (r0 .1), ne-eqb _ _ (r1 .1), ne-eqb _ _ (r2 .1), ne-eqb _ _ (r3 .1), ne-eqb _ _ (r4 .1), ne-eqb _ _ (r5 .1), ne-eqb _ _ (r6 .1), ne-eqb _ _ (r7 .1))
+    simp (
+      ne-eqb _ _ (r0 .1),
+      ne-eqb _ _ (r1 .1),
+      ne-eqb _ _ (r2 .1),
+      ne-eqb _ _ (r3 .1),
+      ne-eqb _ _ (r4 .1),
+      ne-eqb _ _ (r5 .1),
+      ne-eqb _ _ (r6 .1),
+      ne-eqb _ _ (r7 .1),
+    )
 
 pub from-char-spec : {M : Type 1} → statement M
 from-char-spec =

@@ -30,7 +30,9 @@ returns : tie.Need-returns
 returns c =
     let a = c .before .before .before .before .args in
     let if1 = c .if1 in
-    sym (other-part (now (a .table)) (now (a .text)) (a .row * 7 + 2) (getD (now (a .table)) (a .row * 7 + 1) 0) (a .at) (a .len) (omega arith) (omega arith) (if1 .taken))
+    let t = now (a .table) in
+    let size = getD t (a .row * 7 + 1) 0 in
+    sym (other-part t (now (a .text)) (a .row * 7 + 2) size (a .at) (a .len) (omega arith) (omega arith) (if1 .taken))
 
 same-bytes-requires : tie.Need-same-bytes-requires
 same-bytes-requires c κs = search needs

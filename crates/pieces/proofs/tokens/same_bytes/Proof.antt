@@ -12,7 +12,9 @@ use Rattle.pieces.proofs.tokens.same_bytes.Statement.{statement}
 use Rattle.pieces.proofs.tokens.same_bytes.Tie as tie
 
 abbrev Inv-loop : tie.InvT-loop
-Inv-loop a i b j n k₀ k = (k ≤ n) × (sameBytes (slice (i + k) (i + n) a) (slice (j + k) (j + n) b) ≡ sameBytes (slice i (i + n) a) (slice j (j + n) b))
+Inv-loop a i b j n k₀ k =
+    (k ≤ n)
+    × (sameBytes (slice (i + k) (i + n) a) (slice (j + k) (j + n) b) ≡ sameBytes (slice i (i + n) a) (slice j (j + n) b))
 
 abbrev μ-loop : tie.MeasureT-loop
 μ-loop a i b j n k₀ k = n - k
@@ -39,7 +41,12 @@ returns c =
     let a = c .before .before .before .before .before .args in
     let loop-test = c .before .before .before .loop-test in
     let if1 = c .if1 in
-    rw (← loop .inv .1, same-step (now (a .a)) (now (a .b)) (a .i) (a .j) (a .n) (loop .k) (loop-test .taken) (omega arith) (omega arith), ne-eqb _ _ (if1 .taken))
+    rw (
+      ← loop .inv .1,
+      same-step (now (a .a)) (now (a .b)) (a .i) (a .j) (a .n) (loop .k) (loop-test .taken) (omega arith)
+          (omega arith),
+      ne-eqb _ _ (if1 .taken),
+    )
 
 add-k : tie.Need-add-k Inv-loop μ-loop
 add-k c = search needs
@@ -53,8 +60,15 @@ loop-again c =
     let loop = c .before .before .before .before .loop in
     let a = c .before .before .before .before .before .args in
     let loop-test = c .before .before .before .loop-test in
-    let if1 = c .if1 in
-    (omega arith, rw (← loop .inv .1, same-step (now (a .a)) (now (a .b)) (a .i) (a .j) (a .n) (loop .k) (loop-test .taken) (omega arith) (omega arith), eq-eqb _ _ (if1 .left)))
+    let if1 = c .if1 in (
+      omega arith,
+      rw (
+        ← loop .inv .1,
+        same-step (now (a .a)) (now (a .b)) (a .i) (a .j) (a .n) (loop .k) (loop-test .taken) (omega arith)
+            (omega arith),
+        eq-eqb _ _ (if1 .left),
+      ),
+    )
 
 returns-2 : tie.Need-returns-2 Inv-loop μ-loop
 returns-2 c =

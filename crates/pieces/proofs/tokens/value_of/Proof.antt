@@ -306,7 +306,45 @@ returns-38 c =
     let r34 = r33 .0 in
     let r35 = r34 .0 in
     let r36 = r35 .0 in
-    simp (ne-eqb _ _ (r0 .1), ne-eqb _ _ (r1 .1), ne-eqb _ _ (r2 .1), ne-eqb _ _ (r3 .1), ne-eqb _ _ (r4 .1), ne-eqb _ _ (r5 .1), ne-eqb _ _ (r6 .1), ne-eqb _ _ (r7 .1), ne-eqb _ _ (r8 .1), ne-eqb _ _ (r9 .1), ne-eqb _ _ (r10 .1), ne-eqb _ _ (r11 .1), ne-eqb _ _ (r12 .1), ne-eqb _ _ (r13 .1), ne-eqb _ _ (r14 .1), ne-eqb _ _ (r15 .1), ne-eqb _ _ (r16 .1), ne-eqb _ _ (r17 .1), ne-eqb _ _ (r18 .1), ne-eqb _ _ (r19 .1), ne-eqb _ _ (r20 .1), ne-eqb _ _ (r21 .1), ne-eqb _ _ (r22 .1), ne-eqb _ _ (r23 .1), ne-eqb _ _ (r24 .1), ne-eqb _ _ (r25 .1), ne-eqb _ _ (r26 .1), ne-eqb _ _ (r27 .1), ne-eqb _ _ (r28 .1), ne-eqb _ _ (r29 .1), ne-eqb _ _ (r30 .1), ne-eqb _ _ (r31 .1), ne-eqb _ _ (r32 .1), ne-eqb _ _ (r33 .1), ne-eqb _ _ (r34 .1), ne-eqb _ _ (r35 .1), ne-eqb _ _ (r36 .1))
+    simp (
+      ne-eqb _ _ (r0 .1),
+      ne-eqb _ _ (r1 .1),
+      ne-eqb _ _ (r2 .1),
+      ne-eqb _ _ (r3 .1),
+      ne-eqb _ _ (r4 .1),
+      ne-eqb _ _ (r5 .1),
+      ne-eqb _ _ (r6 .1),
+      ne-eqb _ _ (r7 .1),
+      ne-eqb _ _ (r8 .1),
+      ne-eqb _ _ (r9 .1),
+      ne-eqb _ _ (r10 .1),
+      ne-eqb _ _ (r11 .1),
+      ne-eqb _ _ (r12 .1),
+      ne-eqb _ _ (r13 .1),
+      ne-eqb _ _ (r14 .1),
+      ne-eqb _ _ (r15 .1),
+      ne-eqb _ _ (r16 .1),
+      ne-eqb _ _ (r17 .1),
+      ne-eqb _ _ (r18 .1),
+      ne-eqb _ _ (r19 .1),
+      ne-eqb _ _ (r20 .1),
+      ne-eqb _ _ (r21 .1),
+      ne-eqb _ _ (r22 .1),
+      ne-eqb _ _ (r23 .1),
+      ne-eqb _ _ (r24 .1),
+      ne-eqb _ _ (r25 .1),
+      ne-eqb _ _ (r26 .1),
+      ne-eqb _ _ (r27 .1),
+      ne-eqb _ _ (r28 .1),
+      ne-eqb _ _ (r29 .1),
+      ne-eqb _ _ (r30 .1),
+      ne-eqb _ _ (r31 .1),
+      ne-eqb _ _ (r32 .1),
+      ne-eqb _ _ (r33 .1),
+      ne-eqb _ _ (r34 .1),
+      ne-eqb _ _ (r35 .1),
+      ne-eqb _ _ (r36 .1),
+    )
 
 pub value-of-spec : {M : Type 1} → statement M
 value-of-spec =
