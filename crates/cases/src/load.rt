@@ -1,5 +1,6 @@
-// Decodes the file of cases, whose form make.py gives. A byte follows every number and every list of a good file. So a place
-// that is the file's length says that the file is malformed; each function here passes it on, and the caller looks once.
+// Decodes the file of cases, whose form make.py gives. A byte follows every number and every list of a good file.
+// So a place that is the file's length says that the file is malformed; each function here passes it on, and the
+// caller looks once.
 
 pub struct Number {
     pub value: u32,
@@ -182,8 +183,8 @@ fn load_values(
     List { count, next: at }
 }
 
-// Repeats the cell at `first`, each time `width` cells further on and larger by the step, until it stands there `times` times.
-// Answers where it stands last, or the length of the cells where they have no room.
+// Repeats the cell at `first`, each time `width` cells further on and larger by the step, until it stands there
+// `times` times. Answers where it stands last, or the length of the cells where they have no room.
 fn repeat(cells: &mut [u32], first: usize, width: usize, times: u32, step: u32) -> usize {
     let mut at = first;
     let mut left = times;

@@ -17,7 +17,7 @@ pub record Tok : Type 0 where
 abbrev pub tok : ℕ → ℕ → ℕ → ℕ → Tok
 tok k v l p = record { kind = k; value = v; line = l; place = p }
 
--- the end token's kind, at no place: what is read past the last record
+-- the end token's kind, at no place: what is read past the slice's last record
 abbrev pub past : Tok
 past = tok 38 0 0 0
 
@@ -32,7 +32,8 @@ abbrev pub withNext : Tok → ℕ → TokenAt
 withNext t n =
     record { kind = t .kind; value = t .value; line = record { 0 = t .line }; place = t .place; next = n }
 
--- The token at an index, with the index to go on at: one more, but the end token is followed by itself (the Rust's `advance`).
+-- The token at an index, with the index to go on at: one more, but the end token is followed by itself (the Rust's
+-- `advance`).
 unfoldable pub tokenAt : List Tok → ℕ → TokenAt
 tokenAt ts at =
     let t = getD ts at past in

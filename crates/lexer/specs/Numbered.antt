@@ -47,12 +47,13 @@ atToken t = cursor (t .place) (t .line .0)
 abbrev pub atName : Name → Cursor
 atName n = cursor (n .place) (n .line .0)
 
--- Names are numbered from 0 in order of first appearance. For one name 34 comes before 33.
+-- Names are numbered from 0 in order of first appearance; 1,024 names.
 abbrev pub onFound : ℕ → Name → Found → Identified
 onFound count n (F.At i) = I.Known i
 onFound count n F.Nothing =
     pick (ltb count 1024) (I.New (record { 0 = count })) (I.Refused (R.TooManyNames (atName n)))
 
+-- 64 bytes a name with its sigil. For one name 34 comes before 33.
 unfoldable pub identified : List ℕ → List Part → Name → Identified
 identified s names n =
     pick (ltb 64 (n .len)) (I.Refused (R.NameTooLong (atName n)))

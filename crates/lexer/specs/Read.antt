@@ -51,7 +51,7 @@ readingOf (Outcome.refused r) = refused r
 -- no text gives this (`never-cut`)
 readingOf Outcome.cut = reading (refusal 0 0 0) [] [] []
 
--- THE DEFINITION: what a text reads as. Zeros follow each slice's contents.
+-- THE DEFINITION: what a text reads as; `readDef` adds the zeros that follow each slice's contents.
 unfoldable pub readOf : List ℕ → Reading
 readOf text = readingOf (lexedFrom 1 text)
 
@@ -63,8 +63,8 @@ abbrev pub padded : List ℕ → List ℕ → List ℕ → Reading → Reading
 padded t n m o =
     reading (o .answer) (padTo (length t) (o .tokens)) (padTo (length n) (o .names)) (padTo (length m) (o .message))
 
--- The answer and the slices at exit; t, n, m are the slices at entry. 30 is given exactly when a lent slice is shorter than
--- its size, and then nothing is written.
+-- The answer and the slices at exit; t, n, m are the slices at entry. 30 is given exactly when a lent slice is shorter
+-- than its size, and then nothing is written.
 unfoldable pub readDef : List ℕ → List ℕ → List ℕ → List ℕ → Reading
 readDef text t n m =
     pick (sized (length t) (length n) (length m)) (padded t n m (readOf text)) (reading (refusal 30 0 0) t n m)
@@ -74,7 +74,8 @@ abbrev pub answered : LexResult → ReadAnswer
 answered (LexResult.Done tokens names) = accepted tokens names
 answered (LexResult.Refused r) = answerOf r
 
--- What the inner functions say: the counts; the cells; the slices where a text is accepted; the sizes that the gate has seen.
+-- What the inner functions say: the counts; the cells; the slices where a text is accepted; the sizes that the gate
+-- has seen.
 abbrev pub resultOf : Outcome → LexResult
 resultOf (Outcome.done ts ns) = LexResult.Done (length ts) (length ns)
 resultOf (Outcome.refused r) = LexResult.Refused r

@@ -268,7 +268,7 @@ pub fn read(text: &[u8], tokens: &mut [u32], names: &mut [u32], message: &mut [u
     report::refuse_at(30, 0, 0)
 }
 
-// The token at an index. Past the last record stands an end token.
+// The token at an index. Past the slice's last record stands an end token.
 pub fn token_at(tokens: &[u32], at: usize) -> TokenAt
     ensures { λ r. ⌜ r ≡ tokenAt (tokensOf (now (tokens .entry))) at ⌝ }
 {

@@ -1,4 +1,4 @@
--- The code counts a number no higher than 2147483649, one more than the largest that any token has.
+-- The code counts a number no higher than 2147483649, one more than the largest number that a minus may stand before.
 -- That no answer depends on it is `capped-leb` and `capped-small` of the proofs.
 use Prim.Native.Nat.{ℕ}
 use lib.Dec.{leb}

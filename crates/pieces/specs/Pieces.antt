@@ -1,5 +1,5 @@
--- Document 01, "Text to tokens", from the left: one piece of a text at a place, and all pieces up to the end or the first
--- refusal 2 to 4. No table of names and no limit has a part in it.
+-- Document 01, "Text to tokens", from the left: one piece of a text at a place, and all pieces up to the end or the
+-- first refusal 2 to 4. No table of names and no limit has a part in it.
 use Prim.Native.Nat.{ℕ, zero, suc, _+_, _-_, _*_, _%_}
 use mathlib.Core.List.{List, [], _∷_}
 use mathlib.Core.Bool.{Bool, false}
@@ -40,11 +40,11 @@ unfoldable pub lineEnd : List ℕ → ℕ → ℕ
 lineEnd [] at = at
 lineEnd (b ∷ r) at = let more = lineEnd r (at + 1) in pick (eqb b 10) (at + 1) more
 
--- After a star the next byte is consumed whether or not it is `/`: whether a byte behind a star, or behind none, closes the
--- comment, and whether the byte after it stands behind a star.
+-- whether a byte closes the comment: a `/` behind a star
 unfoldable pub closes : Bool → ℕ → Bool
 closes star b = pick star (eqb b 47) false
 
+-- After a star the next byte is consumed whether or not it is `/`: so no star behind a star is one to look behind.
 unfoldable pub starAfter : Bool → ℕ → Bool
 starAfter star b = pick star false (eqb b 42)
 
@@ -75,11 +75,11 @@ numberAt s at = digitsFrom (drop at s) at 0
 abbrev pub nameEndAt : List ℕ → ℕ → ℕ
 nameEndAt s at = nameEnd (drop (at + 1) s) (at + 1)
 
--- the 32 bits of a number below zero
+-- the 32 bits of a number with a minus
 abbrev pub negated : ℕ → ℕ
 negated v = (4294967296 - v) % 4294967296
 
--- One piece, of the text s at a place and a line. -----------------------------------------------------------------------
+-- One piece, of the text s at a place and a line. ------------------------------------------------------------------
 
 -- In `/* */` newlines are not counted either. A comment that is not closed is 2, a slash alone 3.
 abbrev pub onComment : ℕ → ℕ → Comment → Lexed
@@ -158,7 +158,7 @@ pieceAt s at line =
     (pick (eqb b 47) (slashAt s at line)
     (tokenFrom s at line)))))
 
--- All pieces of a text. --------------------------------------------------------------------------------------------------
+-- All pieces of a text. ---------------------------------------------------------------------------------------------
 
 pub data Pieces : Type 0 where
   spelled : Name → Pieces → Pieces

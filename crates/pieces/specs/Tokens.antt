@@ -1,4 +1,5 @@
--- Token values with the Rust's names, the kind that a token's cell holds for each, the 25 words and the eight tokens of one byte.
+-- Token values with the Rust's names, the kind that a token's cell holds for each, the 25 words and the eight tokens of
+-- one byte.
 use Prim.Native.Nat.{ℕ, zero, suc, _+_, _*_}
 use mathlib.Core.List.{List, [], _∷_}
 use mathlib.Core.Bool.{Bool, true, false}
@@ -99,7 +100,8 @@ carried T.EndOfFile = 0
 abbrev pub kindedOf : TokenValue → Kinded
 kindedOf v = record { 0 = kindOf v; 1 = carried v }
 
--- The value of a kind; a number that is no kind is read as the end. `valueOf (kindOf v) (carried v) ≡ v` is `value-of-kind`.
+-- The value of a kind; a number that is no kind is read as the end. A value comes back from its kind and what it
+-- carries: `value-of-kind`.
 unfoldable pub valueOf : ℕ → ℕ → TokenValue
 valueOf k x =
     pick (eqb k 1) (T.Local (record { 0 = x }))
@@ -190,8 +192,8 @@ wordIn (w ∷ ws) s = let more = wordIn ws s in pick (sameBytes (w .spelling) s)
 abbrev pub keyword : List ℕ → OptionValue
 keyword s = wordIn words s
 
--- The code keeps the words in rows of seven bytes: kind, length, and five for the letters. `rowsFrom n k t`: n rows from row k
--- on. That the rows are `words` is the law `keywords-are-words`.
+-- The code keeps the words in rows of seven bytes: kind, length, and five for the letters. `rowsFrom n k t`: n rows from
+-- row k on. That the rows are `words` is the law `keywords-are-words`.
 abbrev pub rowAt : List ℕ → ℕ → Word
 rowAt t k =
     record {

@@ -33,8 +33,8 @@ export r o m = record { answer = r; out = o; message = m }
 abbrev pub exported : List ℕ → List ℕ → Reading → Export
 exported o m x = export (x .answer) (padTo (length o) (bytesOf x)) (padTo (length m) (x .message))
 
--- The answer and the slices at exit; o and m are the slices at entry. 30 is given exactly when one of them is shorter than its
--- size, and then nothing is written.
+-- The answer and the slices at exit; o and m are the slices at entry. 30 is given exactly when one of them is shorter
+-- than its size, and then nothing is written.
 unfoldable pub exportDef : List ℕ → List ℕ → List ℕ → Export
 exportDef text o m =
     let short = export (refusal 30 0 0) o m in

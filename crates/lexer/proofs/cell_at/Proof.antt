@@ -1,3 +1,4 @@
+-- Past the end the default stands.
 use native.Mathlib.Omega.{arith}
 use mathlib.Core.Path.{refl, sym}
 use lib.ListN.{List·getD-eq-default}

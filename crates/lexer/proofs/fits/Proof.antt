@@ -1,3 +1,4 @@
+-- Test by test, as `sized`.
 use borrow.Author.Needs.{needs}
 use borrow.Author.Tests.{lt-ltb, le-ltb}
 use Rattle.lexer.specs.Read.{sized}

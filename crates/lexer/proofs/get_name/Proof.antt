@@ -1,3 +1,4 @@
+-- The two cells give a part of the text, or lie outside it.
 use borrow.Author.Tests.{le-leb, lt-leb}
 use native.Mathlib.Omega.{arith}
 use Prim.Native.Nat.{_+_, _-_}

@@ -1,3 +1,4 @@
+-- The loop's state is `Lexing`; `turn` says what each answer of next_token makes of it.
 use borrow.Author.Needs.{needs}
 use borrow.Author.Tests.{ltb-true, ltb-false, not-true, not-false}
 use native.Mathlib.Omega.{arith}

@@ -1,3 +1,4 @@
+-- An accepted text keeps its cells; a refused one has both slices cleared.
 use Prim.Native.Nat.{ℕ}
 use mathlib.Core.Path.{refl, sym, ap, _∙_}
 use mathlib.Core.List.{[]}

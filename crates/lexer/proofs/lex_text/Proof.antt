@@ -1,3 +1,4 @@
+-- The two tests before lexing, as in `lexedFrom`.
 use borrow.Author.Tests.{lt-ltb, le-ltb, not-true, not-false}
 use mathlib.Core.Path.{refl}
 use borrow.Author.Needs.{needs}

@@ -1,3 +1,4 @@
+-- By the piece that stands there; a piece's name lies in the text (`piece-past`).
 use native.Mathlib.Omega.{arith}
 use mathlib.Core.Path.{refl}
 use denote.Ref.{now}

@@ -1,3 +1,4 @@
+-- What get_identifier answers decides, case by case.
 use mathlib.Core.Path.{refl}
 use borrow.Author.Needs.{needs}
 use Rattle.lexer.proofs.number_name.Statement.{statement}

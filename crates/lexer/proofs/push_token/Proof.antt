@@ -1,3 +1,4 @@
+-- With room for it the token's cells are stored, without it nothing is.
 use borrow.Author.Tests.{lt-ltb, le-ltb}
 use mathlib.Core.Path.{refl}
 use borrow.Author.Needs.{needs}

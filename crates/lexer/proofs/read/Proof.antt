@@ -1,3 +1,4 @@
+-- The gate's test is `sized`; behind it the reading is padded to each slice's length.
 use mathlib.Core.Path.{sym, _∙_}
 use borrow.Author.Needs.{needs}
 use Rattle.lexer.proofs.Promise.{by-parts}

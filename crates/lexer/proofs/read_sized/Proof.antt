@@ -1,3 +1,4 @@
+-- The cells are lex_from's; what is left is the message and the numbers.
 use native.Mathlib.Omega.{arith}
 use mathlib.Core.Path.{sym, _∙_}
 use denote.Ref.{now}

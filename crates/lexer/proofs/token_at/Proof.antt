@@ -1,3 +1,4 @@
+-- The record at `at * 4` is the token at `at` of the decoded list.
 use borrow.Author.Tests.{lt-ltb, le-ltb, eq-eqb, ne-eqb}
 use denote.Ref.{now}
 use borrow.Author.Needs.{needs}

@@ -1,3 +1,4 @@
+-- Zeroing from `i` on gives what zeroing from `from` on gives.
 use lib.Seq.{sets}
 use lib.ListN.{replicate, length-set, length}
 use Rattle.pitchsleet.proofs.Cells.{zeroed-more}

@@ -1,3 +1,4 @@
+-- The gates are those of `exportDef`.
 use Rattle.utils.specs.Bytes.{pick}
 use Rattle.pitchsleet.proofs.Cells.{by-parts}
 use Rattle.pitchsleet.specs.Bytes.{exportDef}

@@ -1,3 +1,4 @@
+-- Four stores in a row are one store of four bytes.
 use lib.ListN.{length-set}
 use native.Mathlib.Numerals.{towards-suc}
 use native.Mathlib.Omega.{arith}

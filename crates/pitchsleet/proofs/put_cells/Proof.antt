@@ -1,3 +1,4 @@
+-- Storing the cells from `i` on behind those before gives what storing all of them gives.
 use lib.Seq.{sets}
 use lib.ListN.{drop-of-length-le, length, drop}
 use native.Mathlib.Nat.{add-zero, zero-mul}

@@ -1,3 +1,4 @@
+-- Two runs of cells and zeros after them fill the slice (`whole`).
 use Rattle.pitchsleet.proofs.Cells.{whole}
 use native.Mathlib.Omega.{arith}
 use mathlib.Core.Path.{_∙_}

@@ -1,3 +1,4 @@
+-- By the definition's own cases: no digit left, one digit, or the front digits and then the last.
 use mathlib.Core.Path.{refl}
 use mathlib.Core.List.{[], _∷_}
 use Prim.Native.Nat.{_+_, _-_, _/_, _%_, ℕ, _<_}

@@ -1,3 +1,4 @@
+-- The loop has zeroed the cells below `i` and left the others.
 use borrow.Author.Needs.{needs}
 use native.Mathlib.Omega.{arith}
 use Prim.Native.Nat.{ℕ, _-_, _≤_}

@@ -1,3 +1,4 @@
+-- Storing what is left of the part from `at + i` on gives what storing all of it from `at` gives.
 use borrow.Author.Needs.{needs}
 use Prim.Native.Nat.{_-_, _≤_, _+_}
 use mathlib.Core.Path.{_≡_, refl, sym, _∙_}

@@ -1,3 +1,4 @@
+-- Seven stores, each where the one before it ended, are one store of the whole message.
 use native.Mathlib.Omega.{arith}
 use Prim.Native.Nat.{ℕ}
 use mathlib.Core.List.{List, [], _∷_, _++_}

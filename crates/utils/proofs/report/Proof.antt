@@ -1,3 +1,4 @@
+-- A store at the start of zeros is the message and zeros after it.
 use native.Mathlib.Omega.{arith}
 use mathlib.Core.Path.{_∙_}
 use lib.ListN.{length}

@@ -1,3 +1,4 @@
+-- The length, the look-up and the room decide as in `identified`; a new name is two stores in a row.
 use borrow.Author.Tests.{lt-ltb, le-ltb}
 use native.Mathlib.Omega.{arith}
 use native.Mathlib.Numerals.{towards-suc}

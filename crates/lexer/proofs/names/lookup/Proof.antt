@@ -1,3 +1,4 @@
+-- The names from `k` on hold the first match if any name does; each lies in the text.
 use borrow.Author.Needs.{needs}
 use native.Mathlib.Omega.{arith}
 use Prim.Native.Nat.{_+_, _-_, _*_, _≤_}

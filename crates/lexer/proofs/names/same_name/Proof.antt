@@ -1,3 +1,4 @@
+-- Names of two lengths differ; of one length the bytes decide.
 use native.Mathlib.Omega.{arith}
 use mathlib.Core.Path.{sym}
 use denote.Ref.{now}

@@ -1,3 +1,4 @@
+-- Case by case, as `factsOf`.
 use borrow.Author.Needs.{needs}
 use Rattle.lexer.proofs.report.report.Statement.{statement}
 use Rattle.lexer.proofs.report.report.Tie as tie

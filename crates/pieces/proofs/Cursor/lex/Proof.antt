@@ -1,3 +1,4 @@
+-- Each return has made the tests that lead to it in the definition.
 use borrow.Author.Tests.{le-leb, lt-leb, eq-eqb, ne-eqb}
 use borrow.Author.Needs.{needs}
 use Rattle.pieces.specs.Pieces.{pieceAt}

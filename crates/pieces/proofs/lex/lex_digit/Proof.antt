@@ -1,3 +1,4 @@
+-- The test on the capped number is the number's own, and a number that passes it is not capped.
 use native.Mathlib.Omega.{arith}
 use denote.Ref.{now}
 use borrow.Author.Needs.{needs}

@@ -1,3 +1,4 @@
+-- The name's end is the scan's, which never goes back.
 use native.Mathlib.Omega.{arith}
 use Prim.Native.Nat.{_+_}
 use lib.ListN.{drop}

@@ -1,3 +1,4 @@
+-- The tests on the second byte lead to the definition's cases; a byte that is not 0 stands in the text.
 use borrow.Author.Tests.{eq-eqb, ne-eqb}
 use native.Mathlib.Omega.{arith}
 use Prim.Native.Nat.{_+_}

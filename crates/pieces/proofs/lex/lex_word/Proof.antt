@@ -1,3 +1,4 @@
+-- The word runs from `at` to its end, which lies in the text.
 use native.Mathlib.Omega.{arith}
 use Prim.Native.Nat.{_+_, _-_}
 use mathlib.Core.Path.{_≡_, sym, _∙_}

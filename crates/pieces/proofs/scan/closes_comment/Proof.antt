@@ -1,3 +1,4 @@
+-- Each return has made the tests that lead to it in the definition.
 use Rattle.pieces.specs.Pieces.{closes}
 use Rattle.utils.specs.Bytes.{pick}
 use Rattle.pieces.proofs.scan.closes_comment.Statement.{statement}

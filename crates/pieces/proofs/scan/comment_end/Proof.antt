@@ -1,3 +1,4 @@
+-- The scan from `i` on, with or without a star before it, gives what the scan from `at` on gives.
 use borrow.Author.Needs.{needs}
 use native.Mathlib.Numerals.{add-one}
 use Prim.Native.Nat.{_-_}

@@ -1,3 +1,4 @@
+-- A sum that passes 2147483649 is kept there, as `capped` says.
 use native.Mathlib.Omega.{arith}
 use mathlib.Core.Path.{sym}
 use borrow.Author.Needs.{needs}

@@ -1,3 +1,4 @@
+-- What is left of the text from `i` on decides as the whole text does.
 use borrow.Author.Needs.{needs}
 use borrow.Author.Tests.{lt-ltb, le-ltb}
 use native.Mathlib.Numerals.{add-one}

@@ -1,3 +1,4 @@
+-- Each return has made the tests that lead to it in the definition.
 use borrow.Author.Tests.{eq-eqb, ne-eqb}
 use Rattle.pieces.specs.Classes.{isBlank}
 use Rattle.utils.specs.Bytes.{pick}

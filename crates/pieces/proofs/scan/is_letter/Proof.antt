@@ -1,3 +1,4 @@
+-- Each return has made the tests that lead to it in the definition.
 use borrow.Author.Tests.{le-leb, lt-leb}
 use Rattle.pieces.specs.Classes.{isLetter}
 use Rattle.utils.specs.Bytes.{pick}

@@ -1,3 +1,4 @@
+-- Each return has made the tests that lead to it in the definition.
 use borrow.Author.Needs.{needs}
 use Rattle.pieces.specs.Classes.{isNamePart}
 use Rattle.utils.specs.Bytes.{pick}

@@ -1,3 +1,4 @@
+-- The scan from `i` on gives what the scan from `at` on gives.
 use borrow.Author.Needs.{needs}
 use borrow.Author.Tests.{not-true, not-false}
 use native.Mathlib.Numerals.{add-one}

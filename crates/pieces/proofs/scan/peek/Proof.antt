@@ -1,3 +1,4 @@
+-- Each return has made the tests that lead to it in the definition.
 use mathlib.Core.Path.{sym}
 use lib.ListN.{List·getD-eq-default}
 use denote.Ref.{now}

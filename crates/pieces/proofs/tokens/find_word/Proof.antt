@@ -1,3 +1,4 @@
+-- The rows from `row` on hold the first match if any row does; each row's word fits its room.
 use borrow.Author.Needs.{needs}
 use native.Mathlib.Omega.{arith}
 use Prim.Native.Nat.{suc, _+_, _-_, _*_, _≤_}

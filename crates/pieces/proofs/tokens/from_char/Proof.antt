@@ -1,3 +1,4 @@
+-- Each arm's byte decides the definition's choice; the last arm is none of them.
 use borrow.Author.Tests.{ne-eqb}
 use mathlib.Core.Path.{sym, ap}
 use Rattle.pieces.specs.Tokens.{symbol}

@@ -1,3 +1,4 @@
+-- The constant table has its length and its rows fit, by computation; its rows are the words.
 use mathlib.Core.Path.{_∙_}
 use borrow.Author.Needs.{needs}
 use Rattle.pieces.proofs.Rows.{table, table-long, table-fits, keywords-are-words}

@@ -1,3 +1,4 @@
+-- Words of two lengths differ; of one length the bytes decide.
 use native.Mathlib.Omega.{arith}
 use Prim.Native.Nat.{_+_, _*_}
 use mathlib.Core.Path.{sym}

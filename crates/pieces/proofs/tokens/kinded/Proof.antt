@@ -1,3 +1,4 @@
+-- Arm by arm, as the definition.
 use mathlib.Core.Path.{sym, ap}
 use borrow.Author.Needs.{needs}
 use Rattle.pieces.specs.Tokens.{kindedOf}

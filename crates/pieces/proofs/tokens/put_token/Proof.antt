@@ -1,3 +1,4 @@
+-- Four stores in a row are one store of four cells.
 use native.Mathlib.Omega.{arith}
 use native.Mathlib.Numerals.{towards-suc}
 use lib.ListN.{length-set}

@@ -1,3 +1,4 @@
+-- The bytes from `k` on decide as all of them do.
 use borrow.Author.Needs.{needs}
 use borrow.Author.Tests.{eq-eqb, ne-eqb}
 use native.Mathlib.Omega.{arith}

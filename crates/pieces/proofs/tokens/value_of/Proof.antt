@@ -1,3 +1,4 @@
+-- Each arm's number decides the definition's choice; the last arm is none of them.
 use borrow.Author.Tests.{ne-eqb}
 use Prim.Native.Nat.{ℕ}
 use mathlib.Core.Path.{sym, ap}
