@@ -1,0 +1,162 @@
+-- The grammar of one operation (document 01, "Functions, labels, edges"; parse_instruction and parse_type of parser.rs), over
+-- the tokens and an index.
+use Prim.Native.Nat.{ℕ}
+use mathlib.Core.List.{List}
+use mathlib.Core.Bool.{Bool, true, false}
+use lib.Dec.{leb, eqb}
+use Rattle.utils.specs.Bytes.{pick}
+use Rattle.lexer.specs.Decoded.{Tok, tokenAt}
+use Rattle.pieces.specs.declared.Identifier.{Identifier}
+use Rattle.parser.specs.Step.{refusal, look, thenAt, thenNamed, thenType, thenDefined}
+use Rattle.parser.specs.declared.Refusal.{Refusal}
+use Rattle.parser.specs.declared.Ty.{Ty}
+use Rattle.parser.specs.declared.Ty.the-variants as Y
+use Rattle.parser.specs.declared.Variable.{Variable}
+use Rattle.parser.specs.declared.Operation.{Operation}
+use Rattle.parser.specs.declared.Operation.the-variants as O
+use Rattle.parser.specs.declared.Consumed.{Consumed}
+use Rattle.parser.specs.declared.Consumed.the-variants as C
+use Rattle.parser.specs.declared.Named.{Named}
+use Rattle.parser.specs.declared.Named.the-variants as N
+use Rattle.parser.specs.declared.TypeRead.{TypeRead}
+use Rattle.parser.specs.declared.TypeRead.the-variants as R
+use Rattle.parser.specs.declared.Defined.{Defined}
+use Rattle.parser.specs.declared.Defined.the-variants as D
+use Rattle.parser.specs.declared.Parsed.{Parsed}
+use Rattle.parser.specs.declared.Parsed.the-variants as P
+
+-- The kinds of tokens are those of `kindOf`: 1 local, 2 global, 3 label, 24 `=`, 29 `:`, 30 `;`, and the words.
+
+-- 't' expected (5).
+unfoldable pub consumeD : List Tok → ℕ → ℕ → Consumed
+consumeD ts at kind =
+    look (tokenAt ts at) (λ k next. pick (eqb k kind) (C.At next) (C.Refused (refusal 5 at kind)))
+
+-- A name of this kind; Local / Global / Label identifier expected (6, 7, 8).
+unfoldable pub namedD : List Tok → ℕ → ℕ → ℕ → Named
+namedD ts at kind number =
+    let t = tokenAt ts at in
+    pick (eqb (t .kind) kind) (N.At (record { 0 = t .value }) (t .next)) (N.Refused (refusal number at 0))
+
+abbrev pub localD : List Tok → ℕ → Named
+localD ts at = namedD ts at 1 6
+
+abbrev pub globalD : List Tok → ℕ → Named
+globalD ts at = namedD ts at 2 7
+
+abbrev pub labelD : List Tok → ℕ → Named
+labelD ts at = namedD ts at 3 8
+
+-- Types are `int`, `bool`. Type expected (9).
+unfoldable pub typeD : List Tok → ℕ → TypeRead
+typeD ts at =
+    look (tokenAt ts at) (λ k next.
+    pick (eqb k 32) (R.At Y.Int next)
+    (pick (eqb k 33) (R.At Y.Bool next)
+    (R.Refused (refusal 9 at 0))))
+
+-- Statements: `word` is the index of the operation's word, `at` of the token after it. ------------------------------
+
+unfoldable pub printD : List Tok → ℕ → ℕ → Parsed
+printD ts word at =
+    thenNamed P.Refused (localD ts at) (λ x at1.
+    thenAt P.Refused (consumeD ts at1 30) (λ at2.
+    P.Done (O.Print word x) at2))
+
+unfoldable pub retD : List Tok → ℕ → ℕ → Parsed
+retD ts word at =
+    look (tokenAt ts at) (λ k next.
+    pick (eqb k 30) (P.Done (O.Ret word) next)
+    (thenNamed P.Refused (localD ts at) (λ x at1.
+    thenAt P.Refused (consumeD ts at1 30) (λ at2.
+    P.Done (O.RetValue word x) at2))))
+
+unfoldable pub jumpD : List Tok → ℕ → ℕ → Parsed
+jumpD ts word at =
+    thenNamed P.Refused (labelD ts at) (λ l at1.
+    thenAt P.Refused (consumeD ts at1 30) (λ at2.
+    P.Done (O.Jump word l) at2))
+
+unfoldable pub branchD : List Tok → ℕ → ℕ → Parsed
+branchD ts word at =
+    thenNamed P.Refused (localD ts at) (λ x at1.
+    thenNamed P.Refused (labelD ts at1) (λ l at2.
+    thenNamed P.Refused (labelD ts at2) (λ m at3.
+    thenAt P.Refused (consumeD ts at3 30) (λ at4.
+    P.Done (O.Branch word x l m) at4))))
+
+unfoldable pub nopD : List Tok → ℕ → ℕ → Parsed
+nopD ts word at = thenAt P.Refused (consumeD ts at 30) (λ at1. P.Done (O.Nop word) at1)
+
+-- Operations with a result. -----------------------------------------------------------------------------------------
+
+-- `x: type =`
+unfoldable pub definedD : List Tok → ℕ → Defined
+definedD ts at =
+    thenNamed D.Refused (localD ts at) (λ x at1.
+    thenAt D.Refused (consumeD ts at1 29) (λ at2.
+    thenType D.Refused (typeD ts at2) (λ t at3.
+    thenAt D.Refused (consumeD ts at3 24) (λ at4.
+    D.At (record { id = x; ty = t }) at4))))
+
+-- `true`, `false` or an integer
+unfoldable pub isConstant : ℕ → Bool
+isConstant k = pick (eqb k 4) true (pick (eqb k 10) true (eqb k 11))
+
+-- Integer or boolean constant expected (10), with the word `const`; the operation's token is the value.
+unfoldable pub constD : List Tok → Variable → ℕ → ℕ → Parsed
+constD ts v word at =
+    look (tokenAt ts at) (λ k next.
+    pick (isConstant k) (thenAt P.Refused (consumeD ts next 30) (λ at1. P.Done (O.Const at v) at1))
+    (P.Refused (refusal 10 word 0)))
+
+unfoldable pub unaryD : List Tok → Variable → ℕ → ℕ → Parsed
+unaryD ts v word at =
+    thenNamed P.Refused (localD ts at) (λ x at1.
+    thenAt P.Refused (consumeD ts at1 30) (λ at2.
+    P.Done (O.UnaryOp word v x) at2))
+
+unfoldable pub binaryD : List Tok → Variable → ℕ → ℕ → Parsed
+binaryD ts v word at =
+    thenNamed P.Refused (localD ts at) (λ x at1.
+    thenNamed P.Refused (localD ts at1) (λ y at2.
+    thenAt P.Refused (consumeD ts at2 30) (λ at3.
+    P.Done (O.BinaryOp word v x y) at3)))
+
+-- `id`, `not`
+unfoldable pub isUnary : ℕ → Bool
+isUnary k = pick (eqb k 17) true (eqb k 37)
+
+-- `add` `mul` `sub` `div` `mod`, `eq` `lt` `gt` `le` `ge`, `and` `or`
+unfoldable pub isBinary : ℕ → Bool
+isBinary k =
+    pick (leb k 4) false
+    (pick (leb k 9) true
+    (pick (leb k 11) false
+    (pick (leb k 16) true
+    (pick (eqb k 18) true (eqb k 19)))))
+
+-- What stands after `=`: a call, a constant, a unary or a binary operation. Unexpected token (11).
+unfoldable pub valueD : List Tok → Variable → ℕ → Parsed
+valueD ts v at =
+    look (tokenAt ts at) (λ k next.
+    pick (eqb k 22) (P.CallInto v at)
+    (pick (eqb k 34) (constD ts v at next)
+    (pick (isUnary k) (unaryD ts v at next)
+    (pick (isBinary k) (binaryD ts v at next)
+    (P.Refused (refusal 11 at 0))))))
+
+unfoldable pub definitionD : List Tok → ℕ → Parsed
+definitionD ts at = thenDefined P.Refused (definedD ts at) (λ v at1. valueD ts v at1)
+
+-- An operation by its first token; a label before it is the body's.
+unfoldable pub instructionD : List Tok → ℕ → Parsed
+instructionD ts at =
+    look (tokenAt ts at) (λ k next.
+    pick (eqb k 35) (printD ts at next)
+    (pick (eqb k 23) (retD ts at next)
+    (pick (eqb k 20) (jumpD ts at next)
+    (pick (eqb k 21) (branchD ts at next)
+    (pick (eqb k 36) (nopD ts at next)
+    (pick (eqb k 22) (P.Call at)
+    (definitionD ts at)))))))

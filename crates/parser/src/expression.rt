@@ -1,0 +1,138 @@
+// The operations that give a result: `x: type =` and what stands after it.
+ghost use mathlib.Core.Path.{_≡_};
+ghost use Rattle.lexer.specs.Decoded.{tokensOf};
+ghost use Rattle.parser.specs.Grammar.{definedD, isConstant, constD, unaryD, binaryD, isUnary, isBinary, valueD};
+use crate::Consumed;
+use crate::Defined;
+use crate::Named;
+use crate::Operation;
+use crate::Parsed;
+use crate::TypeRead;
+use crate::Variable;
+use crate::consume;
+use crate::consume_named;
+use crate::parse_type;
+use crate::refuse;
+
+pub(crate) fn parse_defined(tokens: &[u32], at: usize) -> Defined
+    ensures { λ r. ⌜ r ≡ definedD (tokensOf (now (tokens .entry))) at ⌝ }
+{
+    match consume_named(tokens, at, 1, 6) {
+        Named::Refused(e) => Defined::Refused(e),
+        Named::At(id, at1) => match consume(tokens, at1, 29) {
+            Consumed::Refused(e) => Defined::Refused(e),
+            Consumed::At(at2) => match parse_type(tokens, at2) {
+                TypeRead::Refused(e) => Defined::Refused(e),
+                TypeRead::At(ty, at3) => match consume(tokens, at3, 24) {
+                    Consumed::Refused(e) => Defined::Refused(e),
+                    Consumed::At(at4) => Defined::At(Variable { id, ty }, at4),
+                },
+            },
+        },
+    }
+}
+
+fn is_constant(kind: u32) -> bool
+    ensures { λ r. ⌜ r ≡ isConstant kind ⌝ }
+{
+    if kind == 4 {
+        return true;
+    }
+    if kind == 10 {
+        return true;
+    }
+    kind == 11
+}
+
+// The Rust reports a missing constant with the word `const`, and keeps the value's token.
+fn parse_const(tokens: &[u32], result: Variable, word: usize, at: usize) -> Parsed
+    ensures { λ r. ⌜ r ≡ constD (tokensOf (now (tokens .entry))) result word at ⌝ }
+{
+    let t = lexer::token_at(tokens, at);
+    let next = t.next;
+    if is_constant(t.kind) {
+        return match consume(tokens, next, 30) {
+            Consumed::Refused(e) => Parsed::Refused(e),
+            Consumed::At(at1) => Parsed::Done(Operation::Const(at, result), at1),
+        };
+    }
+    Parsed::Refused(refuse(10, word))
+}
+
+fn parse_unary(tokens: &[u32], result: Variable, word: usize, at: usize) -> Parsed
+    ensures { λ r. ⌜ r ≡ unaryD (tokensOf (now (tokens .entry))) result word at ⌝ }
+{
+    match consume_named(tokens, at, 1, 6) {
+        Named::Refused(e) => Parsed::Refused(e),
+        Named::At(x, at1) => match consume(tokens, at1, 30) {
+            Consumed::Refused(e) => Parsed::Refused(e),
+            Consumed::At(at2) => Parsed::Done(Operation::UnaryOp(word, result, x), at2),
+        },
+    }
+}
+
+fn parse_binary(tokens: &[u32], result: Variable, word: usize, at: usize) -> Parsed
+    ensures { λ r. ⌜ r ≡ binaryD (tokensOf (now (tokens .entry))) result word at ⌝ }
+{
+    match consume_named(tokens, at, 1, 6) {
+        Named::Refused(e) => Parsed::Refused(e),
+        Named::At(x, at1) => match consume_named(tokens, at1, 1, 6) {
+            Named::Refused(e) => Parsed::Refused(e),
+            Named::At(y, at2) => match consume(tokens, at2, 30) {
+                Consumed::Refused(e) => Parsed::Refused(e),
+                Consumed::At(at3) => Parsed::Done(Operation::BinaryOp(word, result, x, y), at3),
+            },
+        },
+    }
+}
+
+fn is_unary(kind: u32) -> bool
+    ensures { λ r. ⌜ r ≡ isUnary kind ⌝ }
+{
+    if kind == 17 {
+        return true;
+    }
+    kind == 37
+}
+
+fn is_binary(kind: u32) -> bool
+    ensures { λ r. ⌜ r ≡ isBinary kind ⌝ }
+{
+    if kind <= 4 {
+        return false;
+    }
+    if kind <= 9 {
+        return true;
+    }
+    if kind <= 11 {
+        return false;
+    }
+    if kind <= 16 {
+        return true;
+    }
+    if kind == 18 {
+        return true;
+    }
+    kind == 19
+}
+
+pub(crate) fn parse_value(tokens: &[u32], result: Variable, at: usize) -> Parsed
+    ensures { λ r. ⌜ r ≡ valueD (tokensOf (now (tokens .entry))) result at ⌝ }
+{
+    let t = lexer::token_at(tokens, at);
+    let kind = t.kind;
+    let next = t.next;
+    if kind == 22 {
+        return Parsed::CallInto(result, at);
+    }
+    if kind == 34 {
+        return parse_const(tokens, result, at, next);
+    }
+    if is_unary(kind) {
+        return parse_unary(tokens, result, at, next);
+    }
+    if is_binary(kind) {
+        return parse_binary(tokens, result, at, next);
+    }
+    Parsed::Refused(refuse(11, at))
+}
