@@ -3,3 +3,5 @@
 pub mod Step
 -- the grammar of one operation
 pub mod Grammar
+-- two readings of one function: what is related to what
+pub mod Moved

@@ -1,0 +1,111 @@
+-- Two readings of one function (demand 3): what stands at `by + i` in the one token list is what stands at i in the other,
+-- moved: tokens go on by `by`, lines by `down`, bytes by `on`, and names, of which there are `names`, are renamed and stay
+-- apart. The parser's definitions give related answers on related tokens; `proofs/Sim.antt` shows it of each.
+use Prim.Native.Nat.{ℕ, _+_, _≤_, _<_}
+use mathlib.Core.Path.{_≡_}
+use mathlib.Core.List.{List, [], _∷_}
+use mathlib.Core.Bool.{Bool, true, false}
+use lib.Dec.{leb}
+use Rattle.utils.specs.Bytes.{pick}
+use Rattle.lexer.specs.Decoded.{Tok, tokenAt}
+use Rattle.lexer.specs.declared.TokenAt.{TokenAt}
+use Rattle.pieces.specs.declared.Identifier.{Identifier}
+use Rattle.parser.specs.Step.{refusal}
+use Rattle.parser.specs.declared.Refusal.{Refusal}
+use Rattle.parser.specs.declared.Ty.{Ty}
+use Rattle.parser.specs.declared.Variable.{Variable}
+use Rattle.parser.specs.declared.Operation.{Operation}
+use Rattle.parser.specs.declared.Operation.the-variants as O
+use Rattle.parser.specs.declared.Consumed.{Consumed}
+use Rattle.parser.specs.declared.Consumed.the-variants as C
+use Rattle.parser.specs.declared.Named.{Named}
+use Rattle.parser.specs.declared.Named.the-variants as N
+use Rattle.parser.specs.declared.TypeRead.{TypeRead}
+use Rattle.parser.specs.declared.TypeRead.the-variants as R
+use Rattle.parser.specs.declared.Defined.{Defined}
+use Rattle.parser.specs.declared.Defined.the-variants as D
+use Rattle.parser.specs.declared.Parsed.{Parsed}
+use Rattle.parser.specs.declared.Parsed.the-variants as P
+
+pub record Move : Type 0 where
+  pub by : ℕ
+  pub down : ℕ
+  pub on : ℕ
+  pub names : ℕ
+  pub name : ℕ → ℕ
+  pub apart : (x y : ℕ) → x < names → y < names → name x ≡ name y → x ≡ y
+
+-- kinds 1 to 3 are names
+unfoldable pub isName : ℕ → Bool
+isName k = pick (leb k 0) false (leb k 3)
+
+-- a token, moved
+abbrev pub moveT : Move → TokenAt → TokenAt
+moveT m t =
+    record {
+      kind = t .kind;
+      value = pick (isName (t .kind)) (m .name (t .value)) (t .value);
+      line = record { 0 = m .down + t .line .0 };
+      place = m .on + t .place;
+      next = m .by + t .next;
+    }
+
+-- The first n tokens of ts′ stand in ts from `by` on. Only a closing brace, 28, may be the last of them.
+pub record Sim (m : Move) (n : ℕ) (ts ts′ : List Tok) : Type 0 where
+  pub same : (i : ℕ) → i < n → tokenAt ts (m .by + i) ≡ moveT m (tokenAt ts′ i)
+  pub fit : (i : ℕ) → i < n → isName (tokenAt ts′ i .kind) ≡ true → tokenAt ts′ i .value < m .names
+  pub near : (i : ℕ) → i < n → tokenAt ts′ i .next ≤ n
+  pub inner : (i : ℕ) → i < n → (tokenAt ts′ i .kind ≡ 28 → ⊥) → tokenAt ts′ i .next < n
+
+pub data SimName (m : Move) : Identifier → Identifier → Type 0 where
+  renamed : (x : ℕ) → x < m .names → SimName m (record { 0 = m .name x }) (record { 0 = x })
+
+-- the same refusal, at the moved token
+pub data SimE (m : Move) : Refusal → Refusal → Type 0 where
+  moved : (number token wanted : ℕ) → SimE m (refusal number (m .by + token) wanted) (refusal number token wanted)
+
+-- related answers; an index to go on at is below l
+pub data SimC (m : Move) (l : ℕ) : Consumed → Consumed → Type 0 where
+  at : (i : ℕ) → i < l → SimC m l (C.At (m .by + i)) (C.At i)
+  refused : (e e′ : Refusal) → SimE m e e′ → SimC m l (C.Refused e) (C.Refused e′)
+
+pub data SimN (m : Move) (l : ℕ) : Named → Named → Type 0 where
+  at : {x x′ : Identifier} → SimName m x x′ → (i : ℕ) → i < l → SimN m l (N.At x (m .by + i)) (N.At x′ i)
+  refused : (e e′ : Refusal) → SimE m e e′ → SimN m l (N.Refused e) (N.Refused e′)
+
+pub data SimR (m : Move) (l : ℕ) : TypeRead → TypeRead → Type 0 where
+  at : (t : Ty) (i : ℕ) → i < l → SimR m l (R.At t (m .by + i)) (R.At t i)
+  refused : (e e′ : Refusal) → SimE m e e′ → SimR m l (R.Refused e) (R.Refused e′)
+
+pub data SimV (m : Move) : Variable → Variable → Type 0 where
+  of : {x x′ : Identifier} → SimName m x x′ → (t : Ty)
+      → SimV m (record { id = x; ty = t }) (record { id = x′; ty = t })
+
+pub data SimD (m : Move) (l : ℕ) : Defined → Defined → Type 0 where
+  at : {v v′ : Variable} → SimV m v v′ → (i : ℕ) → i < l → SimD m l (D.At v (m .by + i)) (D.At v′ i)
+  refused : (e e′ : Refusal) → SimE m e e′ → SimD m l (D.Refused e) (D.Refused e′)
+
+-- the same operation, with its token moved and its names renamed
+pub data SimO (m : Move) : Operation → Operation → Type 0 where
+  binary : (w : ℕ) {v v′ : Variable} {x x′ y y′ : Identifier} → SimV m v v′ → SimName m x x′ → SimName m y y′
+      → SimO m (O.BinaryOp (m .by + w) v x y) (O.BinaryOp w v′ x′ y′)
+  unary : (w : ℕ) {v v′ : Variable} {x x′ : Identifier} → SimV m v v′ → SimName m x x′
+      → SimO m (O.UnaryOp (m .by + w) v x) (O.UnaryOp w v′ x′)
+  const : (w : ℕ) {v v′ : Variable} → SimV m v v′ → SimO m (O.Const (m .by + w) v) (O.Const w v′)
+  jump : (w : ℕ) {x x′ : Identifier} → SimName m x x′ → SimO m (O.Jump (m .by + w) x) (O.Jump w x′)
+  branch : (w : ℕ) {x x′ y y′ z z′ : Identifier} → SimName m x x′ → SimName m y y′ → SimName m z z′
+      → SimO m (O.Branch (m .by + w) x y z) (O.Branch w x′ y′ z′)
+  ret : (w : ℕ) → SimO m (O.Ret (m .by + w)) (O.Ret w)
+  retValue : (w : ℕ) {x x′ : Identifier} → SimName m x x′ → SimO m (O.RetValue (m .by + w) x) (O.RetValue w x′)
+  print : (w : ℕ) {x x′ : Identifier} → SimName m x x′ → SimO m (O.Print (m .by + w) x) (O.Print w x′)
+  nop : (w : ℕ) → SimO m (O.Nop (m .by + w)) (O.Nop w)
+
+pub data SimP (m : Move) (l : ℕ) : Parsed → Parsed → Type 0 where
+  done : {o o′ : Operation} → SimO m o o′ → (i : ℕ) → i < l → SimP m l (P.Done o (m .by + i)) (P.Done o′ i)
+  call : (i : ℕ) → i < l → SimP m l (P.Call (m .by + i)) (P.Call i)
+  callInto : {v v′ : Variable} → SimV m v v′ → (i : ℕ) → i < l → SimP m l (P.CallInto v (m .by + i)) (P.CallInto v′ i)
+  refused : (e e′ : Refusal) → SimE m e e′ → SimP m l (P.Refused e) (P.Refused e′)
+
+-- The two answers are related by T; a family of its own, so that a search can read m, n and T off.
+pub data Rel (m : Move) (n : ℕ) {A : Type 0} (T : Move → ℕ → A → A → Type 0) : A → A → Type 0 where
+  is : {x x′ : A} → T m n x x′ → Rel m n T x x′
