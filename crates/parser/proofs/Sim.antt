@@ -1,6 +1,6 @@
 -- The simulation of demand 3, one lemma for each definition: related tokens give related answers. What follows a step is
 -- related where it is related whatever the step gave; each definition is a chain of such steps.
-use Prim.Native.Nat.{ℕ, _+_, _≤_, _<_}
+use Prim.Native.Nat.{ℕ, zero, suc, _+_, _≤_, _<_}
 use mathlib.Core.Path.{_≡_, refl, sym, _∙_}
 use mathlib.Core.List.{List}
 use mathlib.Core.Bool.{Bool, true, false}
@@ -14,7 +14,8 @@ use Rattle.parser.specs.Step.{look, thenAt, thenNamed, thenType, thenDef
 use Rattle.parser.specs.Grammar.{consumeD, namedD, localD, labelD, globalD, typeD, printD, retD, jumpD, branchD, nopD}
 use Rattle.parser.specs.Grammar.{definedD, constD, unaryD, binaryD, isConstant, isUnary, isBinary, valueD, definitionD}
 use Rattle.parser.specs.Grammar.{instructionD}
-use Rattle.parser.specs.Moved.{Move, isName, moveT, Sim, SimName, SimE, SimC, SimN, SimR, SimV, SimD, SimO, SimP, Rel}
+use Rattle.parser.specs.Runs.{Variables, ended, andThen, formalD, formalsFromD, formalsD, argumentsD}
+use Rattle.parser.specs.Moved.{Move, isName, moveT, Sim, SimName, SimE, SimC, SimN, SimR, SimV, SimD, SimO, SimP, Rel, Each, SimVs}
 use Rattle.parser.specs.declared.Refusal.{Refusal}
 use Rattle.parser.specs.declared.Ty.{Ty}
 use Rattle.parser.specs.declared.Variable.{Variable}
@@ -65,6 +66,14 @@ module _ {A : Type 0} (T : Move → ℕ → A → A → Type 0) (m : Move) (n : 
     thenDefinedS k k′ (Rel.is (SimD.refused e e′ r)) w g = w e e′ r
 
 pub ruleset shapes = (Rel.is, pickS, thenAtS, thenNamedS, thenTypeS, thenDefinedS, SimC.at, SimC.refused, SimN.at, SimN.refused, SimR.at, SimR.refused, SimD.at, SimD.refused, SimV.of, SimE.moved, SimP.done, SimP.call, SimP.callInto, SimP.refused, SimO.binary, SimO.unary, SimO.const, SimO.jump, SimO.branch, SimO.ret, SimO.retValue, SimO.print, SimO.nop)
+
+-- a run that has ended, and one with a variable more
+pub endedS : {m : Move} {n : ℕ} (c c′ : Consumed) → Rel m n SimC c c′ → Rel m n SimVs (ended c) (ended c′)
+endedS c c′ (Rel.is q) = Rel.is (record { list = Each.none; end = q })
+
+pub andThenS : {m : Move} {n : ℕ} {v v′ : Variable} (r r′ : Variables) → SimV m v v′ → Rel m n SimVs r r′
+    → Rel m n SimVs (andThen v r) (andThen v′ r′)
+andThenS r r′ p (Rel.is q) = Rel.is (record { list = Each.more p (q .list); end = q .end })
 
 -- The definitions, from the steps up.
 module _ {m : Move} {n : ℕ} {ts ts′ : List Tok} (s : Sim m n ts ts′) where
@@ -181,3 +190,21 @@ module _ {m : Move} {n : ℕ} {ts ts′ : List Tok} (s : Sim m n ts ts′) where
   pub instructionS : (i : ℕ) → i < n → Rel m n SimP (instructionD ts (m .by + i)) (instructionD ts′ i)
   unfolding instructionD
   instructionS i h = search (steps, printS, retS, jumpS, branchS, nopS, definitionS) depth 18
+
+  pub formalS : (full : Bool) (i : ℕ) → i < n → Rel m n SimD (formalD ts full (m .by + i)) (formalD ts′ full i)
+  unfolding formalD
+  formalS full i h = search steps depth 18
+
+  pub formalsFromS : (room i : ℕ) → i < n → Rel m n SimVs (formalsFromD ts room (m .by + i)) (formalsFromD ts′ room i)
+  unfolding formalsFromD
+  formalsFromS zero i h = search (steps, formalS, endedS) depth 14
+  formalsFromS (suc room) i h = search (steps, formalS, endedS, andThenS, formalsFromS room) depth 16
+
+  pub formalsS : (i : ℕ) → i < n → Rel m n SimVs (formalsD ts (m .by + i)) (formalsD ts′ i)
+  unfolding formalsD
+  formalsS i h = search (steps, endedS, formalsFromS) depth 14
+
+  pub argumentsS : (room i : ℕ) → i < n → Rel m n SimVs (argumentsD ts room (m .by + i)) (argumentsD ts′ room i)
+  unfolding argumentsD
+  argumentsS zero i h = search (steps, endedS) depth 14
+  argumentsS (suc room) i h = search (steps, endedS, andThenS, argumentsS room) depth 16

@@ -3,5 +3,7 @@
 pub mod Step
 -- the grammar of one operation
 pub mod Grammar
+-- the formals of a header, the arguments of a call
+pub mod Runs
 -- two readings of one function: what is related to what
 pub mod Moved

@@ -11,6 +11,7 @@ use Rattle.lexer.specs.Decoded.{Tok, tokenAt}
 use Rattle.lexer.specs.declared.TokenAt.{TokenAt}
 use Rattle.pieces.specs.declared.Identifier.{Identifier}
 use Rattle.parser.specs.Step.{refusal}
+use Rattle.parser.specs.Runs.{Variables}
 use Rattle.parser.specs.declared.Refusal.{Refusal}
 use Rattle.parser.specs.declared.Ty.{Ty}
 use Rattle.parser.specs.declared.Variable.{Variable}
@@ -105,6 +106,15 @@ pub data SimP (m : Move) (l : ℕ) : Parsed → Parsed → Type 0 where
   call : (i : ℕ) → i < l → SimP m l (P.Call (m .by + i)) (P.Call i)
   callInto : {v v′ : Variable} → SimV m v v′ → (i : ℕ) → i < l → SimP m l (P.CallInto v (m .by + i)) (P.CallInto v′ i)
   refused : (e e′ : Refusal) → SimE m e e′ → SimP m l (P.Refused e) (P.Refused e′)
+
+-- lists, element by element
+pub data Each {A : Type 0} (R : A → A → Type 0) : List A → List A → Type 0 where
+  none : Each R [] []
+  more : {x x′ : A} {xs xs′ : List A} → R x x′ → Each R xs xs′ → Each R (x ∷ xs) (x′ ∷ xs′)
+
+pub record SimVs (m : Move) (l : ℕ) (r r′ : Variables) : Type 0 where
+  pub list : Each (SimV m) (r .list) (r′ .list)
+  pub end : SimC m l (r .end) (r′ .end)
 
 -- The two answers are related by T; a family of its own, so that a search can read m, n and T off.
 pub data Rel (m : Move) (n : ℕ) {A : Type 0} (T : Move → ℕ → A → A → Type 0) : A → A → Type 0 where

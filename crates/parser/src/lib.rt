@@ -1,6 +1,7 @@
 // Tokens to operations, from the parsing half of bril-lib/src/parser.rs, with what it uses of ir.rs.
 // A token is an index into the token records; line and place are looked up once, when a refusal is answered.
 mod expression;
+pub mod runs;
 mod statement;
 
 ghost use mathlib.Core.Path.{_≡_};
@@ -24,7 +25,8 @@ pub enum Ty {
     Int,
     Bool,
     Void,
-    Fn(u32),
+    // A function type's number: there are 64 functions at most.
+    Fn(u8),
 }
 
 pub struct Variable {
@@ -65,6 +67,12 @@ pub enum TypeRead {
 // `x: type =`
 pub enum Defined {
     At(Variable, usize),
+    Refused(Refusal),
+}
+
+// How many variables a run has and the index to go on at, or a refusal.
+pub enum Run {
+    Done(usize, usize),
     Refused(Refusal),
 }
 

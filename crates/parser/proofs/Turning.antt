@@ -1,0 +1,90 @@
+-- One turn of each loop over a run, by what the calls gave: the definition with this much room left is the end, the refusal, or
+-- one variable and the rest.
+use Prim.Native.Nat.{ℕ, zero, suc, _+_, _-_, _≤_, _<_}
+use mathlib.Core.Path.{_≡_, refl, sym, _∙_}
+use mathlib.Core.List.{List}
+use mathlib.Core.Bool.{Bool, true, false}
+use mathlib.Core.Logic.{_⊎_, ⊎-elim}
+use native.Mathlib.Omega.{arith}
+use native.Mathlib.Nat.{eq-or-lt-of-le}
+use borrow.Author.Tests.{le-leb, lt-leb, eq-eqb, ne-eqb}
+use lib.Dec.{leb}
+use Rattle.lexer.specs.Decoded.{Tok, tokenAt}
+use Rattle.lexer.specs.declared.TokenAt.{TokenAt}
+use Rattle.pieces.specs.declared.Identifier.{Identifier}
+use Rattle.parser.specs.Step.{refusal, opened, look, thenNamed}
+use Rattle.parser.specs.Grammar.{consumeD, namedD, localD}
+use Rattle.parser.specs.Runs.{ended, stopped, andThen, variable, formalD, formalsFromD, argumentsD}
+use Rattle.parser.specs.declared.Refusal.{Refusal}
+use Rattle.parser.specs.declared.Ty.the-variants as Y
+use Rattle.parser.specs.declared.Variable.{Variable}
+use Rattle.parser.specs.declared.Consumed.the-variants as C
+use Rattle.parser.specs.declared.Named.{Named}
+use Rattle.parser.specs.declared.Named.the-variants as N
+use Rattle.parser.specs.declared.Defined.{Defined}
+use Rattle.parser.specs.declared.Defined.the-variants as D
+
+module _ (ts : List Tok) where
+  -- arguments
+  pub arguments-end : (room at : ℕ) {t : TokenAt} → t ≡ tokenAt ts at → t .kind ≡ 30 → argumentsD ts room at ≡ ended (C.At (t .next))
+  unfolding argumentsD opened
+  arguments-end zero at q h = rw (← q, eq-eqb _ _ h)
+  arguments-end (suc room) at q h = rw (← q, eq-eqb _ _ h)
+
+  pub arguments-refused : (room at : ℕ) {t : TokenAt} {c : Named} {e : Refusal} → t ≡ tokenAt ts at → (t .kind ≡ 30 → ⊥)
+      → c ≡ localD ts at → c ≡ N.Refused e → argumentsD ts room at ≡ stopped e
+  unfolding argumentsD opened
+  arguments-refused zero at q h k g = rw (← q, ne-eqb _ _ h, ← k, g)
+  arguments-refused (suc room) at q h k g = rw (← q, ne-eqb _ _ h, ← k, g)
+
+  pub arguments-full : (room at : ℕ) {t : TokenAt} {c : Named} {x : Identifier} {next : ℕ} → room ≡ 0 → t ≡ tokenAt ts at
+      → (t .kind ≡ 30 → ⊥) → c ≡ localD ts at → c ≡ N.At x next → argumentsD ts room at ≡ stopped (refusal 37 at 0)
+  unfolding argumentsD opened
+  arguments-full room at z q h k g = rw (z, ← q, ne-eqb _ _ h, ← k, g)
+
+  pub arguments-more : (n at : ℕ) {t : TokenAt} {c : Named} {x : Identifier} {next : ℕ} → n < 16 → t ≡ tokenAt ts at
+      → (t .kind ≡ 30 → ⊥) → c ≡ localD ts at → c ≡ N.At x next
+      → argumentsD ts (16 - n) at ≡ andThen (variable x Y.Placeholder) (argumentsD ts (16 - (n + 1)) next)
+  unfolding argumentsD opened
+  arguments-more n at l q h k g =
+      let m : 16 - n ≡ suc (16 - (n + 1)) = omega arith in
+      rw (m, ← q, ne-eqb _ _ h, ← k, g)
+
+  -- formals; a seventeenth is never taken
+  never-full : (at : ℕ) (c : Named) {v : Variable} {i : ℕ} → c ≡ localD ts at → formalD ts true at ≡ D.At v i → ⊥
+  unfolding formalD opened
+  never-full at (N.At x j) q h = let f = rw (← q) at h in let z : _≡_ {A = ℕ} 0 1 = cc in omega arith
+  never-full at (N.Refused e) q h = let f = rw (← q) at h in let z : _≡_ {A = ℕ} 0 1 = cc in omega arith
+
+  pub formals-refused : (n at : ℕ) {d : Defined} {e : Refusal} → n ≤ 16 → d ≡ formalD ts (leb 16 n) at → d ≡ D.Refused e
+      → formalsFromD ts (16 - n) at ≡ stopped e
+  unfolding formalsFromD opened
+  formals-refused n at h q g =
+      ⊎-elim
+      (λ z. let m : 16 - n ≡ 0 = omega arith in rw (m, ← le-leb 16 n (omega arith), ← q, g))
+      (λ l. let m : 16 - n ≡ suc (16 - (n + 1)) = omega arith in rw (m, ← lt-leb 16 n l, ← q, g))
+      (eq-or-lt-of-le h)
+
+  pub formals-room : (n at : ℕ) {d : Defined} {v : Variable} {next : ℕ} → n ≤ 16 → d ≡ formalD ts (leb 16 n) at
+      → d ≡ D.At v next → n < 16
+  formals-room n at h q g =
+      ⊎-elim
+      (λ z. absurd (never-full at (localD ts at) refl (rw (le-leb 16 n (omega arith)) at (sym q ∙ g))))
+      (λ l. l)
+      (eq-or-lt-of-le h)
+
+  pub formals-last : (n at : ℕ) {d : Defined} {v : Variable} {next : ℕ} {t : TokenAt} → n < 16
+      → d ≡ formalD ts (leb 16 n) at → d ≡ D.At v next → t ≡ tokenAt ts next → (t .kind ≡ 31 → ⊥)
+      → formalsFromD ts (16 - n) at ≡ andThen v (ended (consumeD ts next 26))
+  unfolding formalsFromD opened
+  formals-last n at l q g u k =
+      let m : 16 - n ≡ suc (16 - (n + 1)) = omega arith in
+      rw (m, ← lt-leb 16 n l, ← q, g, ← u, ne-eqb _ _ k)
+
+  pub formals-more : (n at : ℕ) {d : Defined} {v : Variable} {next : ℕ} {t : TokenAt} → n < 16
+      → d ≡ formalD ts (leb 16 n) at → d ≡ D.At v next → t ≡ tokenAt ts next → t .kind ≡ 31
+      → formalsFromD ts (16 - n) at ≡ andThen v (formalsFromD ts (16 - (n + 1)) (t .next))
+  unfolding formalsFromD opened
+  formals-more n at l q g u k =
+      let m : 16 - n ≡ suc (16 - (n + 1)) = omega arith in
+      rw (m, ← lt-leb 16 n l, ← q, g, ← u, eq-eqb _ _ k)

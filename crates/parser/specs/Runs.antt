@@ -1,0 +1,94 @@
+-- Runs: the formals of a header and the arguments of a call, each as the list that was read and where it ended. The bound is
+-- document 01's limit, so that the one too many is refused once its local is read (36, 37).
+use Prim.Native.Nat.{ℕ, zero, suc, _+_}
+use mathlib.Core.List.{List, [], _∷_}
+use mathlib.Core.Bool.{Bool, true, false}
+use lib.Dec.{eqb}
+use lib.ListN.{length}
+use Rattle.utils.specs.Bytes.{pick}
+use Rattle.lexer.specs.Decoded.{Tok, tokenAt}
+use Rattle.pieces.specs.declared.Identifier.{Identifier}
+use Rattle.parser.specs.Step.{refusal, look, thenAt, thenNamed, thenType, thenDefined}
+use Rattle.parser.specs.Grammar.{consumeD, localD, globalD, typeD}
+use Rattle.parser.specs.declared.Refusal.{Refusal}
+use Rattle.parser.specs.declared.Ty.{Ty}
+use Rattle.parser.specs.declared.Ty.the-variants as Y
+use Rattle.parser.specs.declared.Variable.{Variable}
+use Rattle.parser.specs.declared.Consumed.{Consumed}
+use Rattle.parser.specs.declared.Consumed.the-variants as C
+use Rattle.parser.specs.declared.Defined.{Defined}
+use Rattle.parser.specs.declared.Defined.the-variants as D
+use Rattle.parser.specs.declared.Run.{Run}
+use Rattle.parser.specs.declared.Run.the-variants as U
+
+-- a type's cell: 0 placeholder, 1 int, 2 bool, 3 void, 4 and more a function type's number
+abbrev pub typeCell : Ty → ℕ
+typeCell Y.Placeholder = 0
+typeCell Y.Int = 1
+typeCell Y.Bool = 2
+typeCell Y.Void = 3
+typeCell (Y.Fn n) = n + 4
+
+-- a variable's two cells
+abbrev pub variableCells : Variable → List ℕ
+variableCells v = v .id .0 ∷ typeCell (v .ty) ∷ []
+
+unfoldable pub variablesCells : List Variable → List ℕ
+variablesCells [] = []
+variablesCells (v ∷ vs) = v .id .0 ∷ typeCell (v .ty) ∷ variablesCells vs
+
+pub record Variables : Type 0 where
+  pub list : List Variable
+  pub end : Consumed
+
+abbrev pub ended : Consumed → Variables
+ended e = record { list = []; end = e }
+
+abbrev pub stopped : Refusal → Variables
+stopped e = ended (C.Refused e)
+
+abbrev pub andThen : Variable → Variables → Variables
+andThen v r = record { list = v ∷ r .list; end = r .end }
+
+-- how many there are and where to go on, or the refusal
+unfoldable pub runOf : Variables → Run
+runOf r = thenAt U.Refused (r .end) (λ i. U.Done (length (r .list)) i)
+
+abbrev pub variable : Identifier → Ty → Variable
+variable x t = record { id = x; ty = t }
+
+-- One formal, `x: type`. Where there is no more room its local is read, and refused.
+unfoldable pub formalD : List Tok → Bool → ℕ → Defined
+formalD ts full at =
+    thenNamed D.Refused (localD ts at) (λ x at1.
+    pick full (D.Refused (refusal 36 at 0))
+    (thenAt D.Refused (consumeD ts at1 29) (λ at2.
+    thenType D.Refused (typeD ts at2) (λ t at3.
+    D.At (variable x t) at3))))
+
+-- Formals, more after a comma, to the closing parenthesis.
+unfoldable pub formalsFromD : List Tok → ℕ → ℕ → Variables
+formalsFromD ts zero at = thenDefined stopped (formalD ts true at) (λ v at1. stopped (refusal 36 at 0))
+formalsFromD ts (suc room) at =
+    thenDefined stopped (formalD ts false at) (λ v at1.
+    andThen v
+    (look (tokenAt ts at1) (λ k next. pick (eqb k 31) (formalsFromD ts room next) (ended (consumeD ts at1 26)))))
+
+-- the closing parenthesis behind n formals
+unfoldable pub closedD : List Tok → ℕ → ℕ → Run
+closedD ts at n = thenAt U.Refused (consumeD ts at 26) (λ i. U.Done n i)
+
+-- From after the opening parenthesis.
+unfoldable pub formalsD : List Tok → ℕ → Variables
+formalsD ts at = look (tokenAt ts at) (λ k next. pick (eqb k 26) (ended (C.At next)) (formalsFromD ts 16 at))
+
+-- Arguments, locals up to the semicolon. Their types are not known yet.
+unfoldable pub argumentsD : List Tok → ℕ → ℕ → Variables
+argumentsD ts zero at =
+    look (tokenAt ts at) (λ k next.
+    pick (eqb k 30) (ended (C.At next))
+    (thenNamed stopped (localD ts at) (λ x at1. stopped (refusal 37 at 0))))
+argumentsD ts (suc room) at =
+    look (tokenAt ts at) (λ k next.
+    pick (eqb k 30) (ended (C.At next))
+    (thenNamed stopped (localD ts at) (λ x at1. andThen (variable x Y.Placeholder) (argumentsD ts room at1))))

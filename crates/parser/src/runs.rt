@@ -1,0 +1,144 @@
+// Formals and arguments: runs of variables in a lent slice, two cells each.
+ghost use mathlib.Core.Path.{_≡_};
+ghost use Prim.Native.Nat.{ℕ, _+_, _*_, _≤_};
+ghost use lib.Dec.{leb};
+ghost use lib.ListN.{length};
+ghost use lib.Seq.{sets};
+ghost use Rattle.lexer.specs.Decoded.{tokensOf};
+ghost use Rattle.parser.specs.Runs.{typeCell, variableCells, variablesCells, runOf};
+ghost use Rattle.parser.specs.Runs.{formalD, closedD, formalsFromD, formalsD, argumentsD};
+use crate::Consumed;
+use crate::Defined;
+use crate::Named;
+use crate::Run;
+use crate::Ty;
+use crate::TypeRead;
+use crate::Variable;
+use crate::consume;
+use crate::consume_named;
+use crate::parse_type;
+use crate::refuse;
+
+pub fn type_cell(ty: Ty) -> u32
+    ensures { λ r. ⌜ r ≡ typeCell ty ⌝ }
+{
+    match ty {
+        Ty::Placeholder => 0,
+        Ty::Int => 1,
+        Ty::Bool => 2,
+        Ty::Void => 3,
+        Ty::Fn(n) => n as u32 + 4,
+    }
+}
+
+fn put_variable(cells: &mut [u32], at: usize, v: Variable)
+    requires { ⌜ at + 2 ≤ length (now cells) ⌝ }
+    ensures { λ r. ⌜ now (cells .exit) ≡ sets (now (cells .entry)) at (variableCells v) ⌝ }
+{
+    let next = at + 1;
+    let ty = v.ty;
+    cells[at] = v.id.0;
+    cells[next] = type_cell(ty);
+}
+
+// 36 comes once the local is read.
+fn parse_formal(tokens: &[u32], at: usize, full: bool) -> Defined
+    ensures { λ r. ⌜ r ≡ formalD (tokensOf (now (tokens .entry))) full at ⌝ }
+{
+    match consume_named(tokens, at, 1, 6) {
+        Named::Refused(e) => Defined::Refused(e),
+        Named::At(id, at1) => {
+            if full {
+                return Defined::Refused(refuse(36, at));
+            }
+            match consume(tokens, at1, 29) {
+                Consumed::Refused(e) => Defined::Refused(e),
+                Consumed::At(at2) => match parse_type(tokens, at2) {
+                    TypeRead::Refused(e) => Defined::Refused(e),
+                    TypeRead::At(ty, at3) => Defined::At(Variable { id, ty }, at3),
+                },
+            }
+        }
+    }
+}
+
+// The closing parenthesis behind n formals.
+fn close_formals(tokens: &[u32], at: usize, n: usize) -> Run
+    ensures { λ r. ⌜ r ≡ closedD (tokensOf (now (tokens .entry))) at n ⌝ }
+{
+    match consume(tokens, at, 26) {
+        Consumed::Refused(e) => Run::Refused(e),
+        Consumed::At(i) => Run::Done(n, i),
+    }
+}
+
+fn parse_formals_from(tokens: &[u32], at: usize, cells: &mut [u32], used: usize) -> Run
+    requires { ⌜ used + 32 ≤ length (now cells) ⌝ }
+    ensures { λ r. ⌜ r ≡ runOf (formalsFromD (tokensOf (now (tokens .entry))) 16 at) ⌝ }
+    ensures { λ r. ⌜ now (cells .exit)
+        ≡ sets (now (cells .entry)) used (variablesCells (formalsFromD (tokensOf (now (tokens .entry))) 16 at .list)) ⌝ }
+{
+    let mut n: usize = 0;
+    let mut here = at;
+    loop {
+        match parse_formal(tokens, here, 16 <= n) {
+            Defined::Refused(e) => {
+                return Run::Refused(e);
+            }
+            Defined::At(v, next) => {
+                put_variable(cells, used + n * 2, v);
+                n += 1;
+                let t = lexer::token_at(tokens, next);
+                if t.kind != 31 {
+                    return close_formals(tokens, next, n);
+                }
+                here = t.next;
+            }
+        }
+    }
+}
+
+// From after the opening parenthesis.
+pub fn parse_formals(tokens: &[u32], at: usize, cells: &mut [u32], used: usize) -> Run
+    requires { ⌜ used + 32 ≤ length (now cells) ⌝ }
+    ensures { λ r. ⌜ r ≡ runOf (formalsD (tokensOf (now (tokens .entry))) at) ⌝ }
+    ensures { λ r. ⌜ now (cells .exit)
+        ≡ sets (now (cells .entry)) used (variablesCells (formalsD (tokensOf (now (tokens .entry))) at .list)) ⌝ }
+{
+    let t = lexer::token_at(tokens, at);
+    if t.kind == 26 {
+        return Run::Done(0, t.next);
+    }
+    parse_formals_from(tokens, at, cells, used)
+}
+
+// Locals up to the semicolon. 37 comes once the local is read.
+pub fn parse_arguments(tokens: &[u32], at: usize, cells: &mut [u32], used: usize) -> Run
+    requires { ⌜ used + 32 ≤ length (now cells) ⌝ }
+    ensures { λ r. ⌜ r ≡ runOf (argumentsD (tokensOf (now (tokens .entry))) 16 at) ⌝ }
+    ensures { λ r. ⌜ now (cells .exit)
+        ≡ sets (now (cells .entry)) used (variablesCells (argumentsD (tokensOf (now (tokens .entry))) 16 at .list)) ⌝ }
+{
+    let mut n: usize = 0;
+    let mut here = at;
+    loop {
+        let t = lexer::token_at(tokens, here);
+        if t.kind == 30 {
+            return Run::Done(n, t.next);
+        }
+        match consume_named(tokens, here, 1, 6) {
+            Named::Refused(e) => {
+                return Run::Refused(e);
+            }
+            Named::At(id, next) => {
+                if 16 <= n {
+                    return Run::Refused(refuse(37, here));
+                }
+                let ty = Ty::Placeholder;
+                put_variable(cells, used + n * 2, Variable { id, ty });
+                n += 1;
+                here = next;
+            }
+        }
+    }
+}
