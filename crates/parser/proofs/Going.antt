@@ -1,8 +1,8 @@
 -- The loops that store a run: what is left to read, read from here, gives the whole run; what is stored is what was read.
 -- One lemma for each way a turn can end, for formals and arguments alike.
-use Prim.Native.Nat.{ℕ, suc, _+_, _-_, _*_, _≤_, _<_}
+use Prim.Native.Nat.{ℕ, suc, _+_, _*_, _≤_, _<_}
 use mathlib.Core.Path.{_≡_, refl, sym, ap, _∙_}
-use mathlib.Core.List.{List, [], _∷_}
+use mathlib.Core.List.{List}
 use native.Mathlib.Omega.{arith}
 use native.Mathlib.Nat.{add-zero}
 use lib.ListN.{length}
@@ -11,7 +11,6 @@ use Rattle.parser.specs.Step.{thenAt}
 use Rattle.parser.specs.Runs.{Variables, ended, andThen, variableCells, variablesCells, runOf}
 use Rattle.parser.specs.declared.Variable.{Variable}
 use Rattle.parser.specs.declared.Consumed.{Consumed}
-use Rattle.parser.specs.declared.Run.{Run}
 use Rattle.parser.specs.declared.Run.the-variants as U
 
 -- of the whole run n variables are stored, and `rest` is left

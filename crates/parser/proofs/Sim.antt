@@ -11,11 +11,12 @@ use Rattle.utils.specs.Bytes.{pick}
 use Rattle.lexer.specs.Decoded.{Tok, tokenAt}
 use Rattle.pieces.specs.declared.Identifier.{Identifier}
 use Rattle.parser.specs.Step.{look, thenAt, thenNamed, thenType, thenDefined}
-use Rattle.parser.specs.Grammar.{consumeD, namedD, localD, labelD, globalD, typeD, printD, retD, jumpD, branchD, nopD}
-use Rattle.parser.specs.Grammar.{definedD, constD, unaryD, binaryD, isConstant, isUnary, isBinary, valueD, definitionD}
-use Rattle.parser.specs.Grammar.{instructionD}
+use Rattle.parser.specs.Grammar.{consumeD, namedD, localD, labelD, globalD, typeD, printD, retD, jumpD, branchD}
+use Rattle.parser.specs.Grammar.{nopD, definedD, constD, unaryD, binaryD, isConstant, isUnary, isBinary, valueD}
+use Rattle.parser.specs.Grammar.{definitionD, instructionD}
 use Rattle.parser.specs.Runs.{Variables, ended, andThen, formalD, formalsFromD, formalsD, argumentsD}
-use Rattle.parser.specs.Moved.{Move, isName, moveT, Sim, SimName, SimE, SimC, SimN, SimR, SimV, SimD, SimO, SimP, Rel, Each, SimVs}
+use Rattle.parser.specs.Moved.{Move, isName, Sim, SimName, SimE, SimC, SimN, SimR, SimV, SimD, SimO, SimP, Rel}
+use Rattle.parser.specs.Moved.{Each, SimVs}
 use Rattle.parser.specs.declared.Refusal.{Refusal}
 use Rattle.parser.specs.declared.Ty.{Ty}
 use Rattle.parser.specs.declared.Variable.{Variable}

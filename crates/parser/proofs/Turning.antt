@@ -1,10 +1,10 @@
--- One turn of each loop over a run, by what the calls gave: the definition with this much room left is the end, the refusal, or
--- one variable and the rest.
+-- One turn of each loop over a run, by what the calls gave: the definition with this much room left is the end, the
+-- refusal, or one variable and the rest.
 use Prim.Native.Nat.{ℕ, zero, suc, _+_, _-_, _≤_, _<_}
 use mathlib.Core.Path.{_≡_, refl, sym, _∙_}
 use mathlib.Core.List.{List}
-use mathlib.Core.Bool.{Bool, true, false}
-use mathlib.Core.Logic.{_⊎_, ⊎-elim}
+use mathlib.Core.Bool.{true}
+use mathlib.Core.Logic.{⊎-elim}
 use native.Mathlib.Omega.{arith}
 use native.Mathlib.Nat.{eq-or-lt-of-le}
 use borrow.Author.Tests.{le-leb, lt-leb, eq-eqb, ne-eqb}
@@ -12,8 +12,8 @@ use lib.Dec.{leb}
 use Rattle.lexer.specs.Decoded.{Tok, tokenAt}
 use Rattle.lexer.specs.declared.TokenAt.{TokenAt}
 use Rattle.pieces.specs.declared.Identifier.{Identifier}
-use Rattle.parser.specs.Step.{refusal, opened, look, thenNamed}
-use Rattle.parser.specs.Grammar.{consumeD, namedD, localD}
+use Rattle.parser.specs.Step.{refusal, opened}
+use Rattle.parser.specs.Grammar.{consumeD, localD}
 use Rattle.parser.specs.Runs.{ended, stopped, andThen, variable, formalD, formalsFromD, argumentsD}
 use Rattle.parser.specs.declared.Refusal.{Refusal}
 use Rattle.parser.specs.declared.Ty.the-variants as Y

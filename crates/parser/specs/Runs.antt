@@ -1,5 +1,5 @@
--- Runs: the formals of a header and the arguments of a call, each as the list that was read and where it ended. The bound is
--- document 01's limit, so that the one too many is refused once its local is read (36, 37).
+-- Runs: the formals of a header and the arguments of a call, each as the list that was read and where it ended. The
+-- bound is document 01's limit, so that the one too many is refused once its local is read (36, 37).
 use Prim.Native.Nat.{ℕ, zero, suc, _+_}
 use mathlib.Core.List.{List, [], _∷_}
 use mathlib.Core.Bool.{Bool, true, false}
@@ -9,7 +9,7 @@ use Rattle.utils.specs.Bytes.{pick}
 use Rattle.lexer.specs.Decoded.{Tok, tokenAt}
 use Rattle.pieces.specs.declared.Identifier.{Identifier}
 use Rattle.parser.specs.Step.{refusal, look, thenAt, thenNamed, thenType, thenDefined}
-use Rattle.parser.specs.Grammar.{consumeD, localD, globalD, typeD}
+use Rattle.parser.specs.Grammar.{consumeD, localD, typeD}
 use Rattle.parser.specs.declared.Refusal.{Refusal}
 use Rattle.parser.specs.declared.Ty.{Ty}
 use Rattle.parser.specs.declared.Ty.the-variants as Y

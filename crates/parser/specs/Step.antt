@@ -1,5 +1,5 @@
--- Steps: each looks at tokens, and gives what it found with the index to go on at, or a refusal. A refusal holds its number,
--- a token's index and what its message needs, never a line or a place: those are looked up once, at the end.
+-- Steps: each looks at tokens, and gives what it found with the index to go on at, or a refusal. A refusal holds its
+-- number, a token's index and what its message needs, never a line or a place: those are looked up once, at the end.
 use Prim.Native.Nat.{ℕ}
 use Rattle.pieces.specs.declared.Identifier.{Identifier}
 use Rattle.lexer.specs.declared.TokenAt.{TokenAt}

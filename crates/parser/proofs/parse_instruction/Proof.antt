@@ -1,58 +1,32 @@
-use borrow.Author.Tests.{lt-ltb, le-ltb, le-leb, lt-leb, eq-eqb, ne-eqb}
-use native.Mathlib.Omega.{arith}
-use native.Mathlib.Numerals.{add-one}
-use Prim.Native.Nat.{ℕ, suc, _+_, _-_, _*_, _≤_, _<_}
-use mathlib.Core.Path.{_≡_, refl, sym, ap, _∙_}
-use mathlib.Core.Logic.{⊎-elim}
-use mathlib.Core.List.{List, [], _∷_, _++_}
-use mathlib.Core.Bool.{Bool, true, false}
-use lib.ListN.{length, drop, take, getD}
-use lib.Seq.{drop-cons}
-use denote.Ref.{now}
+-- Each arm's kind decides the definition's choice; the last arm is none of them.
+use borrow.Author.Tests.{ne-eqb}
 use borrow.Author.Needs.{needs}
 use Rattle.parser.specs.Grammar.{instructionD}
 use Rattle.parser.specs.Step.{opened}
 use Rattle.parser.proofs.parse_instruction.Statement.{statement}
 use Rattle.parser.proofs.parse_instruction.Tie as tie
-use Rattle.parser.proofs.parse_instruction.Reads as reads
-use Rattle.parser.proofs.parse_instruction.Lts as lts
-use Rattle.lexer.proofs.token_at.Reads as token-at-reads
-use Rattle.parser.proofs.parse_definition.Reads as parse-definition-reads
-use Rattle.parser.proofs.statement.parse_branch.Reads as parse-branch-reads
-use Rattle.parser.proofs.statement.parse_jump.Reads as parse-jump-reads
-use Rattle.parser.proofs.statement.parse_nop.Reads as parse-nop-reads
-use Rattle.parser.proofs.statement.parse_print.Reads as parse-print-reads
-use Rattle.parser.proofs.statement.parse_ret.Reads as parse-ret-reads
 
--- src/lib.rt:143:9
 token-at-requires : tie.Need-token-at-requires
 token-at-requires c κs = search needs
 
--- src/lib.rt:147:15
 parse-print-requires : tie.Need-parse-print-requires
 parse-print-requires c κs = search needs
 
--- src/lib.rt:148:15
 parse-ret-requires : tie.Need-parse-ret-requires
 parse-ret-requires c κs = search needs
 
--- src/lib.rt:149:15
 parse-jump-requires : tie.Need-parse-jump-requires
 parse-jump-requires c κs = search needs
 
--- src/lib.rt:150:15
 parse-branch-requires : tie.Need-parse-branch-requires
 parse-branch-requires c κs = search needs
 
--- src/lib.rt:151:15
 parse-nop-requires : tie.Need-parse-nop-requires
 parse-nop-requires c κs = search needs
 
--- src/lib.rt:153:14
 parse-definition-requires : tie.Need-parse-definition-requires
 parse-definition-requires c κs = search needs
 
--- src/lib.rt:140:1
 returns : tie.Need-returns
 unfolding instructionD opened
 returns c =
@@ -61,7 +35,6 @@ returns c =
     let parse-print = c .parse-print in
     rw (← token-at .ensures, match .keys1) (parse-print .ensures)
 
--- src/lib.rt:140:1
 returns-2 : tie.Need-returns-2
 unfolding instructionD opened
 returns-2 c =
@@ -70,7 +43,6 @@ returns-2 c =
     let parse-ret = c .parse-ret in
     rw (← token-at .ensures, match .keys2) (parse-ret .ensures)
 
--- src/lib.rt:140:1
 returns-3 : tie.Need-returns-3
 unfolding instructionD opened
 returns-3 c =
@@ -79,7 +51,6 @@ returns-3 c =
     let parse-jump = c .parse-jump in
     rw (← token-at .ensures, match .keys3) (parse-jump .ensures)
 
--- src/lib.rt:140:1
 returns-4 : tie.Need-returns-4
 unfolding instructionD opened
 returns-4 c =
@@ -88,7 +59,6 @@ returns-4 c =
     let parse-branch = c .parse-branch in
     rw (← token-at .ensures, match .keys4) (parse-branch .ensures)
 
--- src/lib.rt:140:1
 returns-5 : tie.Need-returns-5
 unfolding instructionD opened
 returns-5 c =
@@ -97,7 +67,6 @@ returns-5 c =
     let parse-nop = c .parse-nop in
     rw (← token-at .ensures, match .keys5) (parse-nop .ensures)
 
--- src/lib.rt:140:1
 returns-6 : tie.Need-returns-6
 unfolding instructionD opened
 returns-6 c =
@@ -105,7 +74,6 @@ returns-6 c =
     let match = c .match in
     rw (← token-at .ensures, match .keys6)
 
--- src/lib.rt:140:1
 returns-7 : tie.Need-returns-7
 unfolding instructionD opened
 returns-7 c =
@@ -118,7 +86,15 @@ returns-7 c =
     let r3 = r2 .0 in
     let r4 = r3 .0 in
     let r5 = r4 .0 in
-    rw (← token-at .ensures, ne-eqb _ _ (r5 .1), ne-eqb _ _ (r4 .1), ne-eqb _ _ (r3 .1), ne-eqb _ _ (r2 .1), ne-eqb _ _ (r1 .1), ne-eqb _ _ (r0 .1)) (parse-definition .ensures)
+    rw (
+      ← token-at .ensures,
+      ne-eqb _ _ (r5 .1),
+      ne-eqb _ _ (r4 .1),
+      ne-eqb _ _ (r3 .1),
+      ne-eqb _ _ (r2 .1),
+      ne-eqb _ _ (r1 .1),
+      ne-eqb _ _ (r0 .1),
+    ) (parse-definition .ensures)
 
 pub parse-instruction-spec : {M : Type 1} → statement M
 parse-instruction-spec =

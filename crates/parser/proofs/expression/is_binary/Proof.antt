@@ -1,30 +1,16 @@
-use borrow.Author.Needs.{needs}
-use borrow.Author.Tests.{lt-ltb, le-ltb, le-leb, lt-leb, eq-eqb, ne-eqb}
-use native.Mathlib.Omega.{arith}
-use native.Mathlib.Numerals.{add-one}
-use Prim.Native.Nat.{ℕ, suc, _+_, _-_, _*_, _≤_, _<_}
-use mathlib.Core.Path.{_≡_, refl, sym, ap, _∙_}
-use mathlib.Core.Logic.{⊎-elim}
-use mathlib.Core.List.{List, [], _∷_, _++_}
-use mathlib.Core.Bool.{Bool, true, false}
-use lib.ListN.{length, drop, take, getD}
-use lib.Seq.{drop-cons}
-use denote.Ref.{now}
+-- Each return has taken the steps that lead to it in the definition, in their order.
+use borrow.Author.Tests.{le-leb, lt-leb, eq-eqb, ne-eqb}
 use Rattle.parser.specs.Grammar.{isBinary}
 use Rattle.parser.specs.Step.{opened}
 use Rattle.parser.proofs.expression.is_binary.Statement.{statement}
 use Rattle.parser.proofs.expression.is_binary.Tie as tie
-use Rattle.parser.proofs.expression.is_binary.Reads as reads
-use Rattle.parser.proofs.expression.is_binary.Lts as lts
 
--- src/expression.rt:102:9
 returns : tie.Need-returns
 unfolding isBinary opened
 returns c =
     let if1 = c .if1 in
     rw (le-leb _ _ (if1 .taken))
 
--- src/expression.rt:105:9
 returns-2 : tie.Need-returns-2
 unfolding isBinary opened
 returns-2 c =
@@ -32,7 +18,6 @@ returns-2 c =
     let if2 = c .if2 in
     rw (lt-leb _ _ (if1 .left), le-leb _ _ (if2 .taken))
 
--- src/expression.rt:108:9
 returns-3 : tie.Need-returns-3
 unfolding isBinary opened
 returns-3 c =
@@ -41,7 +26,6 @@ returns-3 c =
     let if3 = c .if3 in
     rw (lt-leb _ _ (if1 .left), lt-leb _ _ (if2 .left), le-leb _ _ (if3 .taken))
 
--- src/expression.rt:111:9
 returns-4 : tie.Need-returns-4
 unfolding isBinary opened
 returns-4 c =
@@ -51,7 +35,6 @@ returns-4 c =
     let if4 = c .if4 in
     rw (lt-leb _ _ (if1 .left), lt-leb _ _ (if2 .left), lt-leb _ _ (if3 .left), le-leb _ _ (if4 .taken))
 
--- src/expression.rt:114:9
 returns-5 : tie.Need-returns-5
 unfolding isBinary opened
 returns-5 c =
@@ -60,9 +43,14 @@ returns-5 c =
     let if3 = c .before .before .if3 in
     let if4 = c .before .if4 in
     let if5 = c .if5 in
-    rw (lt-leb _ _ (if1 .left), lt-leb _ _ (if2 .left), lt-leb _ _ (if3 .left), lt-leb _ _ (if4 .left), eq-eqb _ _ (if5 .taken))
+    rw (
+      lt-leb _ _ (if1 .left),
+      lt-leb _ _ (if2 .left),
+      lt-leb _ _ (if3 .left),
+      lt-leb _ _ (if4 .left),
+      eq-eqb _ _ (if5 .taken),
+    )
 
--- src/expression.rt:98:1
 returns-6 : tie.Need-returns-6
 unfolding isBinary opened
 returns-6 c =
@@ -71,7 +59,13 @@ returns-6 c =
     let if3 = c .before .before .if3 in
     let if4 = c .before .if4 in
     let if5 = c .if5 in
-    rw (lt-leb _ _ (if1 .left), lt-leb _ _ (if2 .left), lt-leb _ _ (if3 .left), lt-leb _ _ (if4 .left), ne-eqb _ _ (if5 .left))
+    rw (
+      lt-leb _ _ (if1 .left),
+      lt-leb _ _ (if2 .left),
+      lt-leb _ _ (if3 .left),
+      lt-leb _ _ (if4 .left),
+      ne-eqb _ _ (if5 .left),
+    )
 
 pub is-binary-spec : {M : Type 1} → statement M
 is-binary-spec = tie.close (tie.spec returns returns-2 returns-3 returns-4 returns-5 returns-6)

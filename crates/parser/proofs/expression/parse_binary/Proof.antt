@@ -1,61 +1,37 @@
-use borrow.Author.Tests.{lt-ltb, le-ltb, le-leb, lt-leb, eq-eqb, ne-eqb}
-use native.Mathlib.Omega.{arith}
-use native.Mathlib.Numerals.{add-one}
-use Prim.Native.Nat.{ℕ, suc, _+_, _-_, _*_, _≤_, _<_}
-use mathlib.Core.Path.{_≡_, refl, sym, ap, _∙_}
-use mathlib.Core.Logic.{⊎-elim}
-use mathlib.Core.List.{List, [], _∷_, _++_}
-use mathlib.Core.Bool.{Bool, true, false}
-use lib.ListN.{length, drop, take, getD}
-use lib.Seq.{drop-cons}
-use denote.Ref.{now}
+-- Each return has taken the steps that lead to it in the definition, in their order.
 use borrow.Author.Needs.{needs}
 use Rattle.parser.specs.Grammar.{binaryD}
 use Rattle.parser.specs.Step.{opened}
 use Rattle.parser.proofs.expression.parse_binary.Statement.{statement}
 use Rattle.parser.proofs.expression.parse_binary.Tie as tie
-use Rattle.parser.proofs.expression.parse_binary.Reads as reads
-use Rattle.parser.proofs.expression.parse_binary.Lts as lts
-use Rattle.parser.proofs.consume.Reads as consume-reads
-use Rattle.parser.proofs.consume_named.Reads as consume-named-reads
 
--- src/expression.rt:77:11
 consume-named-requires : tie.Need-consume-named-requires
 consume-named-requires c κs = search needs
 
--- src/expression.rt:78:24
 enum-known-e : tie.Need-enum-known-e
 enum-known-e c = search needs
 
--- src/expression.rt:79:19
 enum-known-x : tie.Need-enum-known-x
 enum-known-x c = search needs
 
--- src/expression.rt:79:36
 consume-named-requires-2 : tie.Need-consume-named-requires-2
 consume-named-requires-2 c κs = search needs
 
--- src/expression.rt:80:28
 enum-known-e-2 : tie.Need-enum-known-e-2
 enum-known-e-2 c = search needs
 
--- src/expression.rt:81:23
 enum-known-y : tie.Need-enum-known-y
 enum-known-y c = search needs
 
--- src/expression.rt:81:40
 consume-requires : tie.Need-consume-requires
 consume-requires c κs = search needs
 
--- src/expression.rt:82:35
 enum-known-e-3 : tie.Need-enum-known-e-3
 enum-known-e-3 c = search needs
 
--- src/expression.rt:83:30
 enum-known-at3 : tie.Need-enum-known-at3
 enum-known-at3 c = search needs
 
--- src/expression.rt:74:1
 returns : tie.Need-returns
 unfolding binaryD opened
 returns c =
@@ -63,7 +39,6 @@ returns c =
     let e = c .before .e in
     rw (← consume-named .ensures, e .given .1)
 
--- src/expression.rt:74:1
 returns-2 : tie.Need-returns-2
 unfolding binaryD opened
 returns-2 c =
@@ -73,29 +48,43 @@ returns-2 c =
     let e2 = c .before .e2 in
     rw (← consume-named .ensures, x .given .1, ← consume-named2 .ensures, e2 .given .1)
 
--- src/expression.rt:74:1
 returns-3 : tie.Need-returns-3
 unfolding binaryD opened
 returns-3 c =
-    let consume-named = c .before .before .before .before .before .before .before .before .before .before .before .consume-named in
-    let x = c .before .before .before .before .before .before .before .before .before .x in
+    let back8 = c .before .before .before .before .before .before .before .before in
+    let consume-named = back8 .before .before .before .consume-named in
+    let x = back8 .before .x in
     let consume-named2 = c .before .before .before .before .before .before .before .consume-named2 in
     let y = c .before .before .before .before .before .y in
     let consume = c .before .before .before .consume in
     let e3 = c .before .e3 in
-    rw (← consume-named .ensures, x .given .1, ← consume-named2 .ensures, y .given .1, ← consume .ensures, e3 .given .1)
+    rw (
+      ← consume-named .ensures,
+      x .given .1,
+      ← consume-named2 .ensures,
+      y .given .1,
+      ← consume .ensures,
+      e3 .given .1,
+    )
 
--- src/expression.rt:74:1
 returns-4 : tie.Need-returns-4
 unfolding binaryD opened
 returns-4 c =
-    let consume-named = c .before .before .before .before .before .before .before .before .before .before .before .consume-named in
-    let x = c .before .before .before .before .before .before .before .before .before .x in
+    let back8 = c .before .before .before .before .before .before .before .before in
+    let consume-named = back8 .before .before .before .consume-named in
+    let x = back8 .before .x in
     let consume-named2 = c .before .before .before .before .before .before .before .consume-named2 in
     let y = c .before .before .before .before .before .y in
     let consume = c .before .before .before .consume in
     let at3 = c .before .at3 in
-    rw (← consume-named .ensures, x .given .1, ← consume-named2 .ensures, y .given .1, ← consume .ensures, at3 .given .1)
+    rw (
+      ← consume-named .ensures,
+      x .given .1,
+      ← consume-named2 .ensures,
+      y .given .1,
+      ← consume .ensures,
+      at3 .given .1,
+    )
 
 pub parse-binary-spec : {M : Type 1} → statement M
 parse-binary-spec =

@@ -1,49 +1,28 @@
-use borrow.Author.Tests.{lt-ltb, le-ltb, le-leb, lt-leb, eq-eqb, ne-eqb}
-use native.Mathlib.Omega.{arith}
-use native.Mathlib.Numerals.{add-one}
-use Prim.Native.Nat.{ℕ, suc, _+_, _-_, _*_, _≤_, _<_}
-use mathlib.Core.Path.{_≡_, refl, sym, ap, _∙_}
-use mathlib.Core.Logic.{⊎-elim}
-use mathlib.Core.List.{List, [], _∷_, _++_}
-use mathlib.Core.Bool.{Bool, true, false}
-use lib.ListN.{length, drop, take, getD}
-use lib.Seq.{drop-cons}
-use denote.Ref.{now}
+-- Each return has taken the steps that lead to it in the definition, in their order.
 use borrow.Author.Needs.{needs}
 use Rattle.parser.specs.Grammar.{unaryD}
 use Rattle.parser.specs.Step.{opened}
 use Rattle.parser.proofs.expression.parse_unary.Statement.{statement}
 use Rattle.parser.proofs.expression.parse_unary.Tie as tie
-use Rattle.parser.proofs.expression.parse_unary.Reads as reads
-use Rattle.parser.proofs.expression.parse_unary.Lts as lts
-use Rattle.parser.proofs.consume.Reads as consume-reads
-use Rattle.parser.proofs.consume_named.Reads as consume-named-reads
 
--- src/expression.rt:65:11
 consume-named-requires : tie.Need-consume-named-requires
 consume-named-requires c κs = search needs
 
--- src/expression.rt:66:24
 enum-known-e : tie.Need-enum-known-e
 enum-known-e c = search needs
 
--- src/expression.rt:67:19
 enum-known-x : tie.Need-enum-known-x
 enum-known-x c = search needs
 
--- src/expression.rt:67:36
 consume-requires : tie.Need-consume-requires
 consume-requires c κs = search needs
 
--- src/expression.rt:68:31
 enum-known-e-2 : tie.Need-enum-known-e-2
 enum-known-e-2 c = search needs
 
--- src/expression.rt:69:26
 enum-known-at2 : tie.Need-enum-known-at2
 enum-known-at2 c = search needs
 
--- src/expression.rt:62:1
 returns : tie.Need-returns
 unfolding unaryD opened
 returns c =
@@ -51,7 +30,6 @@ returns c =
     let e = c .before .e in
     rw (← consume-named .ensures, e .given .1)
 
--- src/expression.rt:62:1
 returns-2 : tie.Need-returns-2
 unfolding unaryD opened
 returns-2 c =
@@ -61,7 +39,6 @@ returns-2 c =
     let e2 = c .before .e2 in
     rw (← consume-named .ensures, x .given .1, ← consume .ensures, e2 .given .1)
 
--- src/expression.rt:62:1
 returns-3 : tie.Need-returns-3
 unfolding unaryD opened
 returns-3 c =

@@ -1,54 +1,37 @@
+-- Of the whole run n variables are stored, and the rest is read from here (`Going`).
 use borrow.Author.Needs.{needs}
-use borrow.Author.Tests.{lt-ltb, le-ltb, le-leb, lt-leb, eq-eqb, ne-eqb}
 use native.Mathlib.Omega.{arith}
-use native.Mathlib.Numerals.{add-one}
-use Prim.Native.Nat.{ℕ, suc, _+_, _-_, _*_, _≤_, _<_}
-use mathlib.Core.Path.{_≡_, refl, sym, ap, _∙_}
-use mathlib.Core.Logic.{⊎-elim}
-use mathlib.Core.List.{List, [], _∷_, _++_}
-use mathlib.Core.Bool.{Bool, true, false}
-use lib.ListN.{length, drop, take, getD}
-use lib.Seq.{drop-cons}
+use Prim.Native.Nat.{_-_}
 use denote.Ref.{now}
-use Rattle.parser.specs.Step.{opened, thenAt}
-use Rattle.parser.proofs.Turning.{arguments-end, arguments-refused, arguments-full, arguments-more, formals-refused, formals-room, formals-last, formals-more}
+use Rattle.parser.specs.Step.{thenAt, refusal}
+use Rattle.parser.proofs.Turning.{arguments-end, arguments-refused, arguments-full, arguments-more}
 use Rattle.parser.specs.declared.Consumed.the-variants as C
 use Rattle.lexer.specs.Decoded.{tokensOf}
 use Rattle.parser.proofs.Going.{Going, begin, stop, onward}
-use Rattle.parser.specs.Step.{opened, thenAt, refusal}
-use Rattle.parser.specs.Runs.{argumentsD, formalsFromD, formalsD, closedD}
+use Rattle.parser.specs.Runs.{argumentsD}
 use Rattle.parser.proofs.runs.parse_arguments.Statement.{statement}
 use Rattle.parser.proofs.runs.parse_arguments.Tie as tie
-use Rattle.parser.proofs.runs.parse_arguments.Reads as reads
-use Rattle.parser.proofs.runs.parse_arguments.Lts as lts
-use Rattle.lexer.proofs.token_at.Reads as token-at-reads
-use Rattle.parser.proofs.consume_named.Reads as consume-named-reads
-use Rattle.parser.proofs.refuse.Reads as refuse-reads
-use Rattle.parser.proofs.runs.put_variable.Reads as put-variable-reads
 
 abbrev Inv-loop : tie.InvT-loop
-Inv-loop tokens at cells₀ used n₀ here₀ cells n here = Going (argumentsD (tokensOf tokens) 16 at) (argumentsD (tokensOf tokens) (16 - n) here) used cells₀ cells n
+Inv-loop tokens at cells₀ used n₀ here₀ cells n here =
+    Going (argumentsD (tokensOf tokens) 16 at) (argumentsD (tokensOf tokens) (16 - n) here) used cells₀ cells n
 
 abbrev μ-loop : tie.MeasureT-loop
 μ-loop tokens at cells₀ used n₀ here₀ cells n here = 16 - n
 
--- src/runs.rt:124:5
 loop-holds : tie.Need-loop-holds Inv-loop μ-loop
 loop-holds c =
     let a = c .before .before .args in
     begin (argumentsD (tokensOf (now (a .tokens))) 16 (a .at)) (a .used) (now (a .cells))
 
--- src/runs.rt:125:13
 token-at-requires : tie.Need-token-at-requires Inv-loop μ-loop
 token-at-requires c κs = search needs
 
--- src/runs.rt:127:13
 same-length : tie.Need-same-length Inv-loop μ-loop
 same-length c =
     let loop = c .before .before .before .loop in
     omega (arith, loop .inv .long)
 
--- src/runs.rt:127:13
 returns : tie.Need-returns Inv-loop μ-loop
 unfolding thenAt
 returns c =
@@ -61,55 +44,52 @@ returns c =
     let s = stop (C.At (token-at .result .next)) (loop .inv) turn in
     (s .0, s .1)
 
--- src/runs.rt:129:15
 consume-named-requires : tie.Need-consume-named-requires Inv-loop μ-loop
 consume-named-requires c κs = search needs
 
--- src/runs.rt:130:28
 enum-known-e : tie.Need-enum-known-e Inv-loop μ-loop
 enum-known-e c = search needs
 
--- src/runs.rt:131:17
 same-length-2 : tie.Need-same-length-2 Inv-loop μ-loop
 same-length-2 c =
     let loop = c .before .before .before .before .before .before .before .loop in
     omega (arith, loop .inv .long)
 
--- src/runs.rt:131:17
 returns-2 : tie.Need-returns-2 Inv-loop μ-loop
 unfolding thenAt
 returns-2 c =
-    let a = c .before .before .before .before .before .before .before .before .before .before .args in
+    let back8 = c .before .before .before .before .before .before .before .before in
+    let a = back8 .before .before .args in
     let loop = c .before .before .before .before .before .before .before .loop in
     let token-at = c .before .before .before .before .before .before .token-at in
     let if1 = c .before .before .before .before .if1 in
     let consume-named = c .before .before .before .consume-named in
     let e = c .before .e in
     let ts = tokensOf (now (a .tokens)) in
-    let turn = arguments-refused ts (16 - loop .n) (loop .here) (token-at .ensures) (if1 .left) (consume-named .ensures) (e .given .1) in
+    let turn =
+    arguments-refused ts (16 - loop .n) (loop .here) (token-at .ensures) (if1 .left) (consume-named .ensures)
+    (e .given .1) in
     let s = stop (C.Refused (e .given .0 .0)) (loop .inv) turn in
     (s .0, s .1)
 
--- src/runs.rt:133:23
 enum-known-id : tie.Need-enum-known-id Inv-loop μ-loop
 enum-known-id c = search needs
 
--- src/runs.rt:135:41
 refuse-requires : tie.Need-refuse-requires Inv-loop μ-loop
 refuse-requires c κs = search needs
 
--- src/runs.rt:135:21
 same-length-3 : tie.Need-same-length-3 Inv-loop μ-loop
 same-length-3 c =
-    let loop = c .before .before .before .before .before .before .before .before .before .loop in
+    let back8 = c .before .before .before .before .before .before .before .before in
+    let loop = back8 .before .loop in
     omega (arith, loop .inv .long)
 
--- src/runs.rt:135:21
 returns-3 : tie.Need-returns-3 Inv-loop μ-loop
 unfolding thenAt
 returns-3 c =
-    let a = c .before .before .before .before .before .before .before .before .before .before .before .before .args in
-    let loop = c .before .before .before .before .before .before .before .before .before .loop in
+    let back8 = c .before .before .before .before .before .before .before .before in
+    let a = back8 .before .before .before .before .args in
+    let loop = back8 .before .loop in
     let if2 = c .before .if2 in
     let token-at = c .before .before .before .before .before .before .before .before .token-at in
     let if1 = c .before .before .before .before .before .before .if1 in
@@ -117,55 +97,60 @@ returns-3 c =
     let id = c .before .before .before .id in
     let refuse = c .refuse in
     let ts = tokensOf (now (a .tokens)) in
-    let turn = arguments-full ts (16 - loop .n) (loop .here) (omega (arith, if2 .taken)) (token-at .ensures) (if1 .left) (consume-named .ensures) (id .given .1) in
+    let turn =
+    arguments-full ts (16 - loop .n) (loop .here) (omega (
+      arith,
+      if2 .taken,
+    )) (token-at .ensures) (if1 .left) (consume-named .ensures) (id .given .1) in
     let s = stop (C.Refused (refusal 37 (loop .here) 0)) (loop .inv) turn in
     rw (refuse .ensures) (s .0, s .1)
 
--- src/runs.rt:138:44
 mul-put-variable : tie.Need-mul-put-variable Inv-loop μ-loop
 mul-put-variable c =
-    let loop = c .before .before .before .before .before .before .before .before .before .loop in
+    let back8 = c .before .before .before .before .before .before .before .before in
+    let loop = back8 .before .loop in
     omega (arith, loop .inv .few)
 
--- src/runs.rt:138:37
 add-put-variable : tie.Need-add-put-variable Inv-loop μ-loop
 add-put-variable c =
-    let loop = c .before .before .before .before .before .before .before .before .before .loop in
-    let pre = c .before .before .before .before .before .before .before .before .before .before .before .before .pre in
+    let back8 = c .before .before .before .before .before .before .before .before in
+    let loop = back8 .before .loop in
+    let pre = back8 .before .before .before .before .pre in
     omega (arith, loop .inv .few, loop .inv .long, pre)
 
--- src/runs.rt:138:17
 put-variable-requires : tie.Need-put-variable-requires Inv-loop μ-loop
 put-variable-requires c κs =
-    let loop = c .before .before .before .before .before .before .before .before .before .loop in
+    let back8 = c .before .before .before .before .before .before .before .before in
+    let loop = back8 .before .loop in
     let if2 = c .before .if2 in
     omega (arith, loop .inv .long, if2 .left)
 
--- src/runs.rt:139:17
 add-n : tie.Need-add-n Inv-loop μ-loop
 add-n c =
-    let loop = c .before .before .before .before .before .before .before .before .before .before .before .before .loop in
+    let back8 = c .before .before .before .before .before .before .before .before in
+    let loop = back8 .before .before .before .before .loop in
     omega (arith, loop .inv .few)
 
--- src/runs.rt:124:5
 loop-less : tie.Need-loop-less Inv-loop μ-loop
 loop-less c =
     let if2 = c .before .before .before .before .if2 in
     omega (arith, if2 .left)
 
--- src/runs.rt:124:5
 loop-again : tie.Need-loop-again Inv-loop μ-loop
 loop-again c =
-    let a = c .before .before .before .before .before .before .before .before .before .before .before .before .before .before .before .args in
-    let loop = c .before .before .before .before .before .before .before .before .before .before .before .before .loop in
+    let back8 = c .before .before .before .before .before .before .before .before in
+    let a = back8 .before .before .before .before .before .before .before .args in
+    let loop = back8 .before .before .before .before .loop in
     let if2 = c .before .before .before .before .if2 in
-    let token-at = c .before .before .before .before .before .before .before .before .before .before .before .token-at in
-    let if1 = c .before .before .before .before .before .before .before .before .before .if1 in
+    let token-at = back8 .before .before .before .token-at in
+    let if1 = back8 .before .if1 in
     let consume-named = c .before .before .before .before .before .before .before .before .consume-named in
     let id = c .before .before .before .before .before .before .id in
     let put-variable = c .before .before .put-variable in
     let ts = tokensOf (now (a .tokens)) in
-    let turn = arguments-more ts (loop .n) (loop .here) (if2 .left) (token-at .ensures) (if1 .left) (consume-named .ensures) (id .given .1) in
+    let turn =
+    arguments-more ts (loop .n) (loop .here) (if2 .left) (token-at .ensures) (if1 .left) (consume-named .ensures)
+    (id .given .1) in
     onward _ _ _ (loop .inv) (if2 .left) turn (put-variable .ensures)
 
 pub parse-arguments-spec : {M : Type 1} → statement M

@@ -1,43 +1,22 @@
-use borrow.Author.Tests.{lt-ltb, le-ltb, le-leb, lt-leb, eq-eqb, ne-eqb}
-use native.Mathlib.Omega.{arith}
-use native.Mathlib.Numerals.{add-one}
-use Prim.Native.Nat.{ℕ, suc, _+_, _-_, _*_, _≤_, _<_}
-use mathlib.Core.Path.{_≡_, refl, sym, ap, _∙_}
-use mathlib.Core.Logic.{⊎-elim}
-use mathlib.Core.List.{List, [], _∷_, _++_}
-use mathlib.Core.Bool.{Bool, true, false}
-use lib.ListN.{length, drop, take, getD}
-use lib.Seq.{drop-cons}
-use denote.Ref.{now}
+-- Each return has taken the steps that lead to it in the definition, in their order.
 use borrow.Author.Needs.{needs}
 use Rattle.parser.specs.Step.{opened}
-use Rattle.parser.specs.Runs.{typeCell, formalD, formalsD, formalsFromD, argumentsD, closedD, runOf, variablesCells}
+use Rattle.parser.specs.Runs.{formalD}
 use Rattle.parser.proofs.runs.parse_formal.Statement.{statement}
 use Rattle.parser.proofs.runs.parse_formal.Tie as tie
-use Rattle.parser.proofs.runs.parse_formal.Reads as reads
-use Rattle.parser.proofs.runs.parse_formal.Lts as lts
-use Rattle.parser.proofs.consume.Reads as consume-reads
-use Rattle.parser.proofs.consume_named.Reads as consume-named-reads
-use Rattle.parser.proofs.parse_type.Reads as parse-type-reads
-use Rattle.parser.proofs.refuse.Reads as refuse-reads
 
--- src/runs.rt:48:11
 consume-named-requires : tie.Need-consume-named-requires
 consume-named-requires c κs = search needs
 
--- src/runs.rt:49:24
 enum-known-e : tie.Need-enum-known-e
 enum-known-e c = search needs
 
--- src/runs.rt:50:19
 enum-known-id : tie.Need-enum-known-id
 enum-known-id c = search needs
 
--- src/runs.rt:52:41
 refuse-requires : tie.Need-refuse-requires
 refuse-requires c κs = search needs
 
--- src/runs.rt:52:17
 returns : tie.Need-returns
 unfolding formalD opened
 returns c =
@@ -47,31 +26,24 @@ returns c =
     let refuse = c .refuse in
     rw (← consume-named .ensures, id .given .1, if1 .taken, refuse .ensures)
 
--- src/runs.rt:54:19
 consume-requires : tie.Need-consume-requires
 consume-requires c κs = search needs
 
--- src/runs.rt:55:35
 enum-known-e-2 : tie.Need-enum-known-e-2
 enum-known-e-2 c = search needs
 
--- src/runs.rt:56:30
 enum-known-at2 : tie.Need-enum-known-at2
 enum-known-at2 c = search needs
 
--- src/runs.rt:56:44
 parse-type-requires : tie.Need-parse-type-requires
 parse-type-requires c κs = search needs
 
--- src/runs.rt:57:39
 enum-known-e-3 : tie.Need-enum-known-e-3
 enum-known-e-3 c = search needs
 
--- src/runs.rt:58:34
 enum-known-ty : tie.Need-enum-known-ty
 enum-known-ty c = search needs
 
--- src/runs.rt:45:1
 returns-2 : tie.Need-returns-2
 unfolding formalD opened
 returns-2 c =
@@ -79,7 +51,6 @@ returns-2 c =
     let e = c .before .e in
     rw (← consume-named .ensures, e .given .1)
 
--- src/runs.rt:45:1
 returns-3 : tie.Need-returns-3
 unfolding formalD opened
 returns-3 c =
@@ -90,31 +61,47 @@ returns-3 c =
     let e2 = c .before .e2 in
     rw (← consume-named .ensures, id .given .1, if1 .left, ← consume .ensures, e2 .given .1)
 
--- src/runs.rt:45:1
 returns-4 : tie.Need-returns-4
 unfolding formalD opened
 returns-4 c =
-    let consume-named = c .before .before .before .before .before .before .before .before .before .before .before .before .consume-named in
-    let id = c .before .before .before .before .before .before .before .before .before .before .id in
+    let back8 = c .before .before .before .before .before .before .before .before in
+    let consume-named = back8 .before .before .before .before .consume-named in
+    let id = back8 .before .before .id in
     let if1 = c .before .before .before .before .before .before .before .before .if1 in
     let consume = c .before .before .before .before .before .before .before .consume in
     let at2 = c .before .before .before .before .before .at2 in
     let parse-type = c .before .before .before .parse-type in
     let e3 = c .before .e3 in
-    rw (← consume-named .ensures, id .given .1, if1 .left, ← consume .ensures, at2 .given .1, ← parse-type .ensures, e3 .given .1)
+    rw (
+      ← consume-named .ensures,
+      id .given .1,
+      if1 .left,
+      ← consume .ensures,
+      at2 .given .1,
+      ← parse-type .ensures,
+      e3 .given .1,
+    )
 
--- src/runs.rt:45:1
 returns-5 : tie.Need-returns-5
 unfolding formalD opened
 returns-5 c =
-    let consume-named = c .before .before .before .before .before .before .before .before .before .before .before .before .consume-named in
-    let id = c .before .before .before .before .before .before .before .before .before .before .id in
+    let back8 = c .before .before .before .before .before .before .before .before in
+    let consume-named = back8 .before .before .before .before .consume-named in
+    let id = back8 .before .before .id in
     let if1 = c .before .before .before .before .before .before .before .before .if1 in
     let consume = c .before .before .before .before .before .before .before .consume in
     let at2 = c .before .before .before .before .before .at2 in
     let parse-type = c .before .before .before .parse-type in
     let ty = c .before .ty in
-    rw (← consume-named .ensures, id .given .1, if1 .left, ← consume .ensures, at2 .given .1, ← parse-type .ensures, ty .given .1)
+    rw (
+      ← consume-named .ensures,
+      id .given .1,
+      if1 .left,
+      ← consume .ensures,
+      at2 .given .1,
+      ← parse-type .ensures,
+      ty .given .1,
+    )
 
 pub parse-formal-spec : {M : Type 1} → statement M
 parse-formal-spec =

@@ -1,49 +1,28 @@
-use borrow.Author.Tests.{lt-ltb, le-ltb, le-leb, lt-leb, eq-eqb, ne-eqb}
-use native.Mathlib.Omega.{arith}
-use native.Mathlib.Numerals.{add-one}
-use Prim.Native.Nat.{ℕ, suc, _+_, _-_, _*_, _≤_, _<_}
-use mathlib.Core.Path.{_≡_, refl, sym, ap, _∙_}
-use mathlib.Core.Logic.{⊎-elim}
-use mathlib.Core.List.{List, [], _∷_, _++_}
-use mathlib.Core.Bool.{Bool, true, false}
-use lib.ListN.{length, drop, take, getD}
-use lib.Seq.{drop-cons}
-use denote.Ref.{now}
+-- Each return has taken the steps that lead to it in the definition, in their order.
 use borrow.Author.Needs.{needs}
 use Rattle.parser.specs.Grammar.{jumpD}
 use Rattle.parser.specs.Step.{opened}
 use Rattle.parser.proofs.statement.parse_jump.Statement.{statement}
 use Rattle.parser.proofs.statement.parse_jump.Tie as tie
-use Rattle.parser.proofs.statement.parse_jump.Reads as reads
-use Rattle.parser.proofs.statement.parse_jump.Lts as lts
-use Rattle.parser.proofs.consume.Reads as consume-reads
-use Rattle.parser.proofs.consume_named.Reads as consume-named-reads
 
--- src/statement.rt:43:11
 consume-named-requires : tie.Need-consume-named-requires
 consume-named-requires c κs = search needs
 
--- src/statement.rt:44:24
 enum-known-e : tie.Need-enum-known-e
 enum-known-e c = search needs
 
--- src/statement.rt:45:19
 enum-known-l : tie.Need-enum-known-l
 enum-known-l c = search needs
 
--- src/statement.rt:45:36
 consume-requires : tie.Need-consume-requires
 consume-requires c κs = search needs
 
--- src/statement.rt:46:31
 enum-known-e-2 : tie.Need-enum-known-e-2
 enum-known-e-2 c = search needs
 
--- src/statement.rt:47:26
 enum-known-at2 : tie.Need-enum-known-at2
 enum-known-at2 c = search needs
 
--- src/statement.rt:40:1
 returns : tie.Need-returns
 unfolding jumpD opened
 returns c =
@@ -51,7 +30,6 @@ returns c =
     let e = c .before .e in
     rw (← consume-named .ensures, e .given .1)
 
--- src/statement.rt:40:1
 returns-2 : tie.Need-returns-2
 unfolding jumpD opened
 returns-2 c =
@@ -61,7 +39,6 @@ returns-2 c =
     let e2 = c .before .e2 in
     rw (← consume-named .ensures, l .given .1, ← consume .ensures, e2 .given .1)
 
--- src/statement.rt:40:1
 returns-3 : tie.Need-returns-3
 unfolding jumpD opened
 returns-3 c =

@@ -1,30 +1,14 @@
-use borrow.Author.Tests.{lt-ltb, le-ltb, le-leb, lt-leb, eq-eqb, ne-eqb}
-use native.Mathlib.Omega.{arith}
-use native.Mathlib.Numerals.{add-one}
-use Prim.Native.Nat.{ℕ, suc, _+_, _-_, _*_, _≤_, _<_}
-use mathlib.Core.Path.{_≡_, refl, sym, ap, _∙_}
-use mathlib.Core.Logic.{⊎-elim}
-use mathlib.Core.List.{List, [], _∷_, _++_}
-use mathlib.Core.Bool.{Bool, true, false}
-use lib.ListN.{length, drop, take, getD}
-use lib.Seq.{drop-cons}
-use denote.Ref.{now}
+-- Each return has taken the steps that lead to it in the definition, in their order.
+use borrow.Author.Tests.{eq-eqb, ne-eqb}
 use borrow.Author.Needs.{needs}
 use Rattle.parser.specs.Grammar.{retD}
 use Rattle.parser.specs.Step.{opened}
 use Rattle.parser.proofs.statement.parse_ret.Statement.{statement}
 use Rattle.parser.proofs.statement.parse_ret.Tie as tie
-use Rattle.parser.proofs.statement.parse_ret.Reads as reads
-use Rattle.parser.proofs.statement.parse_ret.Lts as lts
-use Rattle.lexer.proofs.token_at.Reads as token-at-reads
-use Rattle.parser.proofs.consume.Reads as consume-reads
-use Rattle.parser.proofs.consume_named.Reads as consume-named-reads
 
--- src/statement.rt:27:9
 token-at-requires : tie.Need-token-at-requires
 token-at-requires c κs = search needs
 
--- src/statement.rt:29:9
 returns : tie.Need-returns
 unfolding retD opened
 returns c =
@@ -32,31 +16,24 @@ returns c =
     let if1 = c .if1 in
     rw (← token-at .ensures, eq-eqb _ _ (if1 .taken))
 
--- src/statement.rt:31:11
 consume-named-requires : tie.Need-consume-named-requires
 consume-named-requires c κs = search needs
 
--- src/statement.rt:32:24
 enum-known-e : tie.Need-enum-known-e
 enum-known-e c = search needs
 
--- src/statement.rt:33:19
 enum-known-x : tie.Need-enum-known-x
 enum-known-x c = search needs
 
--- src/statement.rt:33:36
 consume-requires : tie.Need-consume-requires
 consume-requires c κs = search needs
 
--- src/statement.rt:34:31
 enum-known-e-2 : tie.Need-enum-known-e-2
 enum-known-e-2 c = search needs
 
--- src/statement.rt:35:26
 enum-known-at2 : tie.Need-enum-known-at2
 enum-known-at2 c = search needs
 
--- src/statement.rt:24:1
 returns-2 : tie.Need-returns-2
 unfolding retD opened
 returns-2 c =
@@ -66,29 +43,43 @@ returns-2 c =
     let e = c .before .e in
     rw (← token-at .ensures, ne-eqb _ _ (if1 .left), ← consume-named .ensures, e .given .1)
 
--- src/statement.rt:24:1
 returns-3 : tie.Need-returns-3
 unfolding retD opened
 returns-3 c =
-    let token-at = c .before .before .before .before .before .before .before .before .before .before .token-at in
+    let back8 = c .before .before .before .before .before .before .before .before in
+    let token-at = back8 .before .before .token-at in
     let if1 = c .before .before .before .before .before .before .before .before .if1 in
     let consume-named = c .before .before .before .before .before .before .before .consume-named in
     let x = c .before .before .before .before .before .x in
     let consume = c .before .before .before .consume in
     let e2 = c .before .e2 in
-    rw (← token-at .ensures, ne-eqb _ _ (if1 .left), ← consume-named .ensures, x .given .1, ← consume .ensures, e2 .given .1)
+    rw (
+      ← token-at .ensures,
+      ne-eqb _ _ (if1 .left),
+      ← consume-named .ensures,
+      x .given .1,
+      ← consume .ensures,
+      e2 .given .1,
+    )
 
--- src/statement.rt:24:1
 returns-4 : tie.Need-returns-4
 unfolding retD opened
 returns-4 c =
-    let token-at = c .before .before .before .before .before .before .before .before .before .before .token-at in
+    let back8 = c .before .before .before .before .before .before .before .before in
+    let token-at = back8 .before .before .token-at in
     let if1 = c .before .before .before .before .before .before .before .before .if1 in
     let consume-named = c .before .before .before .before .before .before .before .consume-named in
     let x = c .before .before .before .before .before .x in
     let consume = c .before .before .before .consume in
     let at2 = c .before .at2 in
-    rw (← token-at .ensures, ne-eqb _ _ (if1 .left), ← consume-named .ensures, x .given .1, ← consume .ensures, at2 .given .1)
+    rw (
+      ← token-at .ensures,
+      ne-eqb _ _ (if1 .left),
+      ← consume-named .ensures,
+      x .given .1,
+      ← consume .ensures,
+      at2 .given .1,
+    )
 
 pub parse-ret-spec : {M : Type 1} → statement M
 parse-ret-spec =
