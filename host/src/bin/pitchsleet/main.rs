@@ -1,0 +1,64 @@
+//! The command-line tool: `pitchsleet read FILE`, and the same as JSON for other programs.
+#![forbid(unsafe_code)]
+
+mod args;
+mod failure;
+mod human;
+mod input;
+mod json;
+mod source;
+mod stream;
+
+use std::ffi::{OsStr, OsString};
+use std::io::{self, BufWriter, Write};
+use std::process::ExitCode;
+
+use args::{Form, Request, shown};
+use failure::Failure;
+use pitchsleet::Reader;
+
+const ACCEPTED: u8 = 0;
+const REFUSED: u8 = 1;
+const COULD_NOT_RUN: u8 = 2;
+
+fn main() -> ExitCode {
+    let words: Vec<OsString> = std::env::args_os().skip(1).collect();
+    let status = run(words).unwrap_or_else(|failure| {
+        if let Failure::Said(line) = failure {
+            // Where standard error is closed too, the exit status alone must say it.
+            let _ = writeln!(io::stderr(), "pitchsleet: {line}");
+        }
+        COULD_NOT_RUN
+    });
+    ExitCode::from(status)
+}
+
+fn run(words: Vec<OsString>) -> Result<u8, Failure> {
+    let request = args::parse(words).map_err(|why| format!("{why} (pitchsleet --help says more)"))?;
+    let mut output = BufWriter::new(io::stdout().lock());
+    let status = answer(request, &mut output)?;
+    output.flush()?;
+    Ok(status)
+}
+
+fn answer(request: Request, output: &mut impl Write) -> Result<u8, Failure> {
+    match request {
+        Request::Help => write!(output, "{}", args::HELP)?,
+        Request::Version => writeln!(output, "pitchsleet {}", env!("CARGO_PKG_VERSION"))?,
+        Request::Stream => stream::answer(io::stdin().lock(), output)?,
+        Request::Read { file, form } => return read(&file, form, output),
+    }
+    Ok(ACCEPTED)
+}
+
+fn read(file: &OsStr, form: Form, output: &mut impl Write) -> Result<u8, Failure> {
+    let text = input::text_of(file)?;
+    let mut reader = Reader::new();
+    let answer = reader.read(&text);
+    match (form, &answer) {
+        (Form::Json, answer) => json::write(output, answer)?,
+        (Form::Person, Ok(tokens)) => human::accepted(output, shown(file), tokens)?,
+        (Form::Person, Err(refusal)) => human::refused(output, shown(file), &text, refusal)?,
+    }
+    Ok(if answer.is_ok() { ACCEPTED } else { REFUSED })
+}

@@ -1,0 +1,54 @@
+//! A verified reader of Bril text.
+//!
+//! Bril is a small intermediate language for compilers. This crate turns a text in its written form into tokens and names,
+//! or refuses it with a number, a line, a place and a message. The function that does it is written in Rattle and proved:
+//! for every input it ends, stays inside the buffers that it is lent, and answers what a definition of Bril's lexing says.
+//! This crate links the archive that is built from the proved function, and adds buffers, types and a command-line tool.
+//!
+//! ```
+//! use pitchsleet::{Reader, TokenValue};
+//!
+//! let mut reader = Reader::new();
+//! let tokens = reader.read(b"@main { v: int = const 5; print v; }")?;
+//! for token in tokens {
+//!     if let TokenValue::Integer(number) = token.value {
+//!         println!("line {}: the number {number}, written {}", token.line, token.spelling);
+//!     }
+//! }
+//!
+//! let refusal = reader.read(b"@main { v: int = const $5; }").unwrap_err();
+//! assert_eq!(refusal.number(), 3);
+//! assert_eq!(refusal.to_string(), "refused 3 at byte 23: [line 1] Error : Unexpected token: '$'.");
+//! # Ok::<(), pitchsleet::Refusal>(())
+//! ```
+//!
+//! # What is read, and how lines are counted
+//!
+//! The rules are those of a Rust original, Xazax-hun/domains-oxide, whose tokens, names and messages this crate gives back
+//! byte for byte. Some of them surprise:
+//!
+//! - A newline adds one to the line, but not inside a comment: neither one that ends a `#` or `//` comment nor one between
+//!   `/*` and `*/`. So a [`Token::line`] may be less than the line that an editor shows. [`Token::place`] is exact.
+//! - A number above 2147483647 is no token and no error: it is dropped.
+//! - After a star in a comment the next byte is passed over whatever it is, so `/***/` is not closed.
+//! - All bytes must be ASCII, in comments too.
+//!
+//! # Limits
+//!
+//! A text has at most 16,384 bytes, 4,096 tokens with the end of the text, and 1,024 names of at most 64 bytes with their
+//! sigil. What is over a limit is refused with a number of its own ([`Refusal`] has them all).
+#![warn(missing_docs)]
+#![deny(unsafe_code, unsafe_op_in_unsafe_fn)]
+
+mod iter;
+mod printable;
+pub mod raw;
+mod reader;
+mod refusal;
+mod token;
+
+pub use iter::Iter;
+pub use printable::Printable;
+pub use reader::{Reader, Tokens};
+pub use refusal::Refusal;
+pub use token::{Identifier, Name, Token, TokenValue};

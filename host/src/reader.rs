@@ -1,0 +1,220 @@
+//! The reader, and what it gives for an accepted text.
+use core::fmt::{self, Debug, Formatter};
+
+use crate::iter::Iter;
+use crate::raw::{self, MESSAGE_BYTES, NAME_BYTES, NAMES_OFFSET, OUT_BYTES, TOKEN_BYTES, TOKENS_OFFSET};
+use crate::refusal::Refusal;
+use crate::token::{Identifier, Name, Token, TokenValue};
+
+/// Reads texts, one after the other, in buffers of its own.
+///
+/// The buffers are taken once, by [`Reader::new`]: 73,728 bytes for the records and 512 for a message. No call of
+/// [`Reader::read`] allocates. A call takes some 74,000 bytes of stack.
+///
+/// ```
+/// use pitchsleet::Reader;
+///
+/// let mut reader = Reader::new();
+/// for text in ["@f { nop; }", "@f { nop $ }"] {
+///     match reader.read(text.as_bytes()) {
+///         Ok(tokens) => println!("{} tokens", tokens.len()),
+///         Err(refusal) => println!("{refusal}"),
+///     }
+/// }
+/// ```
+#[derive(Clone)]
+pub struct Reader {
+    out: Box<[u8]>,
+    message: Box<[u8; MESSAGE_BYTES]>,
+}
+
+impl Reader {
+    /// A reader with its buffers.
+    #[must_use]
+    pub fn new() -> Self {
+        Self { out: vec![0; OUT_BYTES].into_boxed_slice(), message: Box::new([0; MESSAGE_BYTES]) }
+    }
+
+    /// The tokens and names of a text, or why it is refused.
+    ///
+    /// The text is bytes: any are taken, and those that are no Bril text are refused. What comes back borrows the reader
+    /// and the text, so the next call waits until it is dropped.
+    ///
+    /// ```
+    /// use pitchsleet::{Identifier, Reader, TokenValue};
+    ///
+    /// let mut reader = Reader::new();
+    /// let tokens = reader.read(b"x: int = const -5;")?;
+    /// let values: Vec<_> = tokens.iter().map(|token| token.value).collect();
+    /// assert_eq!(values[0], TokenValue::Local(Identifier(0)));
+    /// assert_eq!(values[5], TokenValue::Integer(-5));
+    ///
+    /// let refusal = reader.read(b"x: int = const -;").unwrap_err();
+    /// assert_eq!((refusal.number(), refusal.line(), refusal.place()), (4, 1, 15));
+    /// assert_eq!(refusal.message(), b"[line 1] Error : Expected number after '-'.\n");
+    /// # Ok::<(), pitchsleet::Refusal>(())
+    /// ```
+    ///
+    /// # Errors
+    ///
+    /// A [`Refusal`] with its number, line, place and message, where the text is no sequence of tokens or is over a limit.
+    #[allow(clippy::result_large_err, reason = "a refusal carries its message, so that refused texts allocate nothing")]
+    pub fn read<'a>(&'a mut self, text: &'a [u8]) -> Result<Tokens<'a>, Refusal> {
+        let answer = raw::read(text, &mut self.out, &mut self.message[..]);
+        if answer.number != 0 {
+            return Err(Refusal::new(answer, &self.message));
+        }
+        let (tokens, names) = (answer.tokens as usize, answer.names as usize);
+        Ok(Tokens {
+            text: str::from_utf8(text).expect("an accepted text is ASCII"),
+            tokens: &self.out[TOKENS_OFFSET..][..tokens * TOKEN_BYTES],
+            names: &self.out[NAMES_OFFSET..][..names * NAME_BYTES],
+        })
+    }
+}
+
+impl Default for Reader {
+    fn default() -> Self {
+        Self::new()
+    }
+}
+
+impl Debug for Reader {
+    fn fmt(&self, f: &mut Formatter<'_>) -> fmt::Result {
+        f.debug_struct("Reader").finish_non_exhaustive()
+    }
+}
+
+/// The tokens of an accepted text, in order, and its names.
+///
+/// The last token is the end of the text, so there is always one.
+///
+/// ```
+/// use pitchsleet::{Reader, TokenValue};
+///
+/// let mut reader = Reader::new();
+/// let tokens = reader.read(b"@f {\n  nop;\n}")?;
+/// for token in tokens {
+///     println!("line {}, byte {}: {token}", token.line, token.place);
+/// }
+/// assert_eq!(tokens.len(), 6);
+/// assert_eq!(tokens.get(2).map(|token| token.spelling), Some("nop"));
+///
+/// let spellings: Vec<_> = tokens.names().map(|name| name.spelling).collect();
+/// assert_eq!(spellings, ["@f"]);
+/// # Ok::<(), pitchsleet::Refusal>(())
+/// ```
+#[derive(Clone, Copy)]
+pub struct Tokens<'a> {
+    text: &'a str,
+    tokens: &'a [u8],
+    names: &'a [u8],
+}
+
+impl<'a> Tokens<'a> {
+    /// How many tokens there are, the end of the text among them: at least 1, at most 4,096.
+    #[must_use]
+    #[allow(clippy::len_without_is_empty, reason = "it is never empty")]
+    pub fn len(&self) -> usize {
+        self.tokens.len() / TOKEN_BYTES
+    }
+
+    /// The token at an index.
+    #[must_use]
+    pub fn get(&self, index: usize) -> Option<Token<'a>> {
+        let record = record::<TOKEN_BYTES>(self.tokens, index)?;
+        let kind = cell(record, raw::TOKEN_KIND);
+        let value = TokenValue::from_cells(kind, cell(record, raw::TOKEN_VALUE));
+        let value = value.expect("a token's kind is 1 to 38");
+        let place = cell(record, raw::TOKEN_PLACE) as usize;
+        Some(Token { value, line: cell(record, raw::TOKEN_LINE), place, spelling: self.spelling(value, place) })
+    }
+
+    /// The tokens, from the first to the end of the text.
+    #[must_use]
+    pub fn iter(&self) -> Iter<'a> {
+        Iter::new(*self)
+    }
+
+    /// The name with a number; none for a number that this text gives to no name.
+    #[must_use]
+    pub fn name(&self, identifier: Identifier) -> Option<Name<'a>> {
+        let record = record::<NAME_BYTES>(self.names, identifier.0)?;
+        let place = cell(record, raw::NAME_PLACE) as usize;
+        let length = cell(record, raw::NAME_LENGTH) as usize;
+        Some(Name { identifier, place, spelling: &self.text[place..][..length] })
+    }
+
+    /// The names, by their numbers.
+    #[must_use]
+    pub fn names(&self) -> impl ExactSizeIterator<Item = Name<'a>> + DoubleEndedIterator + Clone + use<'a> {
+        let tokens = *self;
+        let count = self.names.len() / NAME_BYTES;
+        (0..count).map(move |number| tokens.name(Identifier(number)).expect("the count is the table's"))
+    }
+
+    /// The text that was read.
+    #[must_use]
+    pub fn text(&self) -> &'a str {
+        self.text
+    }
+
+    fn spelling(&self, value: TokenValue, place: usize) -> &'a str {
+        let rest = &self.text[place..];
+        &rest[..self.length(value, rest)]
+    }
+
+    /// How long a token is that stands at the front of the rest of the text.
+    fn length(&self, value: TokenValue, rest: &str) -> usize {
+        match value {
+            TokenValue::Local(name) | TokenValue::Global(name) | TokenValue::Label(name) => {
+                let name = self.name(name).expect("a token's name is in the table");
+                name.spelling.len()
+            }
+            TokenValue::Integer(_) => integer_length(rest),
+            TokenValue::EndOfFile => 0,
+            other => other.kind().len(),
+        }
+    }
+}
+
+/// A digit or a minus, and the digits after it.
+fn integer_length(rest: &str) -> usize {
+    let after_first = rest.bytes().skip(1);
+    1 + after_first.take_while(u8::is_ascii_digit).count()
+}
+
+fn record<const BYTES: usize>(records: &[u8], index: usize) -> Option<&[u8; BYTES]> {
+    let (records, _) = records.as_chunks::<BYTES>();
+    records.get(index)
+}
+
+/// A cell: a number of 32 bits, its lowest byte first.
+fn cell(record: &[u8], offset: usize) -> u32 {
+    let (bytes, _) = record[offset..].split_first_chunk().expect("a cell is inside its record");
+    u32::from_le_bytes(*bytes)
+}
+
+impl<'a> IntoIterator for Tokens<'a> {
+    type Item = Token<'a>;
+    type IntoIter = Iter<'a>;
+
+    fn into_iter(self) -> Iter<'a> {
+        self.iter()
+    }
+}
+
+impl<'a> IntoIterator for &Tokens<'a> {
+    type Item = Token<'a>;
+    type IntoIter = Iter<'a>;
+
+    fn into_iter(self) -> Iter<'a> {
+        self.iter()
+    }
+}
+
+impl Debug for Tokens<'_> {
+    fn fmt(&self, f: &mut Formatter<'_>) -> fmt::Result {
+        f.debug_list().entries(self).finish()
+    }
+}

@@ -1,0 +1,101 @@
+//! What a text is refused with.
+use core::error::Error;
+use core::fmt::{self, Debug, Display, Formatter};
+
+use crate::printable::Printable;
+use crate::raw::{MESSAGE_BYTES, ReadAnswer};
+
+/// Why a text was refused: a number, a line, a place, and a message.
+///
+/// | number | why | line and place |
+/// |---|---|---|
+/// | 1 | a byte above 127 | line 1, place 0, wherever the byte stands |
+/// | 2 | a `/*` comment that is not closed | the comment's first byte |
+/// | 3 | a byte that begins nothing | that byte |
+/// | 4 | `-` without digits, or a number below -2147483648 | the `-` |
+/// | 31 | more than 16,384 bytes | line 0, place 0 |
+/// | 32 | more than 4,096 tokens, the end token among them | the token one too many |
+/// | 33 | more than 1,024 names | the name one too many |
+/// | 34 | a name of more than 64 bytes | the name |
+///
+/// They come in this order: 31, then 1, then what stands first in the text. For one name 34 comes before 33, and both
+/// before 32.
+///
+/// A line is counted as the Rust original counts: from 1, and one more for each newline outside comments. So it may be
+/// less than the line that an editor shows, where a comment above ran through a newline. The place has no such trap.
+#[derive(Clone, PartialEq, Eq)]
+pub struct Refusal {
+    number: u32,
+    line: u32,
+    place: u32,
+    message_length: usize,
+    // Kept here and not on the heap, so that a refused text allocates no more than an accepted one.
+    message: [u8; MESSAGE_BYTES],
+}
+
+impl Refusal {
+    pub(crate) fn new(answer: ReadAnswer, message: &[u8; MESSAGE_BYTES]) -> Self {
+        Self {
+            number: answer.number,
+            line: answer.line,
+            place: answer.place,
+            message_length: length_of(message),
+            message: *message,
+        }
+    }
+
+    /// The refusal's number: one of those above.
+    #[must_use]
+    pub fn number(&self) -> u32 {
+        self.number
+    }
+
+    /// The line, from 1; newlines in comments are not counted. 0 where the text is too long to be read at all.
+    #[must_use]
+    pub fn line(&self) -> u32 {
+        self.line
+    }
+
+    /// The index of a byte in the text.
+    #[must_use]
+    pub fn place(&self) -> usize {
+        self.place as usize
+    }
+
+    /// The message, byte for byte that of the Rust original where it has one: `[line 1] Error : Unexpected token: '$'.`
+    /// and a newline. It may hold a control character of the text, even a zero; [`Printable`] makes it fit to show.
+    #[must_use]
+    pub fn message(&self) -> &[u8] {
+        &self.message[..self.message_length]
+    }
+}
+
+/// A message ends with its newline. Its first zero would be too early: a text with a zero byte is refused with that byte
+/// in the message. And its first newline is its last, since a newline is blank and never an unexpected byte.
+fn length_of(message: &[u8]) -> usize {
+    let newline = message.iter().position(|&byte| byte == b'\n');
+    newline.map_or(0, |at| at + 1)
+}
+
+/// One line, without the message's newline: `refused 3 at byte 0: [line 1] Error : Unexpected token: '$'.`
+impl Display for Refusal {
+    fn fmt(&self, f: &mut Formatter<'_>) -> fmt::Result {
+        let (number, place) = (self.number, self.place);
+        let message = self.message();
+        let message = message.strip_suffix(b"\n").unwrap_or(message);
+        write!(f, "refused {number} at byte {place}: {}", Printable(message))
+    }
+}
+
+impl Debug for Refusal {
+    fn fmt(&self, f: &mut Formatter<'_>) -> fmt::Result {
+        f.debug_struct("Refusal")
+            .field("number", &self.number)
+            .field("line", &self.line)
+            .field("place", &self.place)
+            .field("message", &format_args!("\"{}\"", Printable(self.message())))
+            .finish()
+    }
+}
+
+impl Error for Refusal {}

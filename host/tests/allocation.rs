@@ -1,0 +1,51 @@
+//! No call of a reader allocates, whether the text is accepted or refused.
+use std::alloc::{GlobalAlloc, Layout, System};
+use std::cell::Cell;
+use std::hint::black_box;
+
+use pitchsleet::Reader;
+
+/// The system's allocator, with a count of what each thread asks of it.
+struct Counting;
+
+thread_local! {
+    static ASKED: Cell<usize> = const { Cell::new(0) };
+}
+
+// SAFETY: everything is handed on to the system's allocator as it came.
+unsafe impl GlobalAlloc for Counting {
+    unsafe fn alloc(&self, layout: Layout) -> *mut u8 {
+        ASKED.set(ASKED.get() + 1);
+        // SAFETY: the caller keeps what `alloc` asks for.
+        unsafe { System.alloc(layout) }
+    }
+
+    unsafe fn dealloc(&self, pointer: *mut u8, layout: Layout) {
+        // SAFETY: the pointer came from `alloc` above, and so from the system's.
+        unsafe { System.dealloc(pointer, layout) }
+    }
+}
+
+#[global_allocator]
+static ALLOCATOR: Counting = Counting;
+
+#[test]
+fn no_allocation_per_call() {
+    let before_the_buffers = ASKED.get();
+    let mut reader = Reader::new();
+    let before = ASKED.get();
+    assert!(before_the_buffers < before, "the count works");
+    let texts: [&[u8]; 5] = [b"@f { x: int = const 5; }", b"$", b"\x80", b"", &[b' '; 20_000]];
+    for text in texts {
+        match reader.read(text) {
+            Ok(tokens) => {
+                black_box(tokens.iter().map(|token| token.spelling.len()).sum::<usize>());
+                black_box(tokens.names().map(|name| name.spelling.len()).sum::<usize>());
+            }
+            Err(refusal) => {
+                black_box(refusal.message());
+            }
+        }
+    }
+    assert_eq!(ASKED.get(), before);
+}

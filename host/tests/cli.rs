@@ -1,0 +1,401 @@
+//! The command-line tool: what it prints, where, and its exit status.
+mod support;
+
+use std::fs;
+use std::io::{BufRead, BufReader, Write};
+use std::path::PathBuf;
+use std::process::{Command, Output, Stdio};
+use std::thread;
+
+use pitchsleet::Reader;
+use support::json::Json;
+use support::said::{Said, by_reader};
+use support::{edges, texts};
+
+const TOOL: &str = env!("CARGO_BIN_EXE_pitchsleet");
+
+/// A run with something on standard input.
+fn run(words: &[&str], input: &[u8]) -> Output {
+    let mut process = Command::new(TOOL)
+        .args(words)
+        .stdin(Stdio::piped())
+        .stdout(Stdio::piped())
+        .stderr(Stdio::piped())
+        .spawn()
+        .expect("the tool runs");
+    let mut stdin = process.stdin.take().expect("it is piped");
+    thread::scope(|scope| {
+        // A tool that has seen enough closes its input: that is no mistake of the test's.
+        scope.spawn(move || drop(stdin.write_all(input)));
+        process.wait_with_output().expect("the tool ends")
+    })
+}
+
+fn status(output: &Output) -> i32 {
+    output.status.code().expect("no signal")
+}
+
+fn out(output: &Output) -> &str {
+    str::from_utf8(&output.stdout).expect("ASCII")
+}
+
+fn err(output: &Output) -> &str {
+    str::from_utf8(&output.stderr).expect("ASCII")
+}
+
+/// The whole output for a text on standard input, which must end with a status and say nothing on standard error.
+fn shown(text: &[u8], expected_status: i32) -> String {
+    let output = run(&["read", "-"], text);
+    assert_eq!((status(&output), err(&output)), (expected_status, ""));
+    out(&output).to_owned()
+}
+
+fn json(text: &[u8], expected_status: i32) -> String {
+    let output = run(&["read", "--json", "-"], text);
+    assert_eq!((status(&output), err(&output)), (expected_status, ""));
+    out(&output).to_owned()
+}
+
+/// A file for one test, removed when it ends.
+struct Scratch(PathBuf);
+
+impl Scratch {
+    fn new(name: &str, text: &[u8]) -> Self {
+        let path = PathBuf::from(env!("CARGO_TARGET_TMPDIR")).join(name);
+        fs::write(&path, text).expect("a scratch file");
+        Self(path)
+    }
+
+    fn name(&self) -> &str {
+        self.0.to_str().expect("ASCII")
+    }
+}
+
+impl Drop for Scratch {
+    fn drop(&mut self) {
+        let _ = fs::remove_file(&self.0);
+    }
+}
+
+// ---- for a person ------------------------------------------------------------------------------------------------------
+
+#[test]
+fn an_accepted_text() {
+    let expected = "\
+1:1       global      @f
+1:4       {
+2:2       local       x
+2:3       :
+2:5       int
+2:9       =
+2:11      const
+2:17      integer     -7
+2:22      ;
+3:1       }
+3:2       END_OF_FILE
+-: accepted: 11 tokens, 2 names
+";
+    assert_eq!(shown(b"@f {\n\tx: int = const -007 ;\n}", 0), expected);
+    assert_eq!(shown(b"", 0), "1:1       END_OF_FILE\n-: accepted: 1 token, 0 names\n");
+}
+
+#[test]
+fn a_refused_text() {
+    let file = Scratch::new("refused.bril", b"@f {\n  x: int = const $5;\n}\n");
+    let output = run(&["read", file.name()], b"");
+    let expected = format!(
+        "\
+{}:2:18: refused 3: [line 2] Error : Unexpected token: '$'.
+ 2 |   x: int = const $5;
+   |                  ^
+",
+        file.name()
+    );
+    assert_eq!((status(&output), out(&output), err(&output)), (1, expected.as_str(), ""));
+}
+
+#[test]
+fn the_line_shown_is_the_file_s() {
+    let expected = "\
+-:1:3: refused 4: [line 1] Error : Expected number after '-'.
+ 4 | a - b
+   |   ^
+ note: line 4 of the file is counted as line 1, since newlines in comments are not counted
+";
+    assert_eq!(shown(b"# one\n/* two\nthree */ // four\na - b", 1), expected);
+    let accepted = shown(b"# one\nx", 0);
+    assert!(accepted.starts_with("1:1       local       x\n"), "{accepted}");
+    assert!(
+        accepted.ends_with("line 2 of the file is counted as line 1, since newlines in comments are not counted\n")
+    );
+}
+
+#[test]
+fn nothing_unprintable_reaches_a_terminal() {
+    let refused = shown(b"\tx \x01\x1b\r\nnext", 1);
+    assert_eq!(
+        refused,
+        "\
+-:1:4: refused 3: [line 1] Error : Unexpected token: '\\x01'.
+ 1 |     x \\x01\\x1b
+   |       ^
+"
+    );
+    for byte in 0..=255 {
+        let output = run(&["read", "-"], &[b' ', byte, b'$']);
+        assert!(output.stdout.iter().all(|byte| matches!(byte, b' '..=b'~' | b'\n')), "the byte {byte}");
+    }
+}
+
+#[test]
+fn the_caret_may_stand_behind_the_text() {
+    let text = [b";".repeat(4096), b"\n".to_vec()].concat();
+    let expected = "\
+-:2:1: refused 32: [line 2] Error : too many tokens.
+ 2 | 
+   | ^
+";
+    assert_eq!(shown(&text, 1), expected);
+}
+
+#[test]
+fn a_long_line_is_cut_around_the_place() {
+    let text = [b"x ".repeat(500), b"$".to_vec(), b" y".repeat(500)].concat();
+    let expected = format!(
+        "\
+-:1:1001: refused 3: [line 1] Error : Unexpected token: '$'.
+ 1 | ..{}${}..
+   |   {}^
+",
+        "x ".repeat(30),
+        " y".repeat(20).trim_end_matches('y'),
+        " ".repeat(60)
+    );
+    assert_eq!(shown(&text, 1), expected);
+}
+
+#[test]
+fn a_byte_above_127_is_pointed_out() {
+    let expected = "\
+-:1:1: refused 1: [line 1] Error : Only ASCII input is supported.
+ 1 | x
+   | ^
+ note: the first byte above 127 is at line 2 of the file, column 3
+";
+    assert_eq!(shown("x\n# é".as_bytes(), 1), expected);
+}
+
+#[test]
+fn too_long_a_text_has_no_line_to_show() {
+    let expected = "\
+-:0:1: refused 31: [line 0] Error : too many bytes.
+ note: the text has more than 16384 bytes
+";
+    assert_eq!(shown(&b" ".repeat(16_385), 1), expected);
+    assert_eq!(shown(&b"\xff".repeat(1_000_000), 1), expected);
+    assert!(shown(&b" ".repeat(16_384), 0).ends_with("accepted: 1 token, 0 names\n"));
+}
+
+// ---- JSON --------------------------------------------------------------------------------------------------------------
+
+#[test]
+fn json_of_an_accepted_text() {
+    let expected = concat!(
+        r#"{"number":0,"line":0,"place":0,"message":"","tokens":[["global",0,1,0],["{",null,1,3],["nop",null,1,5],"#,
+        r#"[";",null,1,8],["}",null,1,10],["END_OF_FILE",null,1,11]],"names":["@f"]}"#,
+        "\n"
+    );
+    assert_eq!(json(b"@f { nop; }", 0), expected);
+    assert!(json(b"x -2147483648", 0).contains(r#"[["local",0,1,0],["integer",-2147483648,1,2],"#));
+}
+
+#[test]
+fn json_of_a_refused_text() {
+    let message = r"[line 1] Error : Unexpected token: '\u0000'.\u000a";
+    let expected = format!("{{\"number\":3,\"line\":1,\"place\":3,\"message\":\"{message}\"}}\n");
+    assert_eq!(json(b"#x\n\0", 1), expected);
+    assert!(json(b"\"", 1).contains(r#"'\"'."#));
+    assert!(json(b"\\", 1).contains(r"'\\'."));
+    assert!(json(b"\x7f", 1).contains(r"'\u007f'."));
+}
+
+// ---- streams -----------------------------------------------------------------------------------------------------------
+
+fn stream(texts: &[Vec<u8>]) -> Vec<u8> {
+    texts.iter().flat_map(|text| [text.len().to_string().as_bytes(), b"\n", text].concat()).collect()
+}
+
+/// Each line of a long stream, against what the library says.
+#[test]
+fn a_stream_answers_every_text() {
+    let texts: Vec<Vec<u8>> = texts::generated(2, 0..3000).chain(edges::limits()).collect();
+    let output = run(&["read", "--json", "--stream"], &stream(&texts));
+    assert_eq!((status(&output), err(&output)), (0, ""));
+    let lines: Vec<&str> = out(&output).lines().collect();
+    assert_eq!(lines.len(), texts.len());
+    let mut reader = Reader::new();
+    for (line, text) in lines.iter().zip(&texts) {
+        assert_same(&Json::parse(line), &by_reader(&mut reader, text));
+    }
+}
+
+fn assert_same(line: &Json, said: &Said) {
+    let number = |key: &str| line.get(key).expect("a field").number();
+    let message = line.get("message").expect("a message").bytes();
+    match said {
+        Said::Refused { number: n, line: l, place, message: m } => {
+            assert_eq!((number("number"), number("line"), number("place")), ((*n).into(), (*l).into(), *place as i64));
+            assert_eq!(&message, m);
+            assert_eq!(line.get("tokens"), None);
+        }
+        Said::Accepted { tokens, names } => {
+            assert_eq!((number("number"), number("line"), number("place"), message.len()), (0, 0, 0, 0));
+            let expected: Vec<Json> = tokens
+                .iter()
+                .map(|token| {
+                    Json::List(vec![
+                        Json::Text(token.kind.to_owned()),
+                        token.value.map_or(Json::Null, Json::Number),
+                        Json::Number(token.line.into()),
+                        Json::Number(token.place as i64),
+                    ])
+                })
+                .collect();
+            assert_eq!(line.get("tokens"), Some(&Json::List(expected)));
+            let names: Vec<Json> = names.iter().map(|name| Json::Text(name.spelling.clone())).collect();
+            assert_eq!(line.get("names"), Some(&Json::List(names)));
+        }
+    }
+}
+
+/// Another program may wait for each answer before it asks on.
+#[test]
+fn a_stream_answers_before_it_waits() {
+    let mut process = Command::new(TOOL)
+        .args(["read", "--json", "--stream"])
+        .stdin(Stdio::piped())
+        .stdout(Stdio::piped())
+        .spawn()
+        .expect("the tool runs");
+    let mut input = process.stdin.take().expect("it is piped");
+    let mut output = BufReader::new(process.stdout.take().expect("it is piped"));
+    for text in ["x", "$", ""] {
+        write!(input, "{}\n{text}", text.len()).expect("the tool listens");
+        let mut line = String::new();
+        output.read_line(&mut line).expect("the tool answers");
+        assert!(line.ends_with("}\n"), "{line}");
+    }
+    drop(input);
+    assert!(process.wait().expect("the tool ends").success());
+}
+
+#[test]
+fn a_bad_stream_is_2_after_what_was_whole() {
+    let whole = b"1\nx2\n$$";
+    for (rest, why) in [
+        (&b"3\nab"[..], "text 3: the input ends after 2 of its 3 bytes"),
+        (b"99999\nab", "text 3: the input ends after 2 of its 99999 bytes"),
+        (b"5", "text 3: it has no length"),
+        (b"\n", "text 3: it has no length"),
+        (b"five\nabcde", "text 3: it has no length"),
+        (b"-1\n", "text 3: it has no length"),
+        (b"+1\na", "text 3: it has no length"),
+        (b" 1\na", "text 3: it has no length"),
+        (b"99999999999999999999\n", "text 3: it has no length"),
+        (b"000000000000000000000000000001\na", "text 3: it has no length"),
+    ] {
+        let output = run(&["read", "--json", "--stream"], &[whole, rest].concat());
+        assert_eq!(status(&output), 2);
+        assert_eq!(out(&output).lines().count(), 2, "what was whole is answered");
+        assert!(err(&output).starts_with(&format!("pitchsleet: standard input, {why}")), "{}", err(&output));
+        assert_eq!(err(&output).lines().count(), 1);
+    }
+}
+
+#[test]
+fn an_empty_stream_is_whole() {
+    let output = run(&["read", "--json", "--stream"], b"");
+    assert_eq!((status(&output), out(&output), err(&output)), (0, "", ""));
+}
+
+/// A text that is far too long is passed over, and the next one is answered.
+#[test]
+fn a_stream_goes_on_after_too_long_a_text() {
+    let texts = [b" ".repeat(3_000_000), b"x".to_vec()];
+    let output = run(&["read", "--json", "--stream"], &stream(&texts));
+    let lines: Vec<&str> = out(&output).lines().collect();
+    assert!(lines[0].starts_with(r#"{"number":31,"line":0,"place":0,"#));
+    assert!(lines[1].contains(r#"[["local",0,1,0],["END_OF_FILE",null,1,1]]"#));
+}
+
+// ---- usage -------------------------------------------------------------------------------------------------------------
+
+#[test]
+fn what_can_t_be_run_is_2_with_one_line() {
+    for words in [
+        &[][..],
+        &["check", "x"],
+        &["read"],
+        &["read", "--json"],
+        &["read", "--stream"],
+        &["read", "--stream", "-"],
+        &["read", "--json", "--stream", "-"],
+        &["read", "a", "b"],
+        &["read", "--color", "a"],
+        &["read", "-x"],
+        &["read", "\u{1b}[31m"],
+        &["read", "no/such/file"],
+        &["read", "--", "--no-such-file"],
+        &["read", "."],
+    ] {
+        let output = run(words, b"");
+        assert_eq!((status(&output), out(&output)), (2, ""), "{words:?}");
+        assert!(err(&output).starts_with("pitchsleet: "), "{words:?}: {}", err(&output));
+        assert_eq!(err(&output).lines().count(), 1, "{words:?}: {}", err(&output));
+        assert!(!err(&output).contains('\u{1b}'));
+    }
+}
+
+#[test]
+fn help_and_version() {
+    for words in [&["--help"][..], &["-h"], &["read", "--help"], &["read", "x", "-h"]] {
+        let output = run(words, b"");
+        assert_eq!((status(&output), err(&output)), (0, ""));
+        assert!(out(&output).contains("pitchsleet read FILE"));
+        assert!(out(&output).contains("not in a comment"), "it says how LINE is counted");
+    }
+    let output = run(&["--version"], b"");
+    assert_eq!((status(&output), out(&output)), (0, concat!("pitchsleet ", env!("CARGO_PKG_VERSION"), "\n")));
+}
+
+#[test]
+fn options_stand_in_any_order() {
+    let file = Scratch::new("order.bril", b"x");
+    let expected = json(b"x", 0);
+    for words in
+        [&["read", "--json", file.name()][..], &["read", file.name(), "--json"], &["read", "--json", "--", file.name()]]
+    {
+        let output = run(words, b"");
+        assert_eq!((status(&output), out(&output)), (0, expected.as_str()));
+    }
+}
+
+/// `pitchsleet read FILE | head` closes the output early: no panic, and nothing is said.
+#[test]
+fn a_closed_output_is_no_panic() {
+    let mut process = Command::new(TOOL)
+        .args(["read", "--json", "--stream"])
+        .stdin(Stdio::piped())
+        .stdout(Stdio::piped())
+        .stderr(Stdio::piped())
+        .spawn()
+        .expect("the tool runs");
+    drop(process.stdout.take());
+    let mut input = process.stdin.take().expect("it is piped");
+    let texts = stream(&vec![b"x ".repeat(1000); 100]);
+    // It ends before it has read all.
+    let _ = input.write_all(&texts);
+    drop(input);
+    let output = process.wait_with_output().expect("the tool ends");
+    assert_eq!((status(&output), err(&output)), (2, ""));
+}

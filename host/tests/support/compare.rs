@@ -1,0 +1,161 @@
+//! The comparison: what this crate says of texts, against the model of document 01 and against the Rust.
+use std::collections::BTreeMap;
+use std::fmt::{self, Display, Formatter};
+
+use pitchsleet::Printable;
+
+use super::against_model::Lent;
+use super::against_rust::compare_with_rust;
+use super::model;
+use super::oracle::{Oracle, RustSaid};
+use super::said::Said;
+
+/// How many texts the oracle is asked at once.
+const BATCH: usize = 512;
+
+/// How many differing texts are told, and how much of each; more of the same would help nobody.
+const TOLD: usize = 5;
+const TOLD_BYTES: usize = 400;
+
+/// What was compared, and what differed.
+#[derive(Default)]
+pub struct Report {
+    texts: usize,
+    /// Texts whose answer was held against the Rust's.
+    held_to_rust: usize,
+    /// How many texts were answered with each number.
+    numbers: BTreeMap<u32, usize>,
+    differing: usize,
+    told: Vec<String>,
+}
+
+impl Report {
+    pub fn is_clean(&self) -> bool {
+        self.differing == 0
+    }
+
+    /// How many texts were answered with a number.
+    pub fn answered(&self, number: u32) -> usize {
+        self.numbers.get(&number).copied().unwrap_or(0)
+    }
+
+    pub fn held_to_rust(&self) -> usize {
+        self.held_to_rust
+    }
+
+    fn agrees(&mut self, said: &Said, rust_was_asked: bool) {
+        *self.numbers.entry(said.number()).or_default() += 1;
+        if rust_was_asked && !is_by_a_limit(said) {
+            self.held_to_rust += 1;
+        }
+    }
+}
+
+impl Display for Report {
+    fn fmt(&self, f: &mut Formatter<'_>) -> fmt::Result {
+        let Self { texts, held_to_rust, differing, .. } = self;
+        write!(f, "{texts} texts, {held_to_rust} of them held to the Rust; answers")?;
+        for (number, count) in &self.numbers {
+            write!(f, " {number}: {count}")?;
+        }
+        write!(f, "; {differing} differ")?;
+        self.told.iter().try_for_each(|difference| write!(f, "\n{difference}"))
+    }
+}
+
+/// Compares texts as they come.
+pub struct Comparison {
+    lent: Lent,
+    oracle: Option<Oracle>,
+    pub report: Report,
+}
+
+impl Comparison {
+    pub fn new() -> Self {
+        Self { lent: Lent::new(), oracle: Oracle::start(), report: Report::default() }
+    }
+
+    pub fn all(&mut self, texts: impl IntoIterator<Item = Vec<u8>>) {
+        let mut texts = texts.into_iter();
+        loop {
+            let batch: Vec<Vec<u8>> = texts.by_ref().take(BATCH).collect();
+            if batch.is_empty() {
+                return;
+            }
+            self.batch(&batch);
+        }
+    }
+
+    fn batch(&mut self, texts: &[Vec<u8>]) {
+        let rust = self.ask_rust(texts);
+        for (index, text) in texts.iter().enumerate() {
+            let rust = rust.as_ref().map(|answers| &answers[index]);
+            self.report.texts += 1;
+            match compare(&mut self.lent, text, rust) {
+                Ok(said) => self.report.agrees(&said, rust.is_some()),
+                Err(_) => self.differs(text),
+            }
+        }
+    }
+
+    /// Too long a text is nothing to ask the Rust, which has no limit and is slow on it.
+    fn ask_rust(&mut self, texts: &[Vec<u8>]) -> Option<Vec<RustSaid>> {
+        let oracle = self.oracle.as_mut()?;
+        let asked = texts.iter().map(|text| if text.len() > model::BYTES { Vec::new() } else { text.clone() });
+        Some(oracle.ask(&asked.collect::<Vec<_>>()))
+    }
+
+    fn differs(&mut self, text: &[u8]) {
+        self.report.differing += 1;
+        if self.report.told.len() < TOLD {
+            let least = self.smallest(text);
+            let why = self.difference(&least).unwrap_or_default();
+            let text = &text[..text.len().min(TOLD_BYTES)];
+            let (text, least) = (Printable(text), Printable(&least));
+            self.report.told.push(format!("- {least}\n  {why}\n  found in: {text}"));
+        }
+    }
+
+    /// A smaller text that differs too: parts are left out, smaller and smaller ones, as long as one is found.
+    fn smallest(&mut self, text: &[u8]) -> Vec<u8> {
+        let mut least = text.to_vec();
+        let mut part = least.len();
+        while part > 0 {
+            let before = least.len();
+            let mut at = 0;
+            while at < least.len() {
+                let end = least.len().min(at + part);
+                let shorter = [&least[..at], &least[end..]].concat();
+                match self.difference(&shorter) {
+                    Some(_) => least = shorter,
+                    None => at = end,
+                }
+            }
+            if least.len() == before {
+                part /= 2;
+            }
+        }
+        least
+    }
+
+    fn difference(&mut self, text: &[u8]) -> Option<String> {
+        let rust = self.ask_rust(&[text.to_vec()]);
+        let rust = rust.as_ref().and_then(|answers| answers.first());
+        compare(&mut self.lent, text, rust).err()
+    }
+}
+
+/// What the reader says of a text, where the model and the Rust say the same.
+fn compare(lent: &mut Lent, text: &[u8], rust: Option<&RustSaid>) -> Result<Said, String> {
+    let said = lent.compare_with_model(text)?;
+    match rust {
+        Some(rust) if !is_by_a_limit(&said) => compare_with_rust(text, &said, rust)?,
+        _ => {}
+    }
+    Ok(said)
+}
+
+/// The Rust knows no limits: where one decides, the model alone is compared with.
+fn is_by_a_limit(said: &Said) -> bool {
+    (31..=34).contains(&said.number())
+}

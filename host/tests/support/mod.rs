@@ -1,0 +1,15 @@
+//! What the tests and the long runs share: generated texts, the model of document 01, the Rust original as an oracle, and
+//! the comparison of all three.
+#![allow(dead_code, reason = "each test uses a part")]
+
+pub mod against_model;
+pub mod against_rust;
+pub mod compare;
+pub mod dice;
+pub mod edges;
+pub mod grammar;
+pub mod json;
+pub mod model;
+pub mod oracle;
+pub mod said;
+pub mod texts;

@@ -1,0 +1,3 @@
+pub mod ir;
+pub mod lexer;
+pub mod parser;
