@@ -25,7 +25,8 @@ pub begin : (whole : Variables) (used : ℕ) (b : List ℕ) → Going whole whol
 begin whole used b = record { few = omega arith; long = refl; ends = refl; count = omega arith; stored = rw add-zero }
 
 -- nothing is left
-pub stop : {whole rest : Variables} {used : ℕ} {b₀ b : List ℕ} {n : ℕ} (e : Consumed) → Going whole rest used b₀ b n → rest ≡ ended e
+pub stop : {whole rest : Variables} {used : ℕ} {b₀ b : List ℕ} {n : ℕ} (e : Consumed)
+    → Going whole rest used b₀ b n → rest ≡ ended e
     → (thenAt U.Refused e (λ i. U.Done n i) ≡ runOf whole) × (b ≡ sets b₀ used (variablesCells (whole .list)))
 unfolding runOf variablesCells
 stop {whole} {rest} {n = n} e g h =

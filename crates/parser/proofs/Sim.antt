@@ -148,7 +148,8 @@ module _ {m : Move} {n : ℕ} {ts ts′ : List Tok} (s : Sim m n ts ts′) where
   definedS i h = search steps depth 20
 
   -- a kind of a class that the closing brace is not in
-  pub classS : (class : ℕ → Bool) (k next : ℕ) → ((k ≡ 28 → ⊥) → next < n) → class k ≡ true → class 28 ≡ false → next < n
+  pub classS : (class : ℕ → Bool) (k next : ℕ) → ((k ≡ 28 → ⊥) → next < n) → class k ≡ true → class 28 ≡ false
+      → next < n
   classS class k next f e q =
       f (λ z. let a : class 28 ≡ true = rw z at e in let b : _≡_ {A = ℕ} 0 1 = cc in omega arith)
 

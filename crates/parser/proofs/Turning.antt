@@ -26,7 +26,8 @@ use Rattle.parser.specs.declared.Defined.the-variants as D
 
 module _ (ts : List Tok) where
   -- arguments
-  pub arguments-end : (room at : ℕ) {t : TokenAt} → t ≡ tokenAt ts at → t .kind ≡ 30 → argumentsD ts room at ≡ ended (C.At (t .next))
+  pub arguments-end : (room at : ℕ) {t : TokenAt} → t ≡ tokenAt ts at → t .kind ≡ 30
+      → argumentsD ts room at ≡ ended (C.At (t .next))
   unfolding argumentsD opened
   arguments-end zero at q h = rw (← q, eq-eqb _ _ h)
   arguments-end (suc room) at q h = rw (← q, eq-eqb _ _ h)
@@ -37,8 +38,8 @@ module _ (ts : List Tok) where
   arguments-refused zero at q h k g = rw (← q, ne-eqb _ _ h, ← k, g)
   arguments-refused (suc room) at q h k g = rw (← q, ne-eqb _ _ h, ← k, g)
 
-  pub arguments-full : (room at : ℕ) {t : TokenAt} {c : Named} {x : Identifier} {next : ℕ} → room ≡ 0 → t ≡ tokenAt ts at
-      → (t .kind ≡ 30 → ⊥) → c ≡ localD ts at → c ≡ N.At x next → argumentsD ts room at ≡ stopped (refusal 37 at 0)
+  pub arguments-full : (room at : ℕ) {t : TokenAt} {c : Named} {x : Identifier} {next : ℕ} → room ≡ 0
+      → t ≡ tokenAt ts at → (t .kind ≡ 30 → ⊥) → c ≡ localD ts at → c ≡ N.At x next → argumentsD ts room at ≡ stopped (refusal 37 at 0)
   unfolding argumentsD opened
   arguments-full room at z q h k g = rw (z, ← q, ne-eqb _ _ h, ← k, g)
 
