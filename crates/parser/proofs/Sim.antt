@@ -1,12 +1,14 @@
 -- The simulation of demand 3, one lemma for each definition: related tokens give related answers. What follows a step is
 -- related where it is related whatever the step gave; each definition is a chain of such steps.
 use Prim.Native.Nat.{ℕ, zero, suc, _+_, _≤_, _<_}
-use mathlib.Core.Path.{_≡_, refl, sym, _∙_}
-use mathlib.Core.List.{List}
+use mathlib.Core.Path.{_≡_, refl, sym, ap, _∙_}
+use mathlib.Core.List.{List, [], _∷_}
 use mathlib.Core.Bool.{Bool, true, false}
 use native.Mathlib.Omega.{arith}
-use borrow.Author.Tests.{eqb-true, eqb-false}
-use lib.Dec.{eqb}
+use native.Mathlib.Decide.{ℕ-discrete}
+use borrow.Author.Tests.{eqb-true, eqb-false, eq-eqb, ne-eqb}
+use lib.Dec.{eqb, leb}
+use lib.ListN.{length}
 use Rattle.utils.specs.Bytes.{pick}
 use Rattle.lexer.specs.Decoded.{Tok, tokenAt}
 use Rattle.pieces.specs.declared.Identifier.{Identifier}
@@ -14,9 +16,10 @@ use Rattle.parser.specs.Step.{look, thenAt, thenNamed, thenType, thenDef
 use Rattle.parser.specs.Grammar.{consumeD, namedD, localD, labelD, globalD, typeD, printD, retD, jumpD, branchD}
 use Rattle.parser.specs.Grammar.{nopD, definedD, constD, unaryD, binaryD, isConstant, isUnary, isBinary, valueD}
 use Rattle.parser.specs.Grammar.{definitionD, instructionD}
-use Rattle.parser.specs.Runs.{Variables, ended, andThen, formalD, formalsFromD, formalsD, argumentsD}
+use Rattle.parser.specs.Labels.{has, labelledD}
+use Rattle.parser.specs.Runs.{Variables, ended, andThen, formalD, formalsFromD, formalsD, argumentsD, calling, callD}
 use Rattle.parser.specs.Moved.{Move, isName, Sim, SimName, SimE, SimC, SimN, SimR, SimV, SimD, SimO, SimP, Rel}
-use Rattle.parser.specs.Moved.{Each, SimVs}
+use Rattle.parser.specs.Moved.{Each, SimVs, SimCalling, SimNumber}
 use Rattle.parser.specs.declared.Refusal.{Refusal}
 use Rattle.parser.specs.declared.Ty.{Ty}
 use Rattle.parser.specs.declared.Variable.{Variable}
@@ -75,6 +78,35 @@ endedS c c′ (Rel.is q) = Rel.is (record { list = Each.none; end = q })
 pub andThenS : {m : Move} {n : ℕ} {v v′ : Variable} (r r′ : Variables) → SimV m v v′ → Rel m n SimVs r r′
     → Rel m n SimVs (andThen v r) (andThen v′ r′)
 andThenS r r′ p (Rel.is q) = Rel.is (record { list = Each.more p (q .list); end = q .end })
+
+pub callingS : {m : Move} {n : ℕ} {g g′ : Identifier} (r r′ : Variables) → SimName m g g′ → Rel m n SimVs r r′
+    → Rel m n SimCalling (calling g r) (calling g′ r′)
+callingS r r′ p (Rel.is q) = Rel.is (SimCalling.called p q)
+
+-- Labels are compared by equality, which an injective renaming keeps.
+pub eqbS : {m : Move} {x x′ y y′ : ℕ} → SimNumber m x x′ → SimNumber m y y′ → eqb x y ≡ eqb x′ y′
+eqbS {m} (SimName.renamed x h) (SimName.renamed y g) = go (ℕ-discrete x y)
+  where
+    go : Dec (x ≡ y) → eqb (m .name x) (m .name y) ≡ eqb x y
+    go (yes e) = eq-eqb _ _ (ap (m .name) e) ∙ sym (eq-eqb x y e)
+    go (no e) = ne-eqb _ _ (λ q. e (m .apart x y h g q)) ∙ sym (ne-eqb x y e)
+
+pub hasS : {m : Move} {ys ys′ : List ℕ} {x x′ : ℕ} → Each (SimNumber m) ys ys′ → SimNumber m x x′ → has ys x ≡ has ys′ x′
+unfolding has
+hasS Each.none p = refl
+hasS (Each.more q r) p = rw (eqbS q p, hasS r p)
+
+each-length : {m : Move} {ys ys′ : List ℕ} → Each (SimNumber m) ys ys′ → length ys ≡ length ys′
+each-length Each.none = refl
+each-length (Each.more q r) = ap suc (each-length r)
+
+pub lengthS : {m : Move} {ys ys′ : List ℕ} → Each (SimNumber m) ys ys′ → leb 255 (length ys) ≡ leb 255 (length ys′)
+lengthS r = ap (λ (k : ℕ). leb 255 k) (each-length r)
+
+-- a test that is the same in both
+pub testS : {A : Type 0} (T : Move → ℕ → A → A → Type 0) (m : Move) (n : ℕ) (q q′ : Bool) (x y x′ y′ : A)
+    → q ≡ q′ → Rel m n T x x′ → Rel m n T y y′ → Rel m n T (pick q x y) (pick q′ x′ y′)
+testS T m n q q′ x y x′ y′ e f g = rw e (pickS T m n q′ x y x′ y′ (λ _. f) g)
 
 -- The definitions, from the steps up.
 module _ {m : Move} {n : ℕ} {ts ts′ : List Tok} (s : Sim m n ts ts′) where
@@ -210,3 +242,15 @@ module _ {m : Move} {n : ℕ} {ts ts′ : List Tok} (s : Sim m n ts ts′) where
   unfolding argumentsD
   argumentsS zero i h = search (steps, endedS) depth 14
   argumentsS (suc room) i h = search (steps, endedS, andThenS, argumentsS room) depth 16
+
+  pub labelledS : {ls ls′ : List ℕ} → Each (SimNumber m) ls ls′ → (i : ℕ) → i < n
+      → Rel m n SimN (labelledD ts ls (m .by + i)) (labelledD ts′ ls′ i)
+  unfolding labelledD
+  labelledS r i h = search (steps, testS, hasS, lengthS) depth 16
+
+  pub callS : (i : ℕ) → i < n → (tokenAt ts′ i .kind ≡ 28 → ⊥)
+      → Rel m n SimCalling (callD ts (m .by + i)) (callD ts′ i)
+  unfolding callD look
+  callS i h k =
+      let next = s .inner i h k in
+      rw (s .same i h) (search (steps, callingS, argumentsS, SimCalling.refused) depth 16)

@@ -9,16 +9,19 @@ use native.Mathlib.Omega.{arith}
 use native.Mathlib.Nat.{eq-or-lt-of-le}
 use borrow.Author.Tests.{le-leb, lt-leb, eq-eqb, ne-eqb}
 use lib.Dec.{leb}
+use lib.ListN.{length}
 use Rattle.lexer.specs.Decoded.{Tok, tokenAt}
 use Rattle.lexer.specs.declared.TokenAt.{TokenAt}
 use Rattle.pieces.specs.declared.Identifier.{Identifier}
-use Rattle.parser.specs.Step.{refusal, opened}
+use Rattle.parser.specs.Step.{refusal, opened, thenAt}
 use Rattle.parser.specs.Grammar.{consumeD, localD}
-use Rattle.parser.specs.Runs.{ended, stopped, andThen, variable, formalD, formalsFromD, argumentsD}
+use Rattle.parser.specs.Runs.{Variables, runOf, ended, stopped, andThen, variable, formalD, formalsFromD, argumentsD}
 use Rattle.parser.specs.declared.Refusal.{Refusal}
 use Rattle.parser.specs.declared.Ty.the-variants as Y
 use Rattle.parser.specs.declared.Variable.{Variable}
+use Rattle.parser.specs.declared.Consumed.{Consumed}
 use Rattle.parser.specs.declared.Consumed.the-variants as C
+use Rattle.parser.specs.declared.Run.the-variants as U
 use Rattle.parser.specs.declared.Named.{Named}
 use Rattle.parser.specs.declared.Named.the-variants as N
 use Rattle.parser.specs.declared.Defined.{Defined}
@@ -89,3 +92,22 @@ module _ (ts : List Tok) where
   formals-more n at l q g u k =
       let m : 16 - n ≡ suc (16 - (n + 1)) = omega arith in
       rw (m, ← lt-leb 16 n l, ← q, g, ← u, eq-eqb _ _ k)
+
+-- what a run's answer says of where it ended
+ended-done : (c : Consumed) (l n i : ℕ) → U.Done n i ≡ thenAt U.Refused c (λ j. U.Done l j) → (c ≡ C.At i) × (l ≡ n)
+unfolding thenAt
+ended-done (C.At j) l n i e = (cc, cc)
+ended-done (C.Refused r) l n i e = absurd (let z : _≡_ {A = ℕ} 0 1 = cc in omega arith)
+
+ended-refused : (c : Consumed) (l : ℕ) (r : Refusal) → U.Refused r ≡ thenAt U.Refused c (λ j. U.Done l j) → c ≡ C.Refused r
+unfolding thenAt
+ended-refused (C.At j) l r e = absurd (let z : _≡_ {A = ℕ} 0 1 = cc in omega arith)
+ended-refused (C.Refused q) l r e = cc
+
+pub run-done : (r : Variables) {n i : ℕ} → U.Done n i ≡ runOf r → (r .end ≡ C.At i) × (length (r .list) ≡ n)
+unfolding runOf
+run-done r {n} {i} e = ended-done (r .end) (length (r .list)) n i e
+
+pub run-refused : (r : Variables) {q : Refusal} → U.Refused q ≡ runOf r → r .end ≡ C.Refused q
+unfolding runOf
+run-refused r {q} e = ended-refused (r .end) (length (r .list)) q e

@@ -5,5 +5,7 @@ pub mod Step
 pub mod Grammar
 -- the formals of a header, the arguments of a call
 pub mod Runs
+-- a label in a body
+pub mod Labels
 -- two readings of one function: what is related to what
 pub mod Moved

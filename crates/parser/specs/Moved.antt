@@ -11,7 +11,7 @@ use Rattle.lexer.specs.Decoded.{Tok, tokenAt}
 use Rattle.lexer.specs.declared.TokenAt.{TokenAt}
 use Rattle.pieces.specs.declared.Identifier.{Identifier}
 use Rattle.parser.specs.Step.{refusal}
-use Rattle.parser.specs.Runs.{Variables}
+use Rattle.parser.specs.Runs.{Variables, stopped, Calling, calling}
 use Rattle.parser.specs.declared.Refusal.{Refusal}
 use Rattle.parser.specs.declared.Ty.{Ty}
 use Rattle.parser.specs.declared.Variable.{Variable}
@@ -115,6 +115,17 @@ pub data Each {A : Type 0} (R : A → A → Type 0) : List A → List A → Type
 pub record SimVs (m : Move) (l : ℕ) (r r′ : Variables) : Type 0 where
   pub list : Each (SimV m) (r .list) (r′ .list)
   pub end : SimC m l (r .end) (r′ .end)
+
+-- a call, with its callee renamed
+pub data SimCalling (m : Move) (l : ℕ) : Calling → Calling → Type 0 where
+  called : {g g′ : Identifier} {r r′ : Variables} → SimName m g g′ → SimVs m l r r′
+      → SimCalling m l (calling g r) (calling g′ r′)
+  refused : (e e′ : Refusal) → SimE m e e′
+      → SimCalling m l (calling (record { 0 = 0 }) (stopped e)) (calling (record { 0 = 0 }) (stopped e′))
+
+-- labels by their numbers
+abbrev pub SimNumber : Move → ℕ → ℕ → Type 0
+SimNumber m x x′ = SimName m (record { 0 = x }) (record { 0 = x′ })
 
 -- The two answers are related by T; a family of its own, so that a search can read m, n and T off.
 pub data Rel (m : Move) (n : ℕ) {A : Type 0} (T : Move → ℕ → A → A → Type 0) : A → A → Type 0 where

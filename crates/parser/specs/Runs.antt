@@ -9,7 +9,7 @@ use Rattle.utils.specs.Bytes.{pick}
 use Rattle.lexer.specs.Decoded.{Tok, tokenAt}
 use Rattle.pieces.specs.declared.Identifier.{Identifier}
 use Rattle.parser.specs.Step.{refusal, look, thenAt, thenNamed, thenType, thenDefined}
-use Rattle.parser.specs.Grammar.{consumeD, localD, typeD}
+use Rattle.parser.specs.Grammar.{consumeD, localD, globalD, typeD}
 use Rattle.parser.specs.declared.Refusal.{Refusal}
 use Rattle.parser.specs.declared.Ty.{Ty}
 use Rattle.parser.specs.declared.Ty.the-variants as Y
@@ -18,6 +18,8 @@ use Rattle.parser.specs.declared.Consumed.{Consumed}
 use Rattle.parser.specs.declared.Consumed.the-variants as C
 use Rattle.parser.specs.declared.Defined.{Defined}
 use Rattle.parser.specs.declared.Defined.the-variants as D
+use Rattle.parser.specs.declared.Called.{Called}
+use Rattle.parser.specs.declared.Called.the-variants as L
 use Rattle.parser.specs.declared.Run.{Run}
 use Rattle.parser.specs.declared.Run.the-variants as U
 
@@ -92,3 +94,21 @@ argumentsD ts (suc room) at =
     look (tokenAt ts at) (λ k next.
     pick (eqb k 30) (ended (C.At next))
     (thenNamed stopped (localD ts at) (λ x at1. andThen (variable x Y.Placeholder) (argumentsD ts room at1))))
+
+-- A call from its word: the callee, and the arguments behind it.
+pub record Calling : Type 0 where
+  pub callee : Identifier
+  pub arguments : Variables
+
+abbrev pub calling : Identifier → Variables → Calling
+calling g r = record { callee = g; arguments = r }
+
+unfoldable pub callD : List Tok → ℕ → Calling
+callD ts word =
+    look (tokenAt ts word) (λ k at.
+    thenNamed (λ e. calling (record { 0 = 0 }) (stopped e)) (globalD ts at) (λ g at1.
+    calling g (argumentsD ts 16 at1)))
+
+-- the callee, how many arguments there are and where to go on, or the refusal
+unfoldable pub calledOf : Calling → Called
+calledOf c = thenAt L.Refused (c .arguments .end) (λ i. L.Done (c .callee) (length (c .arguments .list)) i)

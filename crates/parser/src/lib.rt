@@ -1,6 +1,7 @@
 // Tokens to operations, from the parsing half of bril-lib/src/parser.rs, with what it uses of ir.rs.
 // A token is an index into the token records; line and place are looked up once, when a refusal is answered.
 mod expression;
+pub mod labels;
 pub mod runs;
 mod statement;
 
@@ -73,6 +74,12 @@ pub enum Defined {
 // How many variables a run has and the index to go on at, or a refusal.
 pub enum Run {
     Done(usize, usize),
+    Refused(Refusal),
+}
+
+// A call's callee, how many arguments it has and the index to go on at, or a refusal.
+pub enum Called {
+    Done(Identifier, usize, usize),
     Refused(Refusal),
 }
 

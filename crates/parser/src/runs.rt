@@ -6,7 +6,8 @@ ghost use lib.ListN.{length};
 ghost use lib.Seq.{sets};
 ghost use Rattle.lexer.specs.Decoded.{tokensOf};
 ghost use Rattle.parser.specs.Runs.{typeCell, variableCells, variablesCells, runOf};
-ghost use Rattle.parser.specs.Runs.{formalD, closedD, formalsFromD, formalsD, argumentsD};
+ghost use Rattle.parser.specs.Runs.{formalD, closedD, formalsFromD, formalsD, argumentsD, callD, calledOf};
+use crate::Called;
 use crate::Consumed;
 use crate::Defined;
 use crate::Named;
@@ -140,5 +141,23 @@ pub fn parse_arguments(tokens: &[u32], at: usize, cells: &mut [u32], used: usize
                 here = next;
             }
         }
+    }
+}
+
+// From the word `call` on.
+pub fn parse_call(tokens: &[u32], word: usize, cells: &mut [u32], used: usize) -> Called
+    requires { ⌜ used + 32 ≤ length (now cells) ⌝ }
+    ensures { λ r. ⌜ r ≡ calledOf (callD (tokensOf (now (tokens .entry))) word) ⌝ }
+    ensures { λ r. ⌜ now (cells .exit) ≡ sets (now (cells .entry)) used
+        (variablesCells (callD (tokensOf (now (tokens .entry))) word .arguments .list)) ⌝ }
+{
+    let t = lexer::token_at(tokens, word);
+    let at = t.next;
+    match consume_named(tokens, at, 2, 7) {
+        Named::Refused(e) => Called::Refused(e),
+        Named::At(callee, at1) => match parse_arguments(tokens, at1, cells, used) {
+            Run::Refused(e) => Called::Refused(e),
+            Run::Done(count, next) => Called::Done(callee, count, next),
+        },
     }
 }

@@ -1,0 +1,146 @@
+-- The steps, the limit and the look-up, in document 01's order.
+use borrow.Author.Tests.{le-leb, lt-leb}
+use lib.Seq.{length-take-le}
+use denote.Ref.{now}
+use borrow.Author.Needs.{needs}
+use Rattle.parser.specs.Step.{opened}
+use Rattle.parser.specs.Labels.{labelledD}
+use Rattle.parser.proofs.labels.parse_label.Statement.{statement}
+use Rattle.parser.proofs.labels.parse_label.Tie as tie
+
+consume-named-requires : tie.Need-consume-named-requires
+consume-named-requires c κs = search needs
+
+enum-known-e : tie.Need-enum-known-e
+enum-known-e c = search needs
+
+enum-known-label : tie.Need-enum-known-label
+enum-known-label c = search needs
+
+consume-requires : tie.Need-consume-requires
+consume-requires c κs = search needs
+
+enum-known-e-2 : tie.Need-enum-known-e-2
+enum-known-e-2 c = search needs
+
+enum-known-at2 : tie.Need-enum-known-at2
+enum-known-at2 c = search needs
+
+refuse-requires : tie.Need-refuse-requires
+refuse-requires c κs = search needs
+
+returns : tie.Need-returns
+unfolding labelledD opened
+returns c =
+    let back8 = c .before .before .before .before .before .before .before .before in
+    let a = back8 .before .before .before .before .args in
+    let pre = back8 .before .before .before .before .pre in
+    let consume-named = back8 .before .consume-named in
+    let label = c .before .before .before .before .before .before .before .label in
+    let consume = c .before .before .before .before .before .consume in
+    let at2 = c .before .before .before .at2 in
+    let if1 = c .before .if1 in
+    let refuse = c .refuse in
+    let count = length-take-le (a .count) (now (a .labels)) (pre) in
+    rw (
+      ← consume-named .ensures,
+      label .given .1,
+      ← consume .ensures,
+      at2 .given .1,
+      count,
+      le-leb _ _ (if1 .taken),
+      refuse .ensures,
+    )
+
+has-label-requires : tie.Need-has-label-requires
+has-label-requires c κs = search needs
+
+refuse-requires-2 : tie.Need-refuse-requires-2
+refuse-requires-2 c κs = search needs
+
+returns-2 : tie.Need-returns-2
+unfolding labelledD opened
+returns-2 c =
+    let back8 = c .before .before .before .before .before .before .before .before in
+    let a = back8 .before .before .before .before .before .before .args in
+    let pre = back8 .before .before .before .before .before .before .pre in
+    let consume-named = back8 .before .before .before .consume-named in
+    let label = back8 .before .label in
+    let consume = c .before .before .before .before .before .before .before .consume in
+    let at2 = c .before .before .before .before .before .at2 in
+    let if1 = c .before .before .before .if1 in
+    let has-label = c .before .before .has-label in
+    let if2 = c .before .if2 in
+    let refuse2 = c .refuse2 in
+    let count = length-take-le (a .count) (now (a .labels)) (pre) in
+    rw (
+      ← consume-named .ensures,
+      label .given .1,
+      ← consume .ensures,
+      at2 .given .1,
+      count,
+      lt-leb _ _ (if1 .left),
+      ← has-label .ensures,
+      if2 .taken,
+      refuse2 .ensures,
+    )
+
+returns-3 : tie.Need-returns-3
+unfolding labelledD opened
+returns-3 c =
+    let consume-named = c .before .before .before .consume-named in
+    let e = c .before .e in
+    rw (← consume-named .ensures, e .given .1)
+
+returns-4 : tie.Need-returns-4
+unfolding labelledD opened
+returns-4 c =
+    let consume-named = c .before .before .before .before .before .before .before .consume-named in
+    let label = c .before .before .before .before .before .label in
+    let consume = c .before .before .before .consume in
+    let e2 = c .before .e2 in
+    rw (← consume-named .ensures, label .given .1, ← consume .ensures, e2 .given .1)
+
+returns-5 : tie.Need-returns-5
+unfolding labelledD opened
+returns-5 c =
+    let back8 = c .before .before .before .before .before .before .before .before in
+    let a = back8 .before .before .before .before .before .args in
+    let pre = back8 .before .before .before .before .before .pre in
+    let consume-named = back8 .before .before .consume-named in
+    let label = c .before .before .before .before .before .before .before .before .label in
+    let consume = c .before .before .before .before .before .before .consume in
+    let at2 = c .before .before .before .before .at2 in
+    let if1 = c .before .before .if1 in
+    let has-label = c .before .has-label in
+    let if2 = c .if2 in
+    let count = length-take-le (a .count) (now (a .labels)) (pre) in
+    rw (
+      ← consume-named .ensures,
+      label .given .1,
+      ← consume .ensures,
+      at2 .given .1,
+      count,
+      lt-leb _ _ (if1 .left),
+      ← has-label .ensures,
+      if2 .left,
+    )
+
+pub parse-label-spec : {M : Type 1} → statement M
+parse-label-spec =
+    tie.close
+    (tie.spec
+    consume-named-requires
+    enum-known-e
+    enum-known-label
+    consume-requires
+    enum-known-e-2
+    enum-known-at2
+    refuse-requires
+    returns
+    has-label-requires
+    refuse-requires-2
+    returns-2
+    returns-3
+    returns-4
+    returns-5)

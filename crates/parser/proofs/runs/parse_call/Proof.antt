@@ -1,0 +1,98 @@
+-- The callee's step, then the arguments' run.
+use mathlib.Core.Path.{refl, sym, _∙_}
+use denote.Ref.{now}
+use borrow.Author.Needs.{needs}
+use Rattle.lexer.specs.Decoded.{tokensOf}
+use Rattle.parser.proofs.Turning.{run-done, run-refused}
+use Rattle.parser.specs.Step.{opened}
+use Rattle.parser.specs.Runs.{callD, calledOf, variablesCells, argumentsD}
+use Rattle.parser.proofs.runs.parse_call.Statement.{statement}
+use Rattle.parser.proofs.runs.parse_call.Tie as tie
+
+token-at-requires : tie.Need-token-at-requires
+token-at-requires c κs = search needs
+
+consume-named-requires : tie.Need-consume-named-requires
+consume-named-requires c κs = search needs
+
+enum-known-e : tie.Need-enum-known-e
+enum-known-e c = search needs
+
+enum-known-callee : tie.Need-enum-known-callee
+enum-known-callee c = search needs
+
+parse-arguments-requires : tie.Need-parse-arguments-requires
+parse-arguments-requires c κs = search needs
+
+enum-known-e-2 : tie.Need-enum-known-e-2
+enum-known-e-2 c = search needs
+
+enum-known-count : tie.Need-enum-known-count
+enum-known-count c = search needs
+
+returns : tie.Need-returns
+unfolding callD calledOf variablesCells opened
+returns c =
+    let token-at = c .before .before .before .before .token-at in
+    let consume-named = c .before .before .before .consume-named in
+    let e = c .before .e in
+    rw (← token-at .ensures, ← consume-named .ensures, e .given .1) (refl, refl)
+
+same-length : tie.Need-same-length
+same-length c = search needs
+
+returns-2 : tie.Need-returns-2
+unfolding callD calledOf opened
+returns-2 c =
+    let back8 = c .before .before .before .before .before .before .before .before in
+    let a = back8 .before .before .before .before .before .before .args in
+    let callee = c .before .before .before .before .before .before .before .before .callee in
+    let e2 = c .before .e2 in
+    let parse-arguments = c .before .before .before .before .before .parse-arguments in
+    let token-at = back8 .before .before .before .token-at in
+    let consume-named = back8 .before .before .consume-named in
+    let ts = tokensOf (now (a .tokens)) in
+    let a = argumentsD ts 16 (callee .given .0 .1 .0) in
+    let end = run-refused a (sym (e2 .given .1) ∙ parse-arguments .ensures .0) in
+    rw (← token-at .ensures, ← consume-named .ensures, callee .given .1, end) (refl, parse-arguments .ensures .1)
+
+same-length-2 : tie.Need-same-length-2
+same-length-2 c = search needs
+
+returns-3 : tie.Need-returns-3
+unfolding callD calledOf opened
+returns-3 c =
+    let back8 = c .before .before .before .before .before .before .before .before in
+    let a = back8 .before .before .before .before .before .before .args in
+    let callee = c .before .before .before .before .before .before .before .before .callee in
+    let count = c .before .count in
+    let parse-arguments = c .before .before .before .before .before .parse-arguments in
+    let token-at = back8 .before .before .before .token-at in
+    let consume-named = back8 .before .before .consume-named in
+    let ts = tokensOf (now (a .tokens)) in
+    let a = argumentsD ts 16 (callee .given .0 .1 .0) in
+    let end = run-done a (sym (count .given .1) ∙ parse-arguments .ensures .0) in
+    rw (
+      ← token-at .ensures,
+      ← consume-named .ensures,
+      callee .given .1,
+      end .0,
+      end .1,
+    ) (refl, parse-arguments .ensures .1)
+
+pub parse-call-spec : {M : Type 1} → statement M
+parse-call-spec =
+    tie.close
+    (tie.spec
+    token-at-requires
+    consume-named-requires
+    enum-known-e
+    enum-known-callee
+    parse-arguments-requires
+    enum-known-e-2
+    enum-known-count
+    returns
+    same-length
+    returns-2
+    same-length-2
+    returns-3)
