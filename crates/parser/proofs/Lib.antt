@@ -1,3 +1,4 @@
 pub mod Going
 pub mod Sim
+pub mod SimBody
 pub mod Turning

@@ -2,7 +2,7 @@
 -- related where it is related whatever the step gave; each definition is a chain of such steps.
 use Prim.Native.Nat.{ℕ, zero, suc, _+_, _≤_, _<_}
 use mathlib.Core.Path.{_≡_, refl, sym, ap, _∙_}
-use mathlib.Core.List.{List, [], _∷_}
+use mathlib.Core.List.{List}
 use mathlib.Core.Bool.{Bool, true, false}
 use native.Mathlib.Omega.{arith}
 use native.Mathlib.Decide.{ℕ-discrete}
@@ -17,7 +17,8 @@ use Rattle.parser.specs.Grammar.{consumeD, namedD, localD, labelD, globa
 use Rattle.parser.specs.Grammar.{nopD, definedD, constD, unaryD, binaryD, isConstant, isUnary, isBinary, valueD}
 use Rattle.parser.specs.Grammar.{definitionD, instructionD}
 use Rattle.parser.specs.Labels.{has, labelledD}
-use Rattle.parser.specs.Runs.{Variables, ended, andThen, formalD, formalsFromD, formalsD, argumentsD, calling, callD}
+use Rattle.parser.specs.Runs.{Variables, ended, andThen, formalD, formalsFromD, formalsD, argumentsD, calling}
+use Rattle.parser.specs.Runs.{callD}
 use Rattle.parser.specs.Moved.{Move, isName, Sim, SimName, SimE, SimC, SimN, SimR, SimV, SimD, SimO, SimP, Rel}
 use Rattle.parser.specs.Moved.{Each, SimVs, SimCalling, SimNumber}
 use Rattle.parser.specs.declared.Refusal.{Refusal}
@@ -248,9 +249,6 @@ module _ {m : Move} {n : ℕ} {ts ts′ : List Tok} (s : Sim m n ts ts′) where
   unfolding labelledD
   labelledS r i h = search (steps, testS, hasS, lengthS) depth 16
 
-  pub callS : (i : ℕ) → i < n → (tokenAt ts′ i .kind ≡ 28 → ⊥)
-      → Rel m n SimCalling (callD ts (m .by + i)) (callD ts′ i)
-  unfolding callD look
-  callS i h k =
-      let next = s .inner i h k in
-      rw (s .same i h) (search (steps, callingS, argumentsS, SimCalling.refused) depth 16)
+  pub callS : (i : ℕ) → i < n → Rel m n SimCalling (callD ts (m .by + i)) (callD ts′ i)
+  unfolding callD
+  callS i h = search (steps, callingS, argumentsS, SimCalling.refused) depth 16

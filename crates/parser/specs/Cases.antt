@@ -74,7 +74,7 @@ cases =
     ∷ case "@f { nop 2147483648; }" (0 ∷ 1 ∷ 0 ∷ 0 ∷ 0 ∷ [])
     -- edges, predecessors and a dead block
     ∷ case "@f { jmp .b; .a: nop; .b: br x .a .b; }"
-      (0 ∷ 1 ∷ 1 ∷ 2 ∷ 0 ∷ 0 ∷ 1 ∷ 0 ∷ 1 ∷ 2 ∷ 0 ∷ 1 ∷ 2 ∷ 1 ∷ 2 ∷ 2 ∷ 0 ∷ 2 ∷ 0 ∷ [])
+    (0 ∷ 1 ∷ 1 ∷ 2 ∷ 0 ∷ 0 ∷ 1 ∷ 0 ∷ 1 ∷ 2 ∷ 0 ∷ 1 ∷ 2 ∷ 1 ∷ 2 ∷ 2 ∷ 0 ∷ 2 ∷ 0 ∷ [])
     ∷ case "@f { ret; .a: nop; }" (0 ∷ 1 ∷ 0 ∷ 0 ∷ 0 ∷ 1 ∷ 0 ∷ 0 ∷ 1 ∷ [])
     -- the first label is resolved before the second; an empty block before both; 13 and 12
     ∷ case "@f { br x .a .b; }" (14 ∷ 2 ∷ [])

@@ -7,11 +7,11 @@ pub mod Grammar
 pub mod Runs
 -- a label in a body
 pub mod Labels
--- two readings of one function: what is related to what
-pub mod Moved
 -- a function's body: items, and the blocks that they make
 pub mod Body
 -- the blocks in order: empty ones, labels resolved, edges, dead marks
 pub mod Edges
 -- bodies with what they give: one table, one claim
 pub mod Cases
+-- two readings of one function: what is related to what
+pub mod Moved

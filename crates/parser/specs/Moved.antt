@@ -12,6 +12,7 @@ use Rattle.lexer.specs.declared.TokenAt.{TokenAt}
 use Rattle.pieces.specs.declared.Identifier.{Identifier}
 use Rattle.parser.specs.Step.{refusal}
 use Rattle.parser.specs.Runs.{Variables, stopped, Calling, calling}
+use Rattle.parser.specs.Body.{Item, Body}
 use Rattle.parser.specs.declared.Refusal.{Refusal}
 use Rattle.parser.specs.declared.Ty.{Ty}
 use Rattle.parser.specs.declared.Variable.{Variable}
@@ -126,6 +127,25 @@ pub data SimCalling (m : Move) (l : ℕ) : Calling → Calling → Type 0 where
 -- labels by their numbers
 abbrev pub SimNumber : Move → ℕ → ℕ → Type 0
 SimNumber m x x′ = SimName m (record { 0 = x }) (record { 0 = x′ })
+
+-- the same item, with its token moved and its names renamed
+pub data SimItem (m : Move) : Item → Item → Type 0 where
+  label : (w : ℕ) {l l′ : Identifier} → SimName m l l′ → SimItem m (Item.label (m .by + w) l) (Item.label w l′)
+  plain : {o o′ : Operation} → SimO m o o′ → SimItem m (Item.plain o) (Item.plain o′)
+  call : (w : ℕ) {g g′ : Identifier} {xs xs′ : List Variable} → SimName m g g′ → Each (SimV m) xs xs′
+      → SimItem m (Item.call (m .by + w) g xs) (Item.call w g′ xs′)
+  callInto : (w : ℕ) {v v′ : Variable} {g g′ : Identifier} {xs xs′ : List Variable}
+      → SimV m v v′ → SimName m g g′ → Each (SimV m) xs xs′
+      → SimItem m (Item.callInto (m .by + w) v g xs) (Item.callInto w v′ g′ xs′)
+
+-- where the closing brace, which may be the last token, was asked for
+pub data SimClose (m : Move) (l : ℕ) : Consumed → Consumed → Type 0 where
+  at : (i : ℕ) → i ≤ l → SimClose m l (C.At (m .by + i)) (C.At i)
+  refused : (e e′ : Refusal) → SimE m e e′ → SimClose m l (C.Refused e) (C.Refused e′)
+
+pub record SimBody (m : Move) (l : ℕ) (r r′ : Body) : Type 0 where
+  pub items : Each (SimItem m) (r .items) (r′ .items)
+  pub end : SimClose m l (r .end) (r′ .end)
 
 -- The two answers are related by T; a family of its own, so that a search can read m, n and T off.
 pub data Rel (m : Move) (n : ℕ) {A : Type 0} (T : Move → ℕ → A → A → Type 0) : A → A → Type 0 where

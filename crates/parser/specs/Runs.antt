@@ -103,10 +103,13 @@ pub record Calling : Type 0 where
 abbrev pub calling : Identifier → Variables → Calling
 calling g r = record { callee = g; arguments = r }
 
+abbrev pub uncalled : Refusal → Calling
+uncalled e = calling (record { 0 = 0 }) (stopped e)
+
 unfoldable pub callD : List Tok → ℕ → Calling
 callD ts word =
-    look (tokenAt ts word) (λ k at.
-    thenNamed (λ e. calling (record { 0 = 0 }) (stopped e)) (globalD ts at) (λ g at1.
+    thenAt uncalled (consumeD ts word 22) (λ at.
+    thenNamed uncalled (globalD ts at) (λ g at1.
     calling g (argumentsD ts 16 at1)))
 
 -- the callee, how many arguments there are and where to go on, or the refusal

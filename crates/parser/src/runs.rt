@@ -151,13 +151,14 @@ pub fn parse_call(tokens: &[u32], word: usize, cells: &mut [u32], used: usize) -
     ensures { λ r. ⌜ now (cells .exit) ≡ sets (now (cells .entry)) used
         (variablesCells (callD (tokensOf (now (tokens .entry))) word .arguments .list)) ⌝ }
 {
-    let t = lexer::token_at(tokens, word);
-    let at = t.next;
-    match consume_named(tokens, at, 2, 7) {
-        Named::Refused(e) => Called::Refused(e),
-        Named::At(callee, at1) => match parse_arguments(tokens, at1, cells, used) {
-            Run::Refused(e) => Called::Refused(e),
-            Run::Done(count, next) => Called::Done(callee, count, next),
+    match consume(tokens, word, 22) {
+        Consumed::Refused(e) => Called::Refused(e),
+        Consumed::At(at) => match consume_named(tokens, at, 2, 7) {
+            Named::Refused(e) => Called::Refused(e),
+            Named::At(callee, at1) => match parse_arguments(tokens, at1, cells, used) {
+                Run::Refused(e) => Called::Refused(e),
+                Run::Done(count, next) => Called::Done(callee, count, next),
+            },
         },
     }
 }

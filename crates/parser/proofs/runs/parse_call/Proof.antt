@@ -1,4 +1,4 @@
--- The callee's step, then the arguments' run.
+-- The word, the callee, then the run of the arguments.
 use mathlib.Core.Path.{refl, sym, _∙_}
 use denote.Ref.{now}
 use borrow.Author.Needs.{needs}
@@ -9,14 +9,20 @@ use Rattle.parser.specs.Runs.{callD, calledOf, variablesCells, arguments
 use Rattle.parser.proofs.runs.parse_call.Statement.{statement}
 use Rattle.parser.proofs.runs.parse_call.Tie as tie
 
-token-at-requires : tie.Need-token-at-requires
-token-at-requires c κs = search needs
+consume-requires : tie.Need-consume-requires
+consume-requires c κs = search needs
+
+enum-known-e : tie.Need-enum-known-e
+enum-known-e c = search needs
+
+enum-known-at : tie.Need-enum-known-at
+enum-known-at c = search needs
 
 consume-named-requires : tie.Need-consume-named-requires
 consume-named-requires c κs = search needs
 
-enum-known-e : tie.Need-enum-known-e
-enum-known-e c = search needs
+enum-known-e-2 : tie.Need-enum-known-e-2
+enum-known-e-2 c = search needs
 
 enum-known-callee : tie.Need-enum-known-callee
 enum-known-callee c = search needs
@@ -24,8 +30,8 @@ enum-known-callee c = search needs
 parse-arguments-requires : tie.Need-parse-arguments-requires
 parse-arguments-requires c κs = search needs
 
-enum-known-e-2 : tie.Need-enum-known-e-2
-enum-known-e-2 c = search needs
+enum-known-e-3 : tie.Need-enum-known-e-3
+enum-known-e-3 c = search needs
 
 enum-known-count : tie.Need-enum-known-count
 enum-known-count c = search needs
@@ -33,47 +39,66 @@ enum-known-count c = search needs
 returns : tie.Need-returns
 unfolding callD calledOf variablesCells opened
 returns c =
-    let token-at = c .before .before .before .before .token-at in
-    let consume-named = c .before .before .before .consume-named in
+    let consume = c .before .before .before .consume in
     let e = c .before .e in
-    rw (← token-at .ensures, ← consume-named .ensures, e .given .1) (refl, refl)
+    rw (← consume .ensures, e .given .1) (refl, refl)
+
+returns-2 : tie.Need-returns-2
+unfolding callD calledOf variablesCells opened
+returns-2 c =
+    let consume = c .before .before .before .before .before .before .before .consume in
+    let at = c .before .before .before .before .before .at in
+    let consume-named = c .before .before .before .consume-named in
+    let e2 = c .before .e2 in
+    rw (← consume .ensures, at .given .1, ← consume-named .ensures, e2 .given .1) (refl, refl)
 
 same-length : tie.Need-same-length
 same-length c = search needs
-
-returns-2 : tie.Need-returns-2
-unfolding callD calledOf opened
-returns-2 c =
-    let back8 = c .before .before .before .before .before .before .before .before in
-    let a = back8 .before .before .before .before .before .before .args in
-    let callee = c .before .before .before .before .before .before .before .before .callee in
-    let e2 = c .before .e2 in
-    let parse-arguments = c .before .before .before .before .before .parse-arguments in
-    let token-at = back8 .before .before .before .token-at in
-    let consume-named = back8 .before .before .consume-named in
-    let ts = tokensOf (now (a .tokens)) in
-    let a = argumentsD ts 16 (callee .given .0 .1 .0) in
-    let end = run-refused a (sym (e2 .given .1) ∙ parse-arguments .ensures .0) in
-    rw (← token-at .ensures, ← consume-named .ensures, callee .given .1, end) (refl, parse-arguments .ensures .1)
-
-same-length-2 : tie.Need-same-length-2
-same-length-2 c = search needs
 
 returns-3 : tie.Need-returns-3
 unfolding callD calledOf opened
 returns-3 c =
     let back8 = c .before .before .before .before .before .before .before .before in
-    let a = back8 .before .before .before .before .before .before .args in
+    let back16 = back8 .before .before .before .before .before .before .before .before in
+    let a = back16 .before .args in
+    let callee = c .before .before .before .before .before .before .before .before .callee in
+    let e3 = c .before .e3 in
+    let parse-arguments = c .before .before .before .before .before .parse-arguments in
+    let consume = back8 .before .before .before .before .before .before .consume in
+    let at = back8 .before .before .before .before .at in
+    let consume-named = back8 .before .before .consume-named in
+    let ts = tokensOf (now (a .tokens)) in
+    let a = argumentsD ts 16 (callee .given .0 .1 .0) in
+    let end = run-refused a (sym (e3 .given .1) ∙ parse-arguments .ensures .0) in
+    rw (
+      ← consume .ensures,
+      at .given .1,
+      ← consume-named .ensures,
+      callee .given .1,
+      end,
+    ) (refl, parse-arguments .ensures .1)
+
+same-length-2 : tie.Need-same-length-2
+same-length-2 c = search needs
+
+returns-4 : tie.Need-returns-4
+unfolding callD calledOf opened
+returns-4 c =
+    let back8 = c .before .before .before .before .before .before .before .before in
+    let back16 = back8 .before .before .before .before .before .before .before .before in
+    let a = back16 .before .args in
     let callee = c .before .before .before .before .before .before .before .before .callee in
     let count = c .before .count in
     let parse-arguments = c .before .before .before .before .before .parse-arguments in
-    let token-at = back8 .before .before .before .token-at in
+    let consume = back8 .before .before .before .before .before .before .consume in
+    let at = back8 .before .before .before .before .at in
     let consume-named = back8 .before .before .consume-named in
     let ts = tokensOf (now (a .tokens)) in
     let a = argumentsD ts 16 (callee .given .0 .1 .0) in
     let end = run-done a (sym (count .given .1) ∙ parse-arguments .ensures .0) in
     rw (
-      ← token-at .ensures,
+      ← consume .ensures,
+      at .given .1,
       ← consume-named .ensures,
       callee .given .1,
       end .0,
@@ -84,15 +109,18 @@ pub parse-call-spec : {M : Type 1} → statement M
 parse-call-spec =
     tie.close
     (tie.spec
-    token-at-requires
-    consume-named-requires
+    consume-requires
     enum-known-e
+    enum-known-at
+    consume-named-requires
+    enum-known-e-2
     enum-known-callee
     parse-arguments-requires
-    enum-known-e-2
+    enum-known-e-3
     enum-known-count
     returns
-    same-length
     returns-2
+    same-length
+    returns-3
     same-length-2
-    returns-3)
+    returns-4)
