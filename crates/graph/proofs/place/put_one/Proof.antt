@@ -1,0 +1,31 @@
+-- `put_one` stores exactly where the flag is 0.
+use borrow.Author.Needs.{needs}
+use borrow.Author.Tests.{eq-eqb, ne-eqb}
+use native.Mathlib.Omega.{arith}
+use mathlib.Core.Path.{refl}
+use Rattle.utils.specs.Bytes.{pick}
+use Rattle.graph.proofs.place.put_one.Statement.{statement}
+use Rattle.graph.proofs.place.put_one.Tie as tie
+
+mul-out : tie.Need-mul-out
+mul-out c = search needs
+
+element-write-out : tie.Need-element-write-out
+unfolding pick
+element-write-out c =
+    let room = rw (eq-eqb _ _ (c .if1 .taken)) at (c .before .pre) in
+    omega arith
+
+add-result : tie.Need-add-result
+add-result c = search needs
+
+returns : tie.Need-returns
+unfolding pick
+returns c = rw (eq-eqb _ _ (c .if1 .taken)) (refl, refl)
+
+returns-2 : tie.Need-returns-2
+unfolding pick
+returns-2 c = rw (ne-eqb _ _ (c .if1 .left)) (omega arith, refl)
+
+pub put-one-spec : {M : Type 1} → statement M
+put-one-spec = tie.close (tie.spec mul-out element-write-out add-result returns returns-2)

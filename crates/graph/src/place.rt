@@ -1,0 +1,64 @@
+// From a walk to the order: the blocks left, the last first, and then the blocks never met.
+ghost use mathlib.Core.Path.{_≡_};
+ghost use Prim.Native.Nat.{_+_, _≤_};
+ghost use lib.Dec.{eqb};
+ghost use lib.ListN.{length, take, drop, set};
+ghost use lib.Seq.{sets};
+ghost use Rattle.utils.specs.Bytes.{pick};
+ghost use Rattle.graph.specs.Walk.{neverMet};
+ghost use Rattle.graph.specs.Frames.{waiting};
+
+// The blocks left stand from `at` on. How many there are.
+pub fn put_left(left: &[u32; 256], at: usize, out: &mut [u32; 256]) -> usize
+    requires { ⌜ (at ≤ 256) × (length (now left) ≡ 256) ⌝ }
+    ensures { λ r. ⌜ (r + at ≡ 256) × (now (out .exit) ≡ sets (now (out .entry)) 0 (drop at (now (left .entry)))) ⌝ }
+{
+    let mut i: usize = 0;
+    let mut k = at;
+    while k < 256 {
+        out[i] = left[k];
+        i += 1;
+        k += 1;
+    }
+    i
+}
+
+// Block k goes to the place `at`, if its flag is 0. The place after it.
+fn put_one(out: &mut [u32; 256], at: usize, k: u32, flag: u8) -> usize
+    requires { ⌜ at + pick (eqb flag 0) 1 0 ≤ 256 ⌝ }
+    ensures { λ r. ⌜ (r ≡ at + pick (eqb flag 0) 1 0)
+        × (now (out .exit) ≡ pick (eqb flag 0) (set (now (out .entry)) at k) (now (out .entry))) ⌝ }
+{
+    if flag == 0 {
+        out[at] = k;
+        return at + 1;
+    }
+    at
+}
+
+// The blocks whose flag is 0, by rising block number, from the place `start` on.
+pub fn put_unmet(met: &[u8; 256], n: u32, out: &mut [u32; 256], start: usize)
+    requires { ⌜ (start + waiting (take n (now met)) ≤ 256) × (n ≤ 256) × (length (now met) ≡ 256) ⌝ }
+    ensures { λ _. ⌜ now (out .exit) ≡ sets (now (out .entry)) start (neverMet 0 (take n (now (met .entry)))) ⌝ }
+{
+    let mut at = start;
+    let mut k: u32 = 0;
+    while k < n {
+        let i = k as usize;
+        at = put_one(out, at, k, met[i]);
+        k += 1;
+    }
+}
+
+// The flags of the n blocks.
+pub fn put_flags(flags: &[u8; 256], n: u32, out: &mut [u8; 256])
+    requires { ⌜ (n ≤ 256) × (length (now flags) ≡ 256) ⌝ }
+    ensures { λ _. ⌜ now (out .exit) ≡ sets (now (out .entry)) 0 (take n (now (flags .entry))) ⌝ }
+{
+    let mut k: u32 = 0;
+    while k < n {
+        let i = k as usize;
+        out[i] = flags[i];
+        k += 1;
+    }
+}

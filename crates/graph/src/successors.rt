@@ -1,0 +1,49 @@
+// The successors of a function's blocks, from block records to rows of two cells and a count.
+ghost use mathlib.Core.Path.{_≡_};
+ghost use Prim.Native.Nat.{ℕ, _<_, _≤_};
+ghost use lib.ListN.{length, getD};
+ghost use Rattle.graph.specs.Records.{recorded, blocksIn};
+ghost use Rattle.graph.specs.Frames.{rowOf};
+
+// How many blocks are looked at.
+pub fn at_most_256(count: u32) -> u32
+    ensures { λ r. ⌜ (r ≡ blocksIn count) × (r ≤ 256) ⌝ }
+{
+    if 256 < count {
+        return 256;
+    }
+    count
+}
+
+// A cell, or 0 past the end.
+fn cell_at(cells: &[u32], at: usize) -> u32
+    ensures { λ r. ⌜ r ≡ getD (now (cells .entry)) at 0 ⌝ }
+{
+    if at < cells.len() {
+        return cells[at];
+    }
+    0
+}
+
+// The first n blocks from the record `first` on.
+pub fn load(
+    blocks: &[u32],
+    first: u32,
+    n: u32,
+    succs: &mut [[u32; 2]; 256],
+    counts: &mut [u32; 256],
+)
+    requires { ⌜ (n ≤ 256) × (length (now succs) ≡ 256) × (length (now counts) ≡ 256) ⌝ }
+    ensures { λ _. ⌜ ((v : ℕ) → v < n
+        → rowOf (now (succs .exit)) (now (counts .exit)) v ≡ recorded (now (blocks .entry)) first v) ⌝ }
+{
+    let mut k: u32 = 0;
+    while k < n {
+        let at = (first as usize + k as usize) * super::BLOCK_CELLS + super::SUCCESSORS;
+        let row = [cell_at(blocks, at + 1), cell_at(blocks, at + 2)];
+        let i = k as usize;
+        succs[i] = row;
+        counts[i] = cell_at(blocks, at);
+        k += 1;
+    }
+}

@@ -1,0 +1,134 @@
+// The depth-first walk, with the Rust's stack in the place of recursion. An entry of `processing` is a block to walk
+// from, or, with 256 added, one to leave: the Rust tells them apart by colour, white and gray.
+ghost use mathlib.Core.Path.{_≡_};
+ghost use Prim.Native.Nat.{_+_, _<_, _≤_};
+ghost use mathlib.Core.List.{_∷_};
+ghost use lib.ListN.{length, drop, replicate};
+ghost use Rattle.graph.specs.Walk.{walked};
+ghost use Rattle.graph.specs.Records.{recorded};
+ghost use Rattle.graph.specs.Frames.{rowOf, stack, pushOne, pushAll, state, coming, Ready, Turned, Holds};
+
+// How many entries `processing` has, and where the blocks left begin.
+pub struct Step {
+    pub top: usize,
+    pub at: usize,
+}
+
+// A block is left: it goes in front of those left before.
+fn leave(left: &mut [u32; 256], at: usize, block: u32) -> usize
+    requires { ⌜ (0 < at) × (at ≤ 256) × (length (now left) ≡ 256) ⌝ }
+    ensures { λ r. ⌜ (r + 1 ≡ at) × (length (now (left .exit)) ≡ 256)
+        × (drop r (now (left .exit)) ≡ block ∷ drop at (now (left .entry))) ⌝ }
+{
+    let k = at - 1;
+    left[k] = block;
+    k
+}
+
+// A block goes on the stack, if it is one of the n.
+fn push(processing: &mut [u32; 513], top: usize, n: u32, block: u32) -> usize
+    requires { ⌜ top < 513 ⌝ }
+    ensures { λ r. ⌜ stack (now (processing .exit)) r ≡ pushOne n block (stack (now (processing .entry)) top) ⌝ }
+    ensures { λ r. ⌜ r ≤ top + 1 ⌝ }
+{
+    if block < n {
+        processing[top] = block;
+        return top + 1;
+    }
+    top
+}
+
+// A block's successors go on the stack, the last on top.
+fn push_successors(
+    succs: &[[u32; 2]; 256],
+    counts: &[u32; 256],
+    n: u32,
+    block: usize,
+    processing: &mut [u32; 513],
+    top: usize,
+) -> usize
+    requires { ⌜ (block < 256) × (top + 2 ≤ 513) ⌝ }
+    ensures { λ r. ⌜ stack (now (processing .exit)) r
+        ≡ pushAll n (rowOf (now (succs .entry)) (now (counts .entry)) block) (stack (now (processing .entry)) top) ⌝ }
+{
+    let count = counts[block];
+    if count == 0 {
+        return top;
+    }
+    if count == 1 {
+        return push(processing, top, n, succs[block][0]);
+    }
+    let one = push(processing, top, n, succs[block][0]);
+    push(processing, one, n, succs[block][1])
+}
+
+// One turn of the Rust's loop.
+fn turn(
+    succs: &[[u32; 2]; 256],
+    counts: &[u32; 256],
+    n: u32,
+    met: &mut [u8; 256],
+    left: &mut [u32; 256],
+    processing: &mut [u32; 513],
+    top: usize,
+    at: usize,
+) -> Step
+    requires { ⌜ Ready n (state (now met) (now left) (now processing) top at) × (0 < top) ⌝ }
+    ensures { λ r. ⌜ Turned (rowOf (now (succs .entry)) (now (counts .entry))) n
+        (state (now (met .entry)) (now (left .entry)) (now (processing .entry)) top at)
+        (state (now (met .exit)) (now (left .exit)) (now (processing .exit)) (r .top) (r .at)) ⌝ }
+{
+    let t = top - 1;
+    let current = processing[t];
+    if 256 <= current {
+        let k = leave(left, at, current - 256);
+        return Step { top: t, at: k };
+    }
+    let i = current as usize;
+    if met[i] != 0 {
+        return Step { top: t, at };
+    }
+    met[i] = 1;
+    processing[t] = current + 256;
+    let up = push_successors(succs, counts, n, i, processing, top);
+    Step { top: up, at }
+}
+
+// The Rust's loop. Where the blocks left begin.
+fn process(
+    succs: &[[u32; 2]; 256],
+    counts: &[u32; 256],
+    n: u32,
+    met: &mut [u8; 256],
+    left: &mut [u32; 256],
+    processing: &mut [u32; 513],
+    start: usize,
+) -> usize
+    requires { ⌜ Ready n (state (now met) (now left) (now processing) start 256) ⌝ }
+    ensures { λ r. ⌜ Holds (coming (rowOf (now (succs .entry)) (now (counts .entry))) n
+        (state (now (met .entry)) (now (left .entry)) (now (processing .entry)) start 256))
+        n (now (met .exit)) (now (left .exit)) r ⌝ }
+{
+    let mut top = start;
+    let mut at: usize = 256;
+    while 0 < top {
+        let step = turn(succs, counts, n, met, left, processing, top, at);
+        top = step.top;
+        at = step.at;
+    }
+    at
+}
+
+// The walk from block 0: flags, and the blocks left, at the end of their array.
+pub fn walk(blocks: &[u32], first: u32, n: u32, met: &mut [u8; 256], left: &mut [u32; 256]) -> usize
+    requires { ⌜ (n ≤ 256) × (now met ≡ replicate 256 0) × (length (now left) ≡ 256) ⌝ }
+    ensures { λ r. ⌜ Holds (walked (recorded (now (blocks .entry)) first) n) n
+        (now (met .exit)) (now (left .exit)) r ⌝ }
+{
+    let mut succs = [[0u32; 2]; 256];
+    let mut counts = [0u32; 256];
+    super::successors::load(blocks, first, n, &mut succs, &mut counts);
+    let mut processing = [0u32; 513];
+    let top = push(&mut processing, 0, n, 0);
+    process(&succs, &counts, n, met, left, &mut processing, top)
+}
