@@ -1,5 +1,5 @@
--- The loops that store a run: what is left to read, read from here, gives the whole run; what is stored is what was read.
--- One lemma for each way a turn can end, for formals and arguments alike.
+-- The loops that store a run: what is left to read, read from here, gives the whole run; what is stored is what was
+-- read. One lemma for each way a turn can end, for formals and arguments alike.
 use Prim.Native.Nat.{ℕ, suc, _+_, _*_, _≤_, _<_}
 use mathlib.Core.Path.{_≡_, refl, sym, ap, _∙_}
 use mathlib.Core.List.{List}

@@ -1,5 +1,5 @@
--- The simulation of demand 3, one lemma for each definition: related tokens give related answers. What follows a step is
--- related where it is related whatever the step gave; each definition is a chain of such steps.
+-- The simulation of demand 3, one lemma for each definition: related tokens give related answers. What follows a step
+-- is related where it is related whatever the step gave; each definition is a chain of such steps.
 use Prim.Native.Nat.{ℕ, zero, suc, _+_, _≤_, _<_}
 use mathlib.Core.Path.{_≡_, refl, sym, ap, _∙_}
 use mathlib.Core.List.{List}

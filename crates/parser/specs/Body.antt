@@ -1,4 +1,5 @@
--- A function's body (document 01, "Functions, labels, edges"): one list of items in text order, and the blocks that they make.
+-- A function's body (document 01, "Functions, labels, edges"): one list of items in text order, and the blocks that
+-- they make.
 use Prim.Native.Nat.{ℕ, zero, suc, _+_}
 use mathlib.Core.List.{List, [], _∷_, _++_}
 use mathlib.Core.Bool.{Bool, true, false}
@@ -97,9 +98,9 @@ thenItem ts (P.Call w) k = thenCalling (callD ts w) (λ g xs. call w g xs) k
 thenItem ts (P.CallInto v w) k = thenCalling (callD ts w) (λ g xs. callInto w v g xs) k
 thenItem ts (P.Refused e) k = bodyStop e
 
--- From after the opening brace: `room` bounds the items, of which a text has fewer than tokens; `labels` are the labels so
--- far; `closed`: the item before is a terminator; `fresh`: it is a label, behind which an operation has to stand.
--- An operation after a terminator in the same block is 12, found once it is parsed.
+-- From after the opening brace: `room` bounds the items, of which a text has fewer than tokens; `labels` are the
+-- labels so far; `closed`: the item before is a terminator; `fresh`: it is a label, behind which an operation has to
+-- stand. An operation after a terminator in the same block is 12, found once it is parsed.
 unfoldable pub bodyD : List Tok → ℕ → List ℕ → Bool → Bool → ℕ → Body
 bodyD ts zero labels closed fresh at = bodyStop (refusal 0 at 0)
 bodyD ts (suc room) labels closed fresh at =

@@ -1,5 +1,5 @@
--- Document 01's cases that are decided in a body, and the edges of each rule: one table with one claim, shown by computation.
--- A row is a body behind `@f {`, and what it gives: 0 and its blocks, or a refusal's number and token.
+-- Document 01's cases that are decided in a body, and the edges of each rule: one table with one claim, shown by
+-- computation. A row is a body behind `@f {`, and what it gives: 0 and its blocks, or a refusal's number and token.
 use Prim.Native.Nat.{ℕ, _+_}
 use Prim.Native.String.{String}
 use mathlib.Core.Path.{_≡_, refl}

@@ -1,5 +1,5 @@
--- The blocks of a function taken in order, once its closing brace is read: empty blocks, labels resolved, edges, dead marks
--- (document 01, "Functions, labels, edges").
+-- The blocks of a function taken in order, once its closing brace is read: empty blocks, labels resolved, edges, dead
+-- marks (document 01, "Functions, labels, edges").
 use Prim.Native.Nat.{ℕ, _+_}
 use mathlib.Core.List.{List, [], _∷_, _++_}
 use mathlib.Core.Bool.{Bool, true, false}
@@ -25,8 +25,8 @@ unfoldable pub thenPlace : {A : Type 0} → Place → (ℕ → A) → A → A
 thenPlace (at k) found none = found k
 thenPlace nowhere found none = none
 
--- An empty block gives 22, with the function's name token; a terminator's labels are resolved first then second (14, with
--- the terminator's token and the label's name).
+-- An empty block gives 22, with the function's name token; a terminator's labels are resolved first then second (14,
+-- with the terminator's token and the label's name).
 pub data Resolved : Type 0 where
   fine : Resolved
   refused : Refusal → Resolved

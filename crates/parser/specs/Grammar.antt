@@ -1,5 +1,5 @@
--- The grammar of one operation (document 01, "Functions, labels, edges"; parse_instruction and parse_type of parser.rs),
--- over the tokens and an index.
+-- The grammar of one operation (document 01, "Functions, labels, edges"; parse_instruction and parse_type of
+-- parser.rs), over the tokens and an index.
 use Prim.Native.Nat.{ℕ}
 use mathlib.Core.List.{List}
 use mathlib.Core.Bool.{Bool, true, false}

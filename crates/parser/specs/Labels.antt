@@ -1,5 +1,6 @@
--- A label in a body (document 01: "38 once the label's colon is read and before 13"): its name, its colon, then the limit of
--- 255 label definitions a function, then whether this function has it already. Labels are compared by equality alone.
+-- A label in a body (document 01: "38 once the label's colon is read and before 13"): its name, its colon, then the
+-- limit of 255 label definitions a function, then whether this function has it already. Labels are compared by
+-- equality alone.
 use Prim.Native.Nat.{ℕ}
 use mathlib.Core.List.{List, [], _∷_}
 use mathlib.Core.Bool.{Bool, true, false}

@@ -1,6 +1,7 @@
 -- Two readings of one function (demand 3): what stands at `by + i` in the one token list is what stands at i in the
--- other, moved: tokens go on by `by`, lines by `down`, bytes by `on`, and names, of which there are `names`, are renamed
--- and stay apart. The parser's definitions give related answers on related tokens; `proofs/Sim.antt` shows it of each.
+-- other, moved: tokens go on by `by`, lines by `down`, bytes by `on`, and names, of which there are `names`, are
+-- renamed and stay apart. The parser's definitions give related answers on related tokens; `proofs/Sim.antt` shows it
+-- of each.
 use Prim.Native.Nat.{ℕ, _+_, _≤_, _<_}
 use mathlib.Core.Path.{_≡_}
 use mathlib.Core.List.{List, [], _∷_}

@@ -192,8 +192,8 @@ wordIn (w ∷ ws) s = let more = wordIn ws s in pick (sameBytes (w .spelling) s)
 abbrev pub keyword : List ℕ → OptionValue
 keyword s = wordIn words s
 
--- The code keeps the words in rows of seven bytes: kind, length, and five for the letters. `rowsFrom n k t`: n rows from
--- row k on. That the rows are `words` is the law `keywords-are-words`.
+-- The code keeps the words in rows of seven bytes: kind, length, and five for the letters. `rowsFrom n k t`: n rows
+-- from row k on. That the rows are `words` is the law `keywords-are-words`.
 abbrev pub rowAt : List ℕ → ℕ → Word
 rowAt t k =
     record {
