@@ -10,9 +10,8 @@ ghost use lib.ListN.{length, take, getD};
 ghost use lib.Seq.{sets};
 ghost use Rattle.utils.specs.Bytes.{pick, padTo};
 ghost use Rattle.pieces.specs.Pieces.{pieceAt};
-ghost use Rattle.lexer.specs.Numbered.{identified, numbered, atToken};
-ghost use Rattle.lexer.specs.Steps.{firstNames, Table, newCells, nextName, nextOf, addedBy, pushed};
-ghost use Rattle.pieces.specs.Tokens.{tokenCells};
+ghost use Rattle.lexer.specs.Numbered.{identified, numbered};
+ghost use Rattle.lexer.specs.Steps.{firstNames, Table, newCells, rowOf, rowCells, atRow, nextName, nextOf, addedBy, pushed};
 ghost use Rattle.lexer.specs.Read.{lexedFrom, resultOf, tokensIn, namesIn, Held, reading, padded, readOf};
 ghost use Rattle.lexer.specs.Read.{sized, IfSized, Reads};
 ghost use Rattle.lexer.specs.Decoded.{tokensOf, tokenAt, nameOf};
@@ -23,7 +22,6 @@ use pieces::Location;
 use pieces::Name;
 use pieces::Refusal;
 use pieces::Token;
-use pieces::TokenValue;
 use pieces::scan;
 use pieces::tokens;
 
@@ -40,12 +38,20 @@ pub enum Identified {
     Refused(Refusal),
 }
 
+// A token's record: its four cells. (A token's value has 38 cases; from here on two numbers stand for it.)
+pub struct Row {
+    pub kind: u32,
+    pub value: u32,
+    pub line: u32,
+    pub place: usize,
+}
+
 // One turn of lex_all: a piece whose name has its number.
 pub enum Next {
     Skipped(Cursor),
     // The token, the cursor after it, and how many names there are then.
-    Token(Token, Cursor, usize),
-    End(Token),
+    Token(Row, Cursor, usize),
+    End(Row),
     Refused(Refusal),
 }
 
@@ -76,25 +82,57 @@ pub struct TokenAt {
 
 // A name with its number in the table.
 fn number_name(text: &[u8], names: &mut [u32], count: usize, name: Name, next: Cursor) -> Next
-    requires { ⌜ Table (now text) (now names) count × (name .place + name .len ≤ length (now text)) ⌝ }
+    requires { ⌜ Table (now text) (now names) count × (name .place + name .len ≤ length (now text))
+        × (1 ≤ name .kind) × (name .kind ≤ 3) ⌝ }
     ensures { λ r. ⌜ r ≡ nextName count name next
         (identified (now (text .entry)) (firstNames count (now (names .entry))) name) ⌝ }
     ensures { λ r. ⌜ now (names .exit) ≡ sets (now (names .entry)) (count * 2)
         (newCells name (identified (now (text .entry)) (firstNames count (now (names .entry))) name)) ⌝ }
 {
     let kind = name.kind;
-    let line = name.line;
+    let line = name.line.0;
     let place = name.place;
     match names::get_identifier(text, names, count, name) {
         Identified::Known(i) => {
-            let value = tokens::value_of(kind, i.0);
-            Next::Token(Token { value, line, place }, next, count)
+            let value = i.0;
+            Next::Token(
+                Row {
+                    kind,
+                    value,
+                    line,
+                    place,
+                },
+                next,
+                count,
+            )
         }
         Identified::New(i) => {
-            let value = tokens::value_of(kind, i.0);
-            Next::Token(Token { value, line, place }, next, count + 1)
+            let value = i.0;
+            Next::Token(
+                Row {
+                    kind,
+                    value,
+                    line,
+                    place,
+                },
+                next,
+                count + 1,
+            )
         }
         Identified::Refused(refusal) => Next::Refused(refusal),
+    }
+}
+
+fn row_of(token: Token) -> Row
+    ensures { λ r. ⌜ r ≡ rowOf token ⌝ }
+{
+    let value = token.value;
+    let first = tokens::kinded(value);
+    Row {
+        kind: first.0,
+        value: first.1,
+        line: token.line.0,
+        place: token.place,
     }
 }
 
@@ -110,24 +148,40 @@ fn next_token(text: &[u8], names: &mut [u32], count: usize, at: Cursor) -> Next
 {
     match at.lex(text) {
         Lexed::Skipped(next) => Next::Skipped(next),
-        Lexed::Token(token, next) => Next::Token(token, next, count),
+        Lexed::Token(token, next) => Next::Token(row_of(token), next, count),
         Lexed::Name(name, next) => number_name(text, names, count, name, next),
-        Lexed::End(end) => Next::End(Token {
-            value: TokenValue::EndOfFile,
-            line: Location(end.line),
+        Lexed::End(end) => Next::End(Row {
+            kind: 38,
+            value: 0,
+            line: end.line,
             place: end.place,
         }),
         Lexed::Refused(refusal) => Next::Refused(refusal),
     }
 }
 
+// Stores a token's four cells, after `count` records.
+fn put_row(cells: &mut [u32], count: usize, row: Row)
+    requires { ⌜ (count * 4 + 4 ≤ length (now cells)) × (row .place < 4294967296) ⌝ }
+    ensures { λ r. ⌜ now (cells .exit) ≡ sets (now (cells .entry)) (count * 4) (rowCells row) ⌝ }
+{
+    let at = count * 4;
+    let a1 = at + 1;
+    let a2 = at + 2;
+    let a3 = at + 3;
+    cells[at] = row.kind;
+    cells[a1] = row.value;
+    cells[a2] = row.line;
+    cells[a3] = row.place as u32;
+}
+
 // Stores a token behind `count` others, where there is room for it.
-fn push_token(cells: &mut [u32], count: usize, token: Token) -> bool
-    requires { ⌜ (16384 ≤ length (now cells)) × (token .place < 4294967296) ⌝ }
-    ensures { λ r. ⌜ (r ≡ ltb count 4096) × (now (cells .exit) ≡ pushed (now (cells .entry)) count token) ⌝ }
+fn push_token(cells: &mut [u32], count: usize, row: Row) -> bool
+    requires { ⌜ (16384 ≤ length (now cells)) × (row .place < 4294967296) ⌝ }
+    ensures { λ r. ⌜ (r ≡ ltb count 4096) × (now (cells .exit) ≡ pushed (now (cells .entry)) count row) ⌝ }
 {
     if count < 4096 {
-        tokens::put_token(cells, count, token);
+        put_row(cells, count, row);
         return true;
     }
     false
@@ -151,17 +205,17 @@ fn lex_all(text: &[u8], line: u32, tokens: &mut [u32], names: &mut [u32]) -> Lex
             Next::Skipped(next) => {
                 at = next;
             }
-            Next::Token(token, next, then) => {
-                if !push_token(tokens, count, token) {
-                    return LexResult::Refused(too_many(token));
+            Next::Token(row, next, then) => {
+                if !push_token(tokens, count, row) {
+                    return LexResult::Refused(too_many(row));
                 }
                 count += 1;
                 known = then;
                 at = next;
             }
-            Next::End(token) => {
-                if !push_token(tokens, count, token) {
-                    return LexResult::Refused(too_many(token));
+            Next::End(row) => {
+                if !push_token(tokens, count, row) {
+                    return LexResult::Refused(too_many(row));
                 }
                 return LexResult::Done(count as u32 + 1, known as u32);
             }
@@ -172,12 +226,12 @@ fn lex_all(text: &[u8], line: u32, tokens: &mut [u32], names: &mut [u32]) -> Lex
     }
 }
 
-fn too_many(token: Token) -> Refusal
-    ensures { λ r. ⌜ r ≡ Refusal.TooManyTokens (atToken token) ⌝ }
+fn too_many(row: Row) -> Refusal
+    ensures { λ r. ⌜ r ≡ Refusal.TooManyTokens (atRow row) ⌝ }
 {
     Refusal::TooManyTokens(Cursor {
-        place: token.place,
-        line: token.line.0,
+        place: row.place,
+        line: row.line,
     })
 }
 

@@ -3,14 +3,13 @@ ghost use mathlib.Core.Path.{_≡_};
 ghost use mathlib.Core.Bool.{true};
 ghost use Prim.Native.Nat.{ℕ, _+_, _-_, _*_, _≤_, _<_};
 ghost use lib.ListN.{length, getD};
-ghost use lib.Seq.{slice, sets};
+ghost use lib.Seq.{slice};
 ghost use Rattle.utils.specs.Bytes.{sameBytes};
-ghost use Rattle.pieces.specs.Tokens.{kindedOf, valueOf, tokenCells};
+ghost use Rattle.pieces.specs.Tokens.{kindedOf, valueOf};
 ghost use Rattle.pieces.specs.Tokens.{rowAt, rowsFrom, rowsFit, wordIn, keyword, symbol};
 use crate::Identifier;
 use crate::Kinded;
 use crate::OptionValue;
-use crate::Token;
 use crate::TokenValue;
 
 // The kind of a value and what it carries: the first two cells of its record.
@@ -103,23 +102,6 @@ pub fn value_of(kind: u32, carried: u32) -> TokenValue
         37 => TokenValue::Identity,
         _ => TokenValue::EndOfFile,
     }
-}
-
-// Stores a token's four cells, after `count` records.
-pub fn put_token(cells: &mut [u32], count: usize, token: Token)
-    requires { ⌜ (count * 4 + 4 ≤ length (now cells)) × (token .place < 4294967296) ⌝ }
-    ensures { λ r. ⌜ now (cells .exit) ≡ sets (now (cells .entry)) (count * 4) (tokenCells token) ⌝ }
-{
-    let at = count * 4;
-    let a1 = at + 1;
-    let a2 = at + 2;
-    let a3 = at + 3;
-    let value = token.value;
-    let first = kinded(value);
-    cells[at] = first.0;
-    cells[a1] = first.1;
-    cells[a2] = token.line.0;
-    cells[a3] = token.place as u32;
 }
 
 // Whether n bytes from i of one slice are those from j of another.

@@ -1,6 +1,7 @@
--- What get_identifier answers decides, case by case.
+-- What get_identifier answers decides, case by case; a name's kind and number come back from its value.
 use mathlib.Core.Path.{refl}
 use borrow.Author.Needs.{needs}
+use Rattle.lexer.proofs.Sound.{name-kind, name-carried}
 use Rattle.lexer.proofs.number_name.Statement.{statement}
 use Rattle.lexer.proofs.number_name.Tie as tie
 
@@ -10,14 +11,8 @@ get-identifier-requires c κs = search needs
 enum-known-i : tie.Need-enum-known-i
 enum-known-i c = search needs
 
-value-of-requires : tie.Need-value-of-requires
-value-of-requires c κs = search needs
-
 enum-known-i-2 : tie.Need-enum-known-i-2
 enum-known-i-2 c = search needs
-
-value-of-requires-2 : tie.Need-value-of-requires-2
-value-of-requires-2 c κs = search needs
 
 add-t20 : tie.Need-add-t20
 add-t20 c = search needs
@@ -30,13 +25,18 @@ same-length c = search needs
 
 returns : tie.Need-returns
 returns c =
-    let get-identifier = c .before .before .before .before .before .before .get-identifier in
-    let i = c .before .before .i in
-    let value-of = c .value-of in
+    let back8 = c .before .before .before .before .before .before .before .before in
+    let a = back8 .before .args in
+    let i = c .before .i in
+    let pre = back8 .before .pre in
+    let get-identifier = c .before .before .before .before .before .get-identifier in
+    let kind = name-kind (a .name .kind) (i .given .0 .0 .0) (pre .2) (pre .3) in
+    let carried = name-carried (a .name .kind) (i .given .0 .0 .0) (pre .2) (pre .3) in
     rw (
       ← get-identifier .ensures .0,
       i .given .1,
-      value-of .ensures,
+      kind,
+      carried,
     ) (refl, rw (i .given .1) at (get-identifier .ensures .1))
 
 same-length-2 : tie.Need-same-length-2
@@ -44,13 +44,18 @@ same-length-2 c = search needs
 
 returns-2 : tie.Need-returns-2
 returns-2 c =
-    let get-identifier = c .before .before .before .before .before .before .get-identifier in
-    let i2 = c .before .before .i2 in
-    let value-of2 = c .value-of2 in
+    let back8 = c .before .before .before .before .before .before .before .before in
+    let a = back8 .before .args in
+    let i2 = c .before .i2 in
+    let pre = back8 .before .pre in
+    let get-identifier = c .before .before .before .before .before .get-identifier in
+    let kind = name-kind (a .name .kind) (i2 .given .0 .0 .0) (pre .2) (pre .3) in
+    let carried = name-carried (a .name .kind) (i2 .given .0 .0 .0) (pre .2) (pre .3) in
     rw (
       ← get-identifier .ensures .0,
       i2 .given .1,
-      value-of2 .ensures,
+      kind,
+      carried,
     ) (refl, rw (i2 .given .1) at (get-identifier .ensures .1))
 
 same-length-3 : tie.Need-same-length-3
@@ -71,9 +76,7 @@ number-name-spec =
     (tie.spec
     get-identifier-requires
     enum-known-i
-    value-of-requires
     enum-known-i-2
-    value-of-requires-2
     add-t20
     enum-known-refusal
     same-length

@@ -3,8 +3,8 @@ use native.Mathlib.Omega.{arith}
 use native.Mathlib.Numerals.{towards-suc}
 use lib.ListN.{length-set}
 use borrow.Author.Needs.{needs}
-use Rattle.pieces.proofs.tokens.put_token.Statement.{statement}
-use Rattle.pieces.proofs.tokens.put_token.Tie as tie
+use Rattle.lexer.proofs.put_row.Statement.{statement}
+use Rattle.lexer.proofs.put_row.Tie as tie
 
 mul-at : tie.Need-mul-at
 mul-at c = search needs
@@ -17,9 +17,6 @@ add-a2 c = search needs
 
 add-a3 : tie.Need-add-a3
 add-a3 c = search needs
-
-kinded-requires : tie.Need-kinded-requires
-kinded-requires c κs = search needs
 
 mul-cells : tie.Need-mul-cells
 mul-cells c = search needs
@@ -52,19 +49,16 @@ same-length : tie.Need-same-length
 same-length c = search needs
 
 returns : tie.Need-returns
-returns c =
-    let kinded = c .before .kinded in
-    simp (towards-suc, kinded .ensures)
+returns c = simp towards-suc
 
-pub put-token-spec : {M : Type 1} → statement M
-put-token-spec =
+pub put-row-spec : {M : Type 1} → statement M
+put-row-spec =
     tie.close
     (tie.spec
     mul-at
     add-a1
     add-a2
     add-a3
-    kinded-requires
     mul-cells
     slice-write-cells
     mul-cells-2
