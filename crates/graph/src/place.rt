@@ -36,17 +36,26 @@ fn put_one(out: &mut [u32; 256], at: usize, k: u32, flag: u8) -> usize
     at
 }
 
+// The block looked at when `rest` of n blocks are still to be looked at: by rising block number.
+fn next_block(n: u32, rest: u32) -> u32
+    requires { ⌜ (1 ≤ rest) × (rest ≤ n) ⌝ }
+    ensures { λ r. ⌜ r + rest ≡ n ⌝ }
+{
+    n - rest
+}
+
 // The blocks whose flag is 0, by rising block number, from the place `start` on.
 pub fn put_unmet(met: &[u8; 256], n: u32, out: &mut [u32; 256], start: usize)
     requires { ⌜ (start + waiting (take n (now met)) ≤ 256) × (n ≤ 256) × (length (now met) ≡ 256) ⌝ }
     ensures { λ _. ⌜ now (out .exit) ≡ sets (now (out .entry)) start (neverMet 0 (take n (now (met .entry)))) ⌝ }
 {
     let mut at = start;
-    let mut k: u32 = 0;
-    while k < n {
+    let mut rest = n;
+    while 0 < rest {
+        let k = next_block(n, rest);
         let i = k as usize;
         at = put_one(out, at, k, met[i]);
-        k += 1;
+        rest -= 1;
     }
 }
 

@@ -76,8 +76,8 @@ fn close_formals(tokens: &[u32], at: usize, n: usize) -> Run
 fn parse_formals_from(tokens: &[u32], at: usize, cells: &mut [u32], used: usize) -> Run
     requires { ⌜ used + 32 ≤ length (now cells) ⌝ }
     ensures { λ r. ⌜ r ≡ runOf (formalsFromD (tokensOf (now (tokens .entry))) 16 at) ⌝ }
-    ensures { λ r. ⌜ now (cells .exit)
-        ≡ sets (now (cells .entry)) used (variablesCells (formalsFromD (tokensOf (now (tokens .entry))) 16 at .list)) ⌝ }
+    ensures { λ r. ⌜ now (cells .exit) ≡ sets (now (cells .entry)) used
+        (variablesCells (formalsFromD (tokensOf (now (tokens .entry))) 16 at .list)) ⌝ }
 {
     let mut n: usize = 0;
     let mut here = at;

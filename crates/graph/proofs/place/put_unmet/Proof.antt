@@ -1,7 +1,7 @@
 -- `put_unmet` meets its contract: the blocks from k on whose flag is 0, stored from here, give the whole.
 use borrow.Author.Needs.{needs}
 use native.Mathlib.Omega.{arith}
-use Prim.Native.Nat.{_+_, _-_, _≤_, _<_}
+use Prim.Native.Nat.{ℕ, _+_, _≤_, _<_}
 use mathlib.Core.Path.{_≡_, refl, _∙_}
 use mathlib.Core.List.{[]}
 use lib.ListN.{length, take, drop, drop-of-length-le}
@@ -13,15 +13,18 @@ use Rattle.graph.proofs.place.put_unmet.Statement.{statement}
 use Rattle.graph.proofs.place.put_unmet.Tie as tie
 
 abbrev Inv-loop : tie.InvT-loop
-Inv-loop met n out₀ start at₀ k₀ out at k =
-    (k ≤ n) × (at + waiting (drop k (take n met)) ≤ 256)
+Inv-loop met n out₀ start at₀ rest₀ out at rest =
+    (k : ℕ) × (k + rest ≡ n) × (at + waiting (drop k (take n met)) ≤ 256)
     × (sets out at (neverMet k (drop k (take n met))) ≡ sets out₀ start (neverMet 0 (take n met)))
 
 abbrev μ-loop : tie.MeasureT-loop
-μ-loop met n out₀ start at₀ k₀ out at k = n - k
+μ-loop met n out₀ start at₀ rest₀ out at rest = rest
 
 loop-holds : tie.Need-loop-holds Inv-loop μ-loop
-loop-holds c = (omega arith, c .pre .0, refl)
+loop-holds c = (0, omega arith, c .pre .0, refl)
+
+next-block-requires : tie.Need-next-block-requires Inv-loop μ-loop
+next-block-requires c κs = search needs
 
 cast-i : tie.Need-cast-i Inv-loop μ-loop
 cast-i c = search needs
@@ -31,29 +34,36 @@ element-copy-out-put-one c = search needs
 
 put-one-requires : tie.Need-put-one-requires Inv-loop μ-loop
 put-one-requires c κs =
-    let loop = c .before .before .before .loop in
-    let a = c .before .before .before .before .args in
-    let w = waiting-more (a .met .now) (a .n) (loop .k) (omega arith) (omega arith) in
-    omega (arith, w, loop .inv .1)
+    let loop = c .before .before .before .before .loop in
+    let a = c .before .before .before .before .before .args in
+    let k = c .before .before .next-block .result in
+    let same : k ≡ loop .inv .0 = omega arith in
+    let w = waiting-more (a .met .now) (a .n) k (omega arith) (omega arith) in
+    let room : loop .at + waiting (drop k (take (a .n) (a .met .now))) ≤ 256 = rw same (loop .inv .2) in
+    omega (arith, w, room)
 
-add-k : tie.Need-add-k Inv-loop μ-loop
-add-k c = search needs
+sub-rest : tie.Need-sub-rest Inv-loop μ-loop
+sub-rest c = search needs
 
 loop-less : tie.Need-loop-less Inv-loop μ-loop
 loop-less c = search needs
 
 loop-again : tie.Need-loop-again Inv-loop μ-loop
 loop-again c =
-    let loop = c .before .before .before .before .loop in
-    let a = c .before .before .before .before .before .args in
+    let loop = c .before .before .before .before .before .loop in
+    let a = c .before .before .before .before .before .before .args in
     let met = a .met .now in
+    let k = c .before .before .before .next-block .result in
     let one = c .put-one in
-    let less : loop .k < a .n = omega arith in
-    let long : a .n ≤ length met = omega arith in (
+    let same : k ≡ loop .inv .0 = omega arith in
+    let less : k < a .n = omega arith in
+    let long : a .n ≤ length met = omega arith in
+    let room : loop .at + waiting (drop k (take (a .n) met)) ≤ 256 = rw same (loop .inv .2) in (
+      k + 1,
       omega arith,
-      omega (arith, waiting-more met (a .n) (loop .k) less long, loop .inv .1, one .ensures .0),
-      never-more met (a .n) (loop .k) less long (loop .out) (one .last .0) (loop .at) (one .result) (one .ensures)
-          ∙ loop .inv .2,
+      omega (arith, waiting-more met (a .n) k less long, room, one .ensures .0),
+      never-more met (a .n) k less long (loop .out) (one .last .0) (loop .at) (one .result) (one .ensures)
+          ∙ rw same (loop .inv .3),
     )
 
 returns : tie.Need-returns Inv-loop μ-loop
@@ -61,10 +71,11 @@ unfolding neverMet
 returns c =
     let a = c .before .before .args in
     let loop = c .before .loop in
+    let k = loop .inv .0 in
     let long : length (take (a .n) (a .met .now)) ≡ a .n = length-take-le (a .n) (a .met .now) (omega arith) in
-    let none : drop (loop .k) (take (a .n) (a .met .now)) ≡ [] =
-    drop-of-length-le (take (a .n) (a .met .now)) {i = loop .k} (rw long (omega arith)) in
-    rw none at (loop .inv .2)
+    let none : drop k (take (a .n) (a .met .now)) ≡ [] =
+    drop-of-length-le (take (a .n) (a .met .now)) {i = k} (rw long (omega arith)) in
+    rw none at (loop .inv .3)
 
 pub put-unmet-spec : {M : Type 1} → statement M
 put-unmet-spec =
@@ -73,10 +84,11 @@ put-unmet-spec =
     Inv-loop
     μ-loop
     loop-holds
+    next-block-requires
     cast-i
     element-copy-out-put-one
     put-one-requires
-    add-k
+    sub-rest
     loop-less
     loop-again
     returns)
