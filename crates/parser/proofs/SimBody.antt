@@ -1,15 +1,17 @@
 -- The simulation of demand 3 for a body: its items are the other's, moved and renamed, and it ends or is refused alike.
 use Prim.Native.Nat.{ℕ, zero, suc, _+_, _≤_, _<_}
-use mathlib.Core.Path.{_≡_, refl}
+use mathlib.Core.Path.{_≡_, refl, ap}
 use mathlib.Core.List.{List, [], _∷_, _++_}
 use mathlib.Core.Bool.{Bool, true, false}
+use lib.Dec.{eqb}
 use Rattle.lexer.specs.Decoded.{Tok}
 use Rattle.pieces.specs.declared.Identifier.{Identifier}
 use Rattle.parser.specs.Step.{refusal, thenAt}
 use Rattle.parser.specs.Runs.{Calling}
-use Rattle.parser.specs.Body.{Item, Body, itemToken, isTerminator, bodyEnd, bodyStop, bodyThen, thenCalling}
-use Rattle.parser.specs.Body.{thenItem, bodyD}
-use Rattle.parser.specs.Moved.{Move, Sim, SimName, SimE, SimC, SimO, SimV, SimP, SimItem, SimClose, SimBody}
+use Rattle.utils.specs.Bytes.{pick}
+use Rattle.parser.specs.Body.{Item, ItemAt, Body, itemToken, isTerminator, bodyEnd, bodyStop, bodyThen, calledItem}
+use Rattle.parser.specs.Body.{parsedItem, itemD, thenItem, behind, closes, bodyD}
+use Rattle.parser.specs.Moved.{Move, Sim, SimName, SimE, SimC, SimO, SimV, SimP, SimItem, SimItemAt, SimClose, SimBody}
 use Rattle.parser.specs.Moved.{SimCalling, Each, SimNumber, Rel}
 use Rattle.parser.specs.declared.Refusal.{Refusal}
 use Rattle.parser.specs.declared.Variable.{Variable}
@@ -72,49 +74,62 @@ module _ {m : Move} {n : ℕ} where
       → Rel m n SimBody (bodyStop (refusal 12 (itemToken i) 0)) (bodyStop (refusal 12 (itemToken i′) 0))
   twelfth q = rw (token-moved q) (stopped _ _ (SimE.moved 12 _ 0))
 
-  -- what follows a call's end, whatever the call is made into
-  after-end : {c c′ : Consumed} (i i′ : Item) (k k′ : Item → ℕ → Body) → SimC m n c c′ → SimItem m i i′
-      → ((j j′ : Item) → SimItem m j j′ → (at : ℕ) → at < n → Rel m n SimBody (k j (m .by + at)) (k′ j′ at))
-      → Rel m n SimBody (thenAt bodyStop c (λ at. k i at)) (thenAt bodyStop c′ (λ at. k′ i′ at))
-  unfolding thenAt
-  after-end i i′ k k′ (SimC.at at h) q go = go i i′ q at h
-  after-end i i′ k k′ (SimC.refused e e′ r) q go = stopped e e′ r
+  -- an item that was read, or its refusal
+  read : {i i′ : Item} → SimItem m i i′ → (at : ℕ) → at < n
+      → Rel m n SimItemAt (ItemAt.item i (m .by + at)) (ItemAt.item i′ at)
+  read q at h = Rel.is (SimItemAt.item q at h)
 
-  after-call : {c c′ : Calling} (item item′ : Identifier → List Variable → Item) (k k′ : Item → ℕ → Body)
-      → Rel m n SimCalling c c′
+  unread : (e e′ : Refusal) → SimE m e e′ → Rel m n SimItemAt (ItemAt.refused e) (ItemAt.refused e′)
+  unread e e′ r = Rel.is (SimItemAt.refused e e′ r)
+
+  -- a call's end, whatever the call is made into
+  after-end : {c c′ : Consumed} (i i′ : Item) → SimC m n c c′ → SimItem m i i′
+      → Rel m n SimItemAt (thenAt ItemAt.refused c (λ at. ItemAt.item i at)) (thenAt ItemAt.refused c′ (λ at. ItemAt.item i′ at))
+  unfolding thenAt
+  after-end i i′ (SimC.at at h) q = read q at h
+  after-end i i′ (SimC.refused e e′ r) q = unread e e′ r
+
+  after-call : {c c′ : Calling} (make make′ : Identifier → List Variable → Item) → Rel m n SimCalling c c′
       → ((g g′ : Identifier) (xs xs′ : List Variable) → SimName m g g′ → Each (SimV m) xs xs′
-      → SimItem m (item g xs) (item′ g′ xs′))
+      → SimItem m (make g xs) (make′ g′ xs′))
+      → Rel m n SimItemAt (calledItem c make) (calledItem c′ make′)
+  unfolding calledItem thenAt
+  after-call make make′ (Rel.is (SimCalling.called {g} {g′} {r} {r′} q v)) go =
+      after-end (make g (r .list)) (make′ g′ (r′ .list)) (v .end) (go g g′ (r .list) (r′ .list) q (v .list))
+  after-call make make′ (Rel.is (SimCalling.refused e e′ r)) go = unread e e′ r
+
+  after-item : {a a′ : ItemAt} (k k′ : Item → ℕ → Body) → Rel m n SimItemAt a a′
       → ((i i′ : Item) → SimItem m i i′ → (at : ℕ) → at < n → Rel m n SimBody (k i (m .by + at)) (k′ i′ at))
-      → Rel m n SimBody (thenCalling c item k) (thenCalling c′ item′ k′)
-  unfolding thenCalling thenAt
-  after-call item item′ k k′ (Rel.is (SimCalling.called {g} {g′} {r} {r′} q v)) make go =
-      after-end (item g (r .list)) (item′ g′ (r′ .list)) k k′ (v .end) (make g g′ (r .list) (r′ .list) q (v .list)) go
-  after-call item item′ k k′ (Rel.is (SimCalling.refused e e′ r)) make go = stopped e e′ r
+      → Rel m n SimBody (thenItem bodyStop a k) (thenItem bodyStop a′ k′)
+  unfolding thenItem
+  after-item k k′ (Rel.is (SimItemAt.item q at h)) go = go _ _ q at h
+  after-item k k′ (Rel.is (SimItemAt.refused e e′ r)) go = stopped e e′ r
 
 module _ {m : Move} {n : ℕ} {ts ts′ : List Tok} (s : Sim m n ts ts′) where
-  after-item : {p p′ : Parsed} (k k′ : Item → ℕ → Body) → Rel m n SimP p p′
-      → ((i i′ : Item) → SimItem m i i′ → (at : ℕ) → at < n → Rel m n SimBody (k i (m .by + at)) (k′ i′ at))
-      → Rel m n SimBody (thenItem ts p k) (thenItem ts′ p′ k′)
-  unfolding thenItem
-  after-item k k′ (Rel.is (SimP.done q i h)) go = go _ _ (SimItem.plain q) i h
-  after-item k k′ (Rel.is (SimP.call i h)) go =
-      after-call _ _ k k′ (callS s i h) (λ g g′ xs xs′ p q. SimItem.call i p q) go
-  after-item k k′ (Rel.is (SimP.callInto v i h)) go =
-      after-call _ _ k k′ (callS s i h) (λ g g′ xs xs′ p q. SimItem.callInto i v p q) go
-  after-item k k′ (Rel.is (SimP.refused e e′ r)) go = stopped e e′ r
+  parsed : {p p′ : Parsed} → Rel m n SimP p p′ → Rel m n SimItemAt (parsedItem ts p) (parsedItem ts′ p′)
+  unfolding parsedItem
+  parsed (Rel.is (SimP.done q i h)) = read (SimItem.plain q) i h
+  parsed (Rel.is (SimP.call i h)) = after-call _ _ (callS s i h) (λ g g′ xs xs′ p q. SimItem.call i p q)
+  parsed (Rel.is (SimP.callInto v i h)) = after-call _ _ (callS s i h) (λ g g′ xs xs′ p q. SimItem.callInto i v p q)
+  parsed (Rel.is (SimP.refused e e′ r)) = unread e e′ r
+
+  pub itemS : (i : ℕ) → i < n → Rel m n SimItemAt (itemD ts (m .by + i)) (itemD ts′ i)
+  unfolding itemD
+  itemS i h = parsed (instructionS s i h)
 
   -- THE SIMULATION of a body
-  pub bodyS : (room : ℕ) {ls ls′ : List ℕ} {closed closed′ : Bool} (fresh : Bool) (i : ℕ)
-      → Each (SimNumber m) ls ls′ → closed ≡ closed′ → i < n
-      → Rel m n SimBody (bodyD ts room ls closed fresh (m .by + i)) (bodyD ts′ room ls′ closed′ fresh i)
-  unfolding bodyD
-  bodyS zero fresh i r c h = stopped _ _ (SimE.moved 0 i 0)
-  bodyS (suc room) {closed = closed} {closed′ = closed′} fresh i r c h =
+  pub bodyS : (room : ℕ) {ls ls′ : List ℕ} {before before′ : ℕ} (i : ℕ)
+      → Each (SimNumber m) ls ls′ → before ≡ before′ → i < n
+      → Rel m n SimBody (bodyD ts room ls before (m .by + i)) (bodyD ts′ room ls′ before′ i)
+  unfolding bodyD closes behind
+  bodyS zero i r c h = stopped _ _ (SimE.moved 0 i 0)
+  bodyS (suc room) {before = before} {before′ = before′} i r c h =
       lookS s SimBody i _ _ h (λ kind next near inner.
-      pickS SimBody m n _ _ _ _ _ (λ _. ended next near)
+      testS SimBody m n (closes before kind) (closes before′ kind) _ _ _ _ (ap (λ (b : ℕ). closes b kind) c)
+      (ended next near)
       (pickS SimBody m n _ _ _ _ _
       (λ _. thenNamedS SimBody m n bodyStop bodyStop _ _ (labelledS s r i h) stopped (λ l l′ q at1 g.
-      with-item _ _ (SimItem.label i q) (bodyS room true at1 (each-snoc r q) refl g)))
-      (after-item _ _ (instructionS s i h) (λ j j′ q at1 g.
-      testS SimBody m n closed closed′ _ _ _ _ c (twelfth q)
-      (with-item _ _ q (bodyS room false at1 r (terminator-kept q) g))))))
+      with-item _ _ (SimItem.label i q) (bodyS room at1 (each-snoc r q) refl g)))
+      (after-item _ _ (itemS i h) (λ j j′ q at1 g.
+      testS SimBody m n (eqb before 3) (eqb before′ 3) _ _ _ _ (ap (λ (b : ℕ). eqb b 3) c) (twelfth q)
+      (with-item _ _ q (bodyS room at1 r (ap (λ (b : Bool). pick b 3 2) (terminator-kept q)) g))))))

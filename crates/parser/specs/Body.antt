@@ -1,5 +1,4 @@
--- A function's body (document 01, "Functions, labels, edges"): one list of items in text order, and the blocks that
--- they make.
+-- A function's body (document 01, "Functions, labels, edges"): one list of items in text order.
 use Prim.Native.Nat.{ℕ, zero, suc, _+_}
 use mathlib.Core.List.{List, [], _∷_, _++_}
 use mathlib.Core.Bool.{Bool, true, false}
@@ -74,6 +73,38 @@ isTerminator (plain o) = terminates o
 isTerminator (call w g xs) = false
 isTerminator (callInto w v g xs) = false
 
+-- a call's arguments
+abbrev pub argumentsIn : Item → List Variable
+argumentsIn (label w l) = []
+argumentsIn (plain o) = []
+argumentsIn (call w g xs) = xs
+argumentsIn (callInto w v g xs) = xs
+
+-- One operation from its first token, a call with its arguments. --------------------------------------------------------
+
+pub data ItemAt : Type 0 where
+  item : Item → ℕ → ItemAt
+  refused : Refusal → ItemAt
+
+unfoldable pub thenItem : {A : Type 0} → (Refusal → A) → ItemAt → (Item → ℕ → A) → A
+thenItem fail (item i at) k = k i at
+thenItem fail (refused e) k = fail e
+
+-- a call once its callee and arguments are read
+unfoldable pub calledItem : Calling → (Identifier → List Variable → Item) → ItemAt
+calledItem c make = thenAt refused (c .arguments .end) (λ at. item (make (c .callee) (c .arguments .list)) at)
+
+unfoldable pub parsedItem : List Tok → Parsed → ItemAt
+parsedItem ts (P.Done o at) = item (plain o) at
+parsedItem ts (P.Call w) = calledItem (callD ts w) (λ g xs. call w g xs)
+parsedItem ts (P.CallInto v w) = calledItem (callD ts w) (λ g xs. callInto w v g xs)
+parsedItem ts (P.Refused e) = refused e
+
+unfoldable pub itemD : List Tok → ℕ → ItemAt
+itemD ts at = parsedItem ts (instructionD ts at)
+
+-- The body. -------------------------------------------------------------------------------------------------------------
+
 -- The items that were read, and where the body ended or why it was refused.
 pub record Body : Type 0 where
   pub items : List Item
@@ -88,62 +119,65 @@ bodyStop e = bodyEnd (C.Refused e)
 abbrev pub bodyThen : Item → Body → Body
 bodyThen i r = record { items = i ∷ r .items; end = r .end }
 
--- what follows an operation, or a call and its arguments
-unfoldable pub thenCalling : Calling → (Identifier → List Variable → Item) → (Item → ℕ → Body) → Body
-thenCalling c item k = thenAt bodyStop (c .arguments .end) (λ at. k (item (c .callee) (c .arguments .list)) at)
+-- What stands before: the body's brace, a label, an operation, a terminator.
+abbrev pub afterBrace : ℕ
+afterBrace = 0
 
-unfoldable pub thenItem : List Tok → Parsed → (Item → ℕ → Body) → Body
-thenItem ts (P.Done o at) k = k (plain o) at
-thenItem ts (P.Call w) k = thenCalling (callD ts w) (λ g xs. call w g xs) k
-thenItem ts (P.CallInto v w) k = thenCalling (callD ts w) (λ g xs. callInto w v g xs) k
-thenItem ts (P.Refused e) k = bodyStop e
+abbrev pub afterLabel : ℕ
+afterLabel = 1
+
+abbrev pub afterOperation : ℕ
+afterOperation = 2
+
+abbrev pub afterTerminator : ℕ
+afterTerminator = 3
+
+unfoldable pub behind : Item → ℕ
+behind i = pick (isTerminator i) afterTerminator afterOperation
+
+-- the closing brace ends the body, but not right behind a label: there an operation has to stand
+unfoldable pub closes : ℕ → ℕ → Bool
+closes before kind = pick (eqb before afterLabel) false (eqb kind 28)
 
 -- From after the opening brace: `room` bounds the items, of which a text has fewer than tokens; `labels` are the
--- labels so far; `closed`: the item before is a terminator; `fresh`: it is a label, behind which an operation has to
--- stand. An operation after a terminator in the same block is 12, found once it is parsed.
-unfoldable pub bodyD : List Tok → ℕ → List ℕ → Bool → Bool → ℕ → Body
-bodyD ts zero labels closed fresh at = bodyStop (refusal 0 at 0)
-bodyD ts (suc room) labels closed fresh at =
-    look (tokenAt ts at) (λ k next.
-    pick (pick fresh false (eqb k 28)) (bodyEnd (C.At next))
-    (pick (eqb k 3)
+-- labels so far. An operation after a terminator in the same block is 12, found once it is parsed.
+unfoldable pub bodyD : List Tok → ℕ → List ℕ → ℕ → ℕ → Body
+bodyD ts zero labels before at = bodyStop (refusal 0 at 0)
+bodyD ts (suc room) labels before at =
+    look (tokenAt ts at) (λ kind next.
+    pick (closes before kind) (bodyEnd (C.At next))
+    (pick (eqb kind 3)
     (thenNamed bodyStop (labelledD ts labels at) (λ l at1.
-    bodyThen (label at l) (bodyD ts room (labels ++ (l .0 ∷ [])) false true at1)))
-    (thenItem ts (instructionD ts at) (λ i at1.
-    pick closed (bodyStop (refusal 12 (itemToken i) 0))
-    (bodyThen i (bodyD ts room labels (isTerminator i) false at1))))))
+    bodyThen (label at l) (bodyD ts room (labels ++ (l .0 ∷ [])) afterLabel at1)))
+    (thenItem bodyStop (itemD ts at) (λ i at1.
+    pick (eqb before afterTerminator) (bodyStop (refusal 12 (itemToken i) 0))
+    (bodyThen i (bodyD ts room labels (behind i) at1))))))
 
--- Blocks. -----------------------------------------------------------------------------------------------------------
+-- the labels of a body, in text order
+unfoldable pub labelsOf : List Item → List ℕ
+labelsOf [] = []
+labelsOf (label w l ∷ is) = l .0 ∷ labelsOf is
+labelsOf (plain o ∷ is) = labelsOf is
+labelsOf (call w g xs ∷ is) = labelsOf is
+labelsOf (callInto w v g xs ∷ is) = labelsOf is
 
--- the labels that name it, and its operations
-pub record Block : Type 0 where
-  pub labels : List ℕ
-  pub operations : List Item
+-- A block without terminator: a void function gets a `ret` with its last operation's token (document 01, "Typing"). It
+-- is added where the block is closed, and no refusal can tell the difference: an added `ret` is checked for nothing.
+abbrev pub ret : ℕ → Item
+ret token = plain (O.Ret token)
 
-abbrev pub block : List ℕ → List Item → Block
-block ls os = record { labels = ls; operations = os }
+unfoldable pub lacksRet : Bool → ℕ → Bool
+lacksRet void before = pick void (eqb before afterOperation) false
 
--- a label before the first operation of the text's rest names the first block there; another opens a new block
-abbrev pub withLabel : ℕ → List Block → List Block
-withLabel l [] = block (l ∷ []) [] ∷ []
-withLabel l (b ∷ bs) = block (l ∷ b .labels) (b .operations) ∷ bs
+unfoldable pub closedFrom : Bool → ℕ → ℕ → List Item → List Item
+closedFrom void before last [] = pick (lacksRet void before) (ret last ∷ []) []
+closedFrom void before last (label w l ∷ is) =
+    let more = label w l ∷ closedFrom void afterLabel last is in
+    pick (lacksRet void before) (ret last ∷ more) more
+closedFrom void before last (plain o ∷ is) =
+    plain o ∷ closedFrom void (behind (plain o)) (operationToken o) is
+closedFrom void before last (call w g xs ∷ is) = call w g xs ∷ closedFrom void afterOperation w is
+closedFrom void before last (callInto w v g xs ∷ is) = callInto w v g xs ∷ closedFrom void afterOperation w is
 
-abbrev pub withOperation : Item → List Block → List Block
-withOperation i [] = block [] (i ∷ []) ∷ []
-withOperation i (b ∷ bs) = block (b .labels) (i ∷ b .operations) ∷ bs
-
--- Any later label opens a new block, so two labels in a row there leave an empty block.
-unfoldable pub laterBlocks : List Item → List Block
-laterBlocks [] = block [] [] ∷ []
-laterBlocks (label w l ∷ is) = block [] [] ∷ withLabel (l .0) (laterBlocks is)
-laterBlocks (plain o ∷ is) = withOperation (plain o) (laterBlocks is)
-laterBlocks (call w g xs ∷ is) = withOperation (call w g xs) (laterBlocks is)
-laterBlocks (callInto w v g xs ∷ is) = withOperation (callInto w v g xs) (laterBlocks is)
-
--- A label before the first operation names block 0.
-unfoldable pub blocksOf : List Item → List Block
-blocksOf [] = block [] [] ∷ []
-blocksOf (label w l ∷ is) = withLabel (l .0) (blocksOf is)
-blocksOf (plain o ∷ is) = laterBlocks (plain o ∷ is)
-blocksOf (call w g xs ∷ is) = laterBlocks (call w g xs ∷ is)
-blocksOf (callInto w v g xs ∷ is) = laterBlocks (callInto w v g xs ∷ is)
+abbrev pub closedItems : Bool → List Item → List Item
+closedItems void is = closedFrom void afterBrace 0 is

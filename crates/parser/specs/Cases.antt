@@ -15,9 +15,11 @@ use Rattle.parser.specs.Grammar.{consumeD, namedD, typeD, printD, retD, 
 use Rattle.parser.specs.Grammar.{constD, unaryD, binaryD, isUnary, isBinary, valueD, definitionD, instructionD}
 use Rattle.parser.specs.Runs.{argumentsD, callD}
 use Rattle.parser.specs.Labels.{has, labelledD}
-use Rattle.parser.specs.Body.{Body, Block, thenCalling, thenItem, bodyD, laterBlocks, blocksOf}
-use Rattle.parser.specs.Edges.{Resolved, fine, refused, placeOf, thenPlace, resolveLabels, resolveLast, resolveFrom}
-use Rattle.parser.specs.Edges.{resolveD, places, successorsOf, successors, entering, predecessors, isDead}
+use Rattle.parser.specs.Body.{Body, thenItem, calledItem, parsedItem, itemD, behind, closes, bodyD, lacksRet}
+use Rattle.parser.specs.Body.{closedFrom, closedItems}
+use Rattle.parser.specs.Blocks.{Block, partsOf, blocksFrom, blocksAfter, blocksOf}
+use Rattle.parser.specs.Edges.{Resolved, fine, refused, placeOf, thenPlace, resolveLabels, resolveFrom}
+use Rattle.parser.specs.Edges.{resolveD, places, successors, entering, predecessors, isDead}
 use Rattle.parser.specs.declared.Refusal.{Refusal}
 use Rattle.parser.specs.declared.Consumed.{Consumed}
 use Rattle.parser.specs.declared.Consumed.the-variants as C
@@ -27,8 +29,9 @@ unfoldable pub opened : ℕ
 unfolding
     lexing.opened tokensOf tokenAt look thenAt thenNamed thenType thenDefined
     consumeD namedD typeD printD retD jumpD branchD nopD definedD isConstant constD unaryD binaryD isUnary isBinary
-    valueD definitionD instructionD argumentsD callD has labelledD thenCalling thenItem bodyD laterBlocks blocksOf
-    placeOf thenPlace resolveLabels resolveLast resolveFrom places successorsOf successors entering predecessors isDead
+    valueD definitionD instructionD argumentsD callD has labelledD thenItem calledItem parsedItem itemD behind closes bodyD lacksRet
+    closedFrom partsOf blocksFrom blocksAfter placeOf thenPlace resolveLabels resolveFrom places successors entering
+    predecessors isDead
 opened = 0
 
 -- a block as numbers: its operations, its successors and their count, its predecessors and their count, its dead mark
@@ -40,7 +43,7 @@ abbrev blockNumbers : ℕ → List Block → List (List ℕ) → List (List ℕ)
 blockNumbers j [] own all = []
 blockNumbers j (b ∷ bs) [] all = []
 blockNumbers j (b ∷ bs) (t ∷ ts) all =
-    length (b .operations) ∷ (length t ∷ (t ++ (length (predecessors j 0 all) ∷ (predecessors j 0 all
+    b .operations ∷ (length t ∷ (t ++ (length (predecessors j 0 all) ∷ (predecessors j 0 all
     ++ (bit (isDead j all) ∷ blockNumbers (j + 1) bs ts all)))))
 
 abbrev resolvedNumbers : List Block → Resolved → List ℕ
@@ -48,12 +51,12 @@ resolvedNumbers bs fine = 0 ∷ blockNumbers 0 bs (successors bs bs) (successors
 resolvedNumbers bs (refused e) = e .number ∷ e .token ∷ []
 
 abbrev numbers : Body → Consumed → List ℕ
-numbers r (C.At i) = let bs = blocksOf (r .items) in resolvedNumbers bs (resolveD 0 bs)
+numbers r (C.At i) = let bs = blocksOf (partsOf (closedItems true (r .items))) in resolvedNumbers bs (resolveD 0 bs)
 numbers r (C.Refused e) = e .number ∷ e .token ∷ []
 
 -- the body of `@f {` and this text, from its third token
 body : String → Body
-body s = bodyD (tokensOf (readOf (bytes s) .tokens)) 4096 [] false false 2
+body s = bodyD (tokensOf (readOf (bytes s) .tokens)) 4096 [] 0 2
 
 pub record Case : Type 0 where
   pub text : String
@@ -65,17 +68,17 @@ case s g = record { text = s; gives = g }
 unfoldable cases : List Case
 cases =
     case "@f { }" (22 ∷ 0 ∷ [])
-    ∷ case "@f { nop; }" (0 ∷ 1 ∷ 0 ∷ 0 ∷ 0 ∷ [])
-    ∷ case "@f { .a: .b: nop; }" (0 ∷ 1 ∷ 0 ∷ 0 ∷ 0 ∷ [])
+    ∷ case "@f { nop; }" (0 ∷ 2 ∷ 0 ∷ 0 ∷ 0 ∷ [])
+    ∷ case "@f { .a: .b: nop; }" (0 ∷ 2 ∷ 0 ∷ 0 ∷ 0 ∷ [])
     ∷ case "@f { nop; .a: .b: nop; }" (22 ∷ 0 ∷ [])
     ∷ case "@f { ret; nop; }" (12 ∷ 4 ∷ [])
     ∷ case "@f { .a: br q .a .a; }" (0 ∷ 1 ∷ 2 ∷ 0 ∷ 0 ∷ 2 ∷ 0 ∷ 0 ∷ 0 ∷ [])
     ∷ case "@f { x: int = const 2147483648; }" (10 ∷ 6 ∷ [])
-    ∷ case "@f { nop 2147483648; }" (0 ∷ 1 ∷ 0 ∷ 0 ∷ 0 ∷ [])
+    ∷ case "@f { nop 2147483648; }" (0 ∷ 2 ∷ 0 ∷ 0 ∷ 0 ∷ [])
     -- edges, predecessors and a dead block
     ∷ case "@f { jmp .b; .a: nop; .b: br x .a .b; }"
-    (0 ∷ 1 ∷ 1 ∷ 2 ∷ 0 ∷ 0 ∷ 1 ∷ 0 ∷ 1 ∷ 2 ∷ 0 ∷ 1 ∷ 2 ∷ 1 ∷ 2 ∷ 2 ∷ 0 ∷ 2 ∷ 0 ∷ [])
-    ∷ case "@f { ret; .a: nop; }" (0 ∷ 1 ∷ 0 ∷ 0 ∷ 0 ∷ 1 ∷ 0 ∷ 0 ∷ 1 ∷ [])
+    (0 ∷ 1 ∷ 1 ∷ 2 ∷ 0 ∷ 0 ∷ 2 ∷ 0 ∷ 1 ∷ 2 ∷ 0 ∷ 1 ∷ 2 ∷ 1 ∷ 2 ∷ 2 ∷ 0 ∷ 2 ∷ 0 ∷ [])
+    ∷ case "@f { ret; .a: nop; }" (0 ∷ 1 ∷ 0 ∷ 0 ∷ 0 ∷ 2 ∷ 0 ∷ 0 ∷ 1 ∷ [])
     -- the first label is resolved before the second; an empty block before both; 13 and 12
     ∷ case "@f { br x .a .b; }" (14 ∷ 2 ∷ [])
     ∷ case "@f { jmp .z; .a: .b: nop; }" (14 ∷ 2 ∷ [])

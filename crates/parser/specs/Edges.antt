@@ -5,10 +5,9 @@ use mathlib.Core.List.{List, [], _∷_, _++_}
 use mathlib.Core.Bool.{Bool, true, false}
 use lib.Dec.{eqb}
 use Rattle.utils.specs.Bytes.{pick}
-use Rattle.pieces.specs.declared.Identifier.{Identifier}
 use Rattle.parser.specs.Step.{refusal}
 use Rattle.parser.specs.Labels.{has}
-use Rattle.parser.specs.Body.{Item, label, plain, call, callInto, operationToken, targets, Block}
+use Rattle.parser.specs.Blocks.{Block}
 use Rattle.parser.specs.declared.Refusal.{Refusal}
 
 -- The block that a label names, counted from k, or none.
@@ -31,47 +30,34 @@ pub data Resolved : Type 0 where
   fine : Resolved
   refused : Refusal → Resolved
 
-abbrev pub missing : ℕ → Identifier → Refusal
-missing token l = record { number = 14; token = token; wanted = 0; name = l }
+abbrev pub missing : ℕ → ℕ → Refusal
+missing token l = record { number = 14; token = token; wanted = 0; found = 0; name = record { 0 = l } }
 
-unfoldable pub resolveLabels : List Block → ℕ → List Identifier → Resolved → Resolved
+unfoldable pub resolveLabels : List Block → ℕ → List ℕ → Resolved → Resolved
 resolveLabels all token [] rest = rest
 resolveLabels all token (l ∷ ls) rest =
     let more = resolveLabels all token ls rest in
-    thenPlace (placeOf all (l .0) 0) (λ k. more) (refused (missing token l))
-
--- by a block's last operation
-unfoldable pub resolveLast : List Block → ℕ → List Item → Resolved → Resolved
-resolveLast all name [] rest = refused (refusal 22 name 0)
-resolveLast all name (plain o ∷ []) rest = resolveLabels all (operationToken o) (targets o) rest
-resolveLast all name (label w l ∷ []) rest = rest
-resolveLast all name (call w g xs ∷ []) rest = rest
-resolveLast all name (callInto w v g xs ∷ []) rest = rest
-resolveLast all name (i ∷ j ∷ is) rest = resolveLast all name (j ∷ is) rest
+    thenPlace (placeOf all l 0) (λ k. more) (refused (missing token l))
 
 unfoldable pub resolveFrom : List Block → ℕ → List Block → Resolved
 resolveFrom all name [] = fine
-resolveFrom all name (b ∷ bs) = let rest = resolveFrom all name bs in resolveLast all name (b .operations) rest
+resolveFrom all name (b ∷ bs) =
+    let rest = resolveFrom all name bs in
+    pick (eqb (b .operations) 0) (refused (refusal 22 name 0)) (resolveLabels all (b .token) (b .goes) rest)
 
+-- Blocks are taken in order.
 abbrev pub resolveD : ℕ → List Block → Resolved
 resolveD name all = resolveFrom all name all
 
--- Edges go from each block to exactly its labels' blocks, in that order.
-unfoldable pub places : List Block → List Identifier → List ℕ
+-- Edges go from each block to exactly its labels' blocks, in that order: two for `br`, equal or not, one for `jmp`,
+-- none otherwise.
+unfoldable pub places : List Block → List ℕ → List ℕ
 places all [] = []
-places all (l ∷ ls) = let more = places all ls in thenPlace (placeOf all (l .0) 0) (λ k. k ∷ more) more
-
-unfoldable pub successorsOf : List Block → List Item → List ℕ
-successorsOf all [] = []
-successorsOf all (plain o ∷ []) = places all (targets o)
-successorsOf all (label w l ∷ []) = []
-successorsOf all (call w g xs ∷ []) = []
-successorsOf all (callInto w v g xs ∷ []) = []
-successorsOf all (i ∷ j ∷ is) = successorsOf all (j ∷ is)
+places all (l ∷ ls) = let more = places all ls in thenPlace (placeOf all l 0) (λ k. k ∷ more) more
 
 unfoldable pub successors : List Block → List Block → List (List ℕ)
 successors all [] = []
-successors all (b ∷ bs) = successorsOf all (b .operations) ∷ successors all bs
+successors all (b ∷ bs) = places all (b .goes) ∷ successors all bs
 
 -- Predecessors are listed in order of the edges: the sources, from k on, of the edges that enter block j.
 unfoldable pub entering : ℕ → ℕ → List ℕ → List ℕ → List ℕ

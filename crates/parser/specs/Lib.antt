@@ -7,8 +7,10 @@ pub mod Grammar
 pub mod Runs
 -- a label in a body
 pub mod Labels
--- a function's body: items, and the blocks that they make
+-- a function's body: its items
 pub mod Body
+-- the blocks that they make
+pub mod Blocks
 -- the blocks in order: empty ones, labels resolved, edges, dead marks
 pub mod Edges
 -- bodies with what they give: one table, one claim

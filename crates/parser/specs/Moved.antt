@@ -13,7 +13,7 @@ use Rattle.lexer.specs.declared.TokenAt.{TokenAt}
 use Rattle.pieces.specs.declared.Identifier.{Identifier}
 use Rattle.parser.specs.Step.{refusal}
 use Rattle.parser.specs.Runs.{Variables, stopped, Calling, calling}
-use Rattle.parser.specs.Body.{Item, Body}
+use Rattle.parser.specs.Body.{Item, ItemAt, Body}
 use Rattle.parser.specs.declared.Refusal.{Refusal}
 use Rattle.parser.specs.declared.Ty.{Ty}
 use Rattle.parser.specs.declared.Variable.{Variable}
@@ -138,6 +138,10 @@ pub data SimItem (m : Move) : Item → Item → Type 0 where
   callInto : (w : ℕ) {v v′ : Variable} {g g′ : Identifier} {xs xs′ : List Variable}
       → SimV m v v′ → SimName m g g′ → Each (SimV m) xs xs′
       → SimItem m (Item.callInto (m .by + w) v g xs) (Item.callInto w v′ g′ xs′)
+
+pub data SimItemAt (m : Move) (l : ℕ) : ItemAt → ItemAt → Type 0 where
+  item : {i i′ : Item} → SimItem m i i′ → (at : ℕ) → at < l → SimItemAt m l (ItemAt.item i (m .by + at)) (ItemAt.item i′ at)
+  refused : (e e′ : Refusal) → SimE m e e′ → SimItemAt m l (ItemAt.refused e) (ItemAt.refused e′)
 
 -- where the closing brace, which may be the last token, was asked for
 pub data SimClose (m : Move) (l : ℕ) : Consumed → Consumed → Type 0 where

@@ -17,7 +17,7 @@ use Rattle.parser.specs.declared.Defined.{Defined}
 use Rattle.parser.specs.declared.Defined.the-variants as D
 
 abbrev pub refusal : ℕ → ℕ → ℕ → Refusal
-refusal number token wanted = record { number = number; token = token; wanted = wanted; name = record { 0 = 0 } }
+refusal number token wanted = record { number = number; token = token; wanted = wanted; found = 0; name = record { 0 = 0 } }
 
 -- a look at a token: its kind, and the index after it
 unfoldable pub look : {A : Type 0} → TokenAt → (ℕ → ℕ → A) → A

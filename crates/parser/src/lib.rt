@@ -12,11 +12,13 @@ ghost use Rattle.parser.specs.Grammar.{consumeD, namedD, typeD, definiti
 use pieces::Identifier;
 
 // Why the parser refuses: document 01's number, the token that the Rust reports with, and what the message needs:
-// the kind that was wanted (5), or the name that is missing (14).
+// the kind (5), type (15, 17) or count (20) that was wanted, the type or count that was found, or the name that it spells
+// (14 to 16).
 pub struct Refusal {
     pub number: u32,
     pub token: usize,
     pub wanted: u32,
+    pub found: u32,
     pub name: Identifier,
 }
 
@@ -91,13 +93,15 @@ pub enum Parsed {
     Refused(Refusal),
 }
 
-fn refuse(number: u32, token: usize) -> Refusal
+// A refusal whose message needs no more than its token.
+pub fn refuse(number: u32, token: usize) -> Refusal
     ensures { λ r. ⌜ r ≡ refusal number token 0 ⌝ }
 {
     Refusal {
         number,
         token,
         wanted: 0,
+        found: 0,
         name: Identifier(0),
     }
 }
@@ -114,6 +118,7 @@ pub fn consume(tokens: &[u32], at: usize, kind: u32) -> Consumed
         number: 5,
         token: at,
         wanted: kind,
+        found: 0,
         name: Identifier(0),
     })
 }

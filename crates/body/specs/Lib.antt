@@ -1,0 +1,7 @@
+-- What stands in the cells, in reading order.
+-- an item's record, and the argument's run
+pub mod Records
+-- how many items, arguments and blocks so many tokens make
+pub mod Room
+-- the whole body
+pub mod Answer

@@ -1,0 +1,87 @@
+-- Items as records of eight cells (docs/INTERFACE.md): the kind, the token, the result and its type, the left operand
+-- and its type, the right operand and its type. A call has its callee on the left, and on the right where its arguments
+-- begin and how many they are; `br` has its condition on the left, and on the right its two labels; `jmp` and a label
+-- have their label on the right. Cells that a kind has no use for are 0, and so is a type until typing writes it.
+use Prim.Native.Nat.{ℕ, zero, suc, _+_, _*_}
+use mathlib.Core.List.{List, [], _∷_, _++_}
+use mathlib.Core.Bool.{Bool}
+use lib.Dec.{eqb}
+use lib.ListN.{length, getD}
+use Rattle.utils.specs.Bytes.{pick}
+use Rattle.pieces.specs.declared.Identifier.{Identifier}
+use Rattle.parser.specs.Runs.{typeCell, variablesCells}
+use Rattle.parser.specs.Body.{Item, label, plain, call, callInto, argumentsIn}
+use Rattle.parser.specs.Blocks.{Part, name, operation}
+use Rattle.parser.specs.declared.Variable.{Variable}
+use Rattle.parser.specs.declared.Operation.{Operation}
+use Rattle.parser.specs.declared.Operation.the-variants as O
+use Rattle.body.specs.declared.ItemRecord.{ItemRecord}
+
+abbrev pub itemRecord : ℕ → ℕ → ℕ → ℕ → ℕ → ℕ → ℕ → ℕ → ItemRecord
+itemRecord k w d dt l lt r rt =
+    record { kind = k; token = w; dest = d; dty = dt; left = l; lty = lt; right = r; rty = rt }
+
+-- The kinds: 1 a label, 2 binary, 3 unary, 4 `const`, 5 a call, 6 a call with a result, 7 `print`, 8 `nop`, and those
+-- that end a block: 9 `jmp`, 10 `br`, 11 `ret`, 12 `ret` with a value.
+unfoldable pub operationRecord : Operation → ItemRecord
+operationRecord (O.BinaryOp w v x y) = itemRecord 2 w (v .id .0) (typeCell (v .ty)) (x .0) 0 (y .0) 0
+operationRecord (O.UnaryOp w v x) = itemRecord 3 w (v .id .0) (typeCell (v .ty)) (x .0) 0 0 0
+operationRecord (O.Const w v) = itemRecord 4 w (v .id .0) (typeCell (v .ty)) 0 0 0 0
+operationRecord (O.Print w x) = itemRecord 7 w 0 0 (x .0) 0 0 0
+operationRecord (O.Nop w) = itemRecord 8 w 0 0 0 0 0 0
+operationRecord (O.Jump w l) = itemRecord 9 w 0 0 0 0 (l .0) 0
+operationRecord (O.Branch w x l m) = itemRecord 10 w 0 0 (x .0) 0 (l .0) (m .0)
+operationRecord (O.Ret w) = itemRecord 11 w 0 0 0 0 0 0
+operationRecord (O.RetValue w x) = itemRecord 12 w 0 0 (x .0) 0 0 0
+
+-- an item whose arguments, if it has any, begin at `used`
+unfoldable pub recordOf : ℕ → Item → ItemRecord
+recordOf used (label w l) = itemRecord 1 w 0 0 0 0 (l .0) 0
+recordOf used (plain o) = operationRecord o
+recordOf used (call w g xs) = itemRecord 5 w 0 0 (g .0) 0 used (length xs)
+recordOf used (callInto w v g xs) = itemRecord 6 w (v .id .0) (typeCell (v .ty)) (g .0) 0 used (length xs)
+
+abbrev pub recordCells : ItemRecord → List ℕ
+recordCells r =
+    r .kind ∷ r .token ∷ r .dest ∷ r .dty ∷ r .left ∷ r .lty ∷ r .right ∷ r .rty ∷ []
+
+-- the cells of items whose arguments begin at `used`, and those of the arguments
+unfoldable pub itemsCells : ℕ → List Item → List ℕ
+itemsCells used [] = []
+itemsCells used (i ∷ is) = recordCells (recordOf used i) ++ itemsCells (used + length (argumentsIn i)) is
+
+unfoldable pub argumentsCells : List Item → List ℕ
+argumentsCells [] = []
+argumentsCells (i ∷ is) = variablesCells (argumentsIn i) ++ argumentsCells is
+
+-- how many arguments there are
+unfoldable pub argumentsCount : List Item → ℕ
+argumentsCount [] = 0
+argumentsCount (i ∷ is) = length (argumentsIn i) + argumentsCount is
+
+-- What cells hold. --------------------------------------------------------------------------------------------------
+
+-- the record at an index
+abbrev pub recordAt : List ℕ → ℕ → ItemRecord
+recordAt cells i =
+    itemRecord
+    (getD cells (i * 8) 0)
+    (getD cells (i * 8 + 1) 0)
+    (getD cells (i * 8 + 2) 0)
+    (getD cells (i * 8 + 3) 0)
+    (getD cells (i * 8 + 4) 0)
+    (getD cells (i * 8 + 5) 0)
+    (getD cells (i * 8 + 6) 0)
+    (getD cells (i * 8 + 7) 0)
+
+-- what blocks and edges need of a record: a label's name, or an operation's token and the labels that it goes to
+unfoldable pub goesOf : ItemRecord → List ℕ
+goesOf r = pick (eqb (r .kind) 9) (r .right ∷ []) (pick (eqb (r .kind) 10) (r .right ∷ r .rty ∷ []) [])
+
+unfoldable pub recordPart : ItemRecord → Part
+recordPart r = pick (eqb (r .kind) 1) (name (r .right)) (operation (r .token) (goesOf r))
+
+-- the parts of `count` records from the index `first` on
+unfoldable pub partsAt : List ℕ → ℕ → ℕ → List Part
+partsAt cells first zero = []
+partsAt cells first (suc count) = recordPart (recordAt cells first) ∷ partsAt cells (first + 1) count
