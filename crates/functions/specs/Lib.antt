@@ -1,0 +1,11 @@
+-- The functions of a text, in reading order.
+-- the functions so far: names, function types and their numbers
+pub mod Known
+-- a header, a function, all functions
+pub mod Functions
+-- what the cells hold
+pub mod Rows
+-- a header's answer
+pub mod Heads
+-- the whole answer
+pub mod Answer

@@ -1,0 +1,137 @@
+// A function's header, up to its opening brace.
+ghost use mathlib.Core.Path.{_≡_};
+ghost use mathlib.Core.List.{_∷_};
+ghost use Prim.Native.Nat.{ℕ, _+_, _≤_, _<_};
+ghost use lib.Dec.{leb};
+ghost use lib.ListN.{length};
+ghost use lib.Seq.{sets};
+ghost use Rattle.lexer.specs.Decoded.{tokensOf};
+ghost use Rattle.parser.specs.Runs.{runOf, variablesCells};
+ghost use Rattle.functions.specs.Functions.{optionalFormals, optionalType, enteredD, signatureD, headerD};
+ghost use Rattle.functions.specs.Rows.{knownFrom, formalsAt, typesAt};
+ghost use Rattle.functions.specs.Heads.{headerRead, HeaderHeld};
+use crate::Entered;
+use crate::Head;
+use crate::HeaderRead;
+use crate::known;
+use parser::Consumed;
+use parser::Named;
+use parser::Refusal;
+use parser::Run;
+use parser::Ty;
+use parser::TypeRead;
+use pieces::Identifier;
+
+// Formals in parentheses, or none.
+fn parse_optional_formals(tokens: &[u32], at: usize, rows: &mut [u32], used: usize) -> Run
+    requires { ⌜ used + 32 ≤ length (now rows) ⌝ }
+    ensures { λ r. ⌜ r ≡ runOf (optionalFormals (tokensOf (now (tokens .entry))) at) ⌝ }
+    ensures { λ _. ⌜ now (rows .exit) ≡ sets (now (rows .entry)) used
+        (variablesCells (optionalFormals (tokensOf (now (tokens .entry))) at .list)) ⌝ }
+{
+    let t = lexer::token_at(tokens, at);
+    if t.kind == 25 {
+        return parser::runs::parse_formals(tokens, t.next, rows, used);
+    }
+    Run::Done(0, at)
+}
+
+// A colon and a type, or void.
+fn parse_optional_type(tokens: &[u32], at: usize) -> TypeRead
+    ensures { λ r. ⌜ r ≡ optionalType (tokensOf (now (tokens .entry))) at ⌝ }
+{
+    let t = lexer::token_at(tokens, at);
+    if t.kind == 29 {
+        return parser::parse_type(tokens, t.next);
+    }
+    TypeRead::At(Ty::Void, at)
+}
+
+// The name is entered after the type and before `{`: SymbolTable::insert of ir.rs. Its formals stand in row n.
+fn enter(
+    tokens: &[u32],
+    rows: &[u32],
+    n: usize,
+    types: u32,
+    token: usize,
+    name: Identifier,
+    formals: usize,
+    ret: u32,
+    at: usize,
+) -> Entered
+    requires { ⌜ (n < 64) × (formals ≤ 16) × (2881 ≤ length (now rows)) ⌝ }
+    ensures { λ r. ⌜ r ≡ enteredD (tokensOf (now (tokens .entry))) (knownFrom (now (rows .entry)) 0 n) types token name
+        (ret ∷ formals ∷ typesAt (now (rows .entry)) (formalsAt n) formals) at ⌝ }
+{
+    let ty = known::type_number(rows, n, ret, formals, types);
+    let expected = known::expected_type(rows, n, name.0, ty);
+    if expected != ty {
+        return Entered::Refused(Refusal {
+            number: 15,
+            token,
+            wanted: 4,
+            found: 4,
+            name,
+        });
+    }
+    match parser::consume(tokens, at, 27) {
+        Consumed::Refused(e) => Entered::Refused(e),
+        Consumed::At(next) => Entered::At(ty, next),
+    }
+}
+
+// What stands behind the name.
+fn parse_signature(
+    tokens: &[u32],
+    token: usize,
+    name: Identifier,
+    at: usize,
+    n: usize,
+    types: u32,
+    rows: &mut [u32],
+) -> HeaderRead
+    requires { ⌜ (n < 64) × (2881 ≤ length (now rows)) ⌝ }
+    ensures { λ r. ⌜ r ≡ headerRead (signatureD (tokensOf (now (tokens .entry))) (knownFrom (now (rows .entry)) 0 n) types
+        token name at) ⌝ }
+    ensures { λ _. ⌜ HeaderHeld n (now (rows .entry)) (now (rows .exit))
+        (signatureD (tokensOf (now (tokens .entry))) (knownFrom (now (rows .entry)) 0 n) types token name at) ⌝ }
+{
+    match parse_optional_formals(tokens, at, rows, 14 + n * 45) {
+        Run::Refused(e) => HeaderRead::Refused(e),
+        Run::Done(formals, at1) => match parse_optional_type(tokens, at1) {
+            TypeRead::Refused(e) => HeaderRead::Refused(e),
+            TypeRead::At(result, at2) => {
+                let ret = parser::runs::type_cell(result);
+                match enter(tokens, rows, n, types, token, name, formals, ret, at2) {
+                    Entered::Refused(e) => HeaderRead::Refused(e),
+                    Entered::At(ty, next) => HeaderRead::At(Head {
+                        name,
+                        formals,
+                        ret,
+                        ty,
+                        next,
+                    }),
+                }
+            }
+        },
+    }
+}
+
+// 35 comes once the name is read.
+pub fn parse_header(tokens: &[u32], at: usize, n: usize, types: u32, rows: &mut [u32]) -> HeaderRead
+    requires { ⌜ (n ≤ 64) × (2881 ≤ length (now rows)) ⌝ }
+    ensures { λ r. ⌜ r ≡ headerRead (headerD (tokensOf (now (tokens .entry))) (leb 64 n)
+        (knownFrom (now (rows .entry)) 0 n) types at) ⌝ }
+    ensures { λ _. ⌜ HeaderHeld n (now (rows .entry)) (now (rows .exit))
+        (headerD (tokensOf (now (tokens .entry))) (leb 64 n) (knownFrom (now (rows .entry)) 0 n) types at) ⌝ }
+{
+    match parser::consume_named(tokens, at, 2, 7) {
+        Named::Refused(e) => HeaderRead::Refused(e),
+        Named::At(name, at1) => {
+            if 64 <= n {
+                return HeaderRead::Refused(parser::refuse(35, at));
+            }
+            parse_signature(tokens, at, name, at1, n, types, rows)
+        }
+    }
+}

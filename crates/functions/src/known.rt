@@ -1,0 +1,74 @@
+// The functions so far: the Rust's Unit::globals and Unit::function_types, looked up in the rows of the header table.
+ghost use mathlib.Core.Path.{_≡_};
+ghost use mathlib.Core.List.{_∷_};
+ghost use Prim.Native.Nat.{ℕ, _≤_, _<_};
+ghost use lib.ListN.{length};
+ghost use Rattle.utils.specs.Bytes.{sameBytes};
+ghost use Rattle.functions.specs.Known.{typeNumber, expectedType};
+ghost use Rattle.functions.specs.Rows.{formalsAt, typesAt, signedAt, knownFrom};
+
+// Whether the first `count` formals of rows a and b have the same types.
+fn same_formals(rows: &[u32], a: usize, b: usize, count: usize) -> bool
+    requires { ⌜ (a < 64) × (b < 64) × (count ≤ 16) × (2881 ≤ length (now rows)) ⌝ }
+    ensures { λ r. ⌜ r ≡ sameBytes (typesAt (now (rows .entry)) (formalsAt a) count)
+        (typesAt (now (rows .entry)) (formalsAt b) count) ⌝ }
+{
+    let mut k: usize = 0;
+    let mut i = 14 + a * 45;
+    let mut j = 14 + b * 45;
+    while k < count {
+        if rows[i + 1] != rows[j + 1] {
+            return false;
+        }
+        i += 2;
+        j += 2;
+        k += 1;
+    }
+    true
+}
+
+// Whether row a has the function type of a function with this result and `count` formals, which stand in row b.
+fn same_type(rows: &[u32], a: usize, ret: u32, count: usize, b: usize) -> bool
+    requires { ⌜ (a < 64) × (b < 64) × (count ≤ 16) × (2881 ≤ length (now rows)) ⌝ }
+    ensures { λ r. ⌜ r ≡ sameBytes (signedAt (now (rows .entry)) a)
+        (ret ∷ count ∷ typesAt (now (rows .entry)) (formalsAt b) count) ⌝ }
+{
+    if rows[7 + a * 45] != ret {
+        return false;
+    }
+    if rows[13 + a * 45] != count as u32 {
+        return false;
+    }
+    same_formals(rows, a, b, count)
+}
+
+// The number of the function type of row n, whose result and formals are read: Unit::add_function_type.
+pub fn type_number(rows: &[u32], n: usize, ret: u32, count: usize, types: u32) -> u32
+    requires { ⌜ (n < 64) × (count ≤ 16) × (2881 ≤ length (now rows)) ⌝ }
+    ensures { λ r. ⌜ r ≡ typeNumber (knownFrom (now (rows .entry)) 0 n)
+        (ret ∷ count ∷ typesAt (now (rows .entry)) (formalsAt n) count) types ⌝ }
+{
+    let mut i: usize = 0;
+    while i < n {
+        if same_type(rows, i, ret, count, n) {
+            return rows[8 + i * 45];
+        }
+        i += 1;
+    }
+    types
+}
+
+// The type that this name has among the first n functions, or the given one.
+pub fn expected_type(rows: &[u32], n: usize, name: u32, ty: u32) -> u32
+    requires { ⌜ (n ≤ 64) × (2881 ≤ length (now rows)) ⌝ }
+    ensures { λ r. ⌜ r ≡ expectedType (knownFrom (now (rows .entry)) 0 n) name ty ⌝ }
+{
+    let mut i: usize = 0;
+    while i < n {
+        if rows[2 + i * 45] == name {
+            return rows[8 + i * 45];
+        }
+        i += 1;
+    }
+    ty
+}

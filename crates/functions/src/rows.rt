@@ -1,0 +1,73 @@
+// A function's row in the header table: 45 cells, of which the formals are stored as they are read.
+ghost use mathlib.Core.Path.{_≡_};
+ghost use mathlib.Core.List.{[], _∷_};
+ghost use Prim.Native.Nat.{ℕ, _+_, _*_, _-_, _≤_, _<_};
+ghost use lib.ListN.{length, getD};
+ghost use lib.Seq.{sets};
+ghost use Rattle.lexer.specs.Decoded.{tokensOf, tokenAt};
+ghost use Rattle.functions.specs.Rows.{rowAt, retAt};
+use pieces::Identifier;
+
+// A name's length, by its record.
+fn name_length(names: &[u32], name: Identifier) -> u32
+    ensures { λ r. ⌜ r ≡ getD (now (names .entry)) (name .0 * 2 + 1) 0 ⌝ }
+{
+    let at = name.0 as usize * 2 + 1;
+    if at < names.len() {
+        return names[at];
+    }
+    0
+}
+
+// The name's token, the name, the closing token, and the name's place, length and line.
+pub fn put_name(
+    rows: &mut [u32],
+    i: usize,
+    tokens: &[u32],
+    names: &[u32],
+    token: usize,
+    name: Identifier,
+    close: usize,
+)
+    requires { ⌜ (i < 64) × (token ≤ 4095) × (close ≤ 4095) × (2881 ≤ length (now rows)) ⌝ }
+    ensures { λ _. ⌜ now (rows .exit) ≡ sets (now (rows .entry)) (rowAt i)
+        (token ∷ name .0 ∷ close ∷ tokenAt (tokensOf (now (tokens .entry))) token .place
+        ∷ getD (now (names .entry)) (name .0 * 2 + 1) 0 ∷ tokenAt (tokensOf (now (tokens .entry))) token .line .0 ∷ []) ⌝ }
+{
+    let t = lexer::token_at(tokens, token);
+    let len = name_length(names, name);
+    let at = 1 + i * 45;
+    rows[at] = token as u32;
+    rows[at + 1] = name.0;
+    rows[at + 2] = close as u32;
+    rows[at + 3] = t.place;
+    rows[at + 4] = len;
+    rows[at + 5] = t.line.0;
+}
+
+// The result type, the function type's number, where items and blocks begin and how many they are, how many formals.
+pub fn put_counts(
+    rows: &mut [u32],
+    i: usize,
+    ret: u32,
+    ty: u32,
+    first: usize,
+    items: usize,
+    base: usize,
+    blocks: usize,
+    formals: usize,
+)
+    requires { ⌜ (i < 64) × (first ≤ 4096) × (items ≤ 4096) × (base ≤ 4096) × (blocks ≤ 4096) × (formals ≤ 16)
+        × (2881 ≤ length (now rows)) ⌝ }
+    ensures { λ _. ⌜ now (rows .exit) ≡ sets (now (rows .entry)) (retAt i)
+        (ret ∷ ty ∷ first ∷ items ∷ base ∷ blocks ∷ formals ∷ []) ⌝ }
+{
+    let at = 7 + i * 45;
+    rows[at] = ret;
+    rows[at + 1] = ty;
+    rows[at + 2] = first as u32;
+    rows[at + 3] = items as u32;
+    rows[at + 4] = base as u32;
+    rows[at + 5] = blocks as u32;
+    rows[at + 6] = formals as u32;
+}
