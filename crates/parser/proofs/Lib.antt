@@ -1,4 +1,5 @@
 pub mod Going
 pub mod Sim
+pub mod SimBlocks
 pub mod SimBody
 pub mod Turning
