@@ -1,3 +1,4 @@
+pub mod BodyLaws
 pub mod Going
 pub mod Sim
 pub mod SimBlocks
