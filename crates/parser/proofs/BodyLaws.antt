@@ -1,26 +1,25 @@
 -- Laws of a body's items, for those who use the definition: what stands behind what.
-use Prim.Native.Nat.{ℕ, zero, suc, _+_}
-use mathlib.Core.Path.{_≡_, refl, sym, ap, _∙_}
+use Prim.Native.Nat.{ℕ, zero, suc}
+use mathlib.Core.Path.{_≡_, refl, sym}
 use mathlib.Core.List.{List, [], _∷_, _++_}
 use mathlib.Core.Bool.{Bool, true, false}
 use native.Mathlib.Omega.{arith}
-use borrow.Author.Tests.{eqb-true, eqb-false}
+use borrow.Author.Tests.{eqb-false}
 use lib.Dec.{eqb}
 use Rattle.utils.specs.Bytes.{pick}
 use Rattle.lexer.specs.Decoded.{Tok, tokenAt}
 use Rattle.lexer.specs.declared.TokenAt.{TokenAt}
 use Rattle.pieces.specs.declared.Identifier.{Identifier}
-use Rattle.parser.specs.Step.{refusal, look, thenAt, thenNamed}
+use Rattle.parser.specs.Step.{look, thenAt, thenNamed}
 use Rattle.parser.specs.Grammar.{instructionD}
-use Rattle.parser.specs.Runs.{Calling, callD}
+use Rattle.parser.specs.Runs.{callD}
 use Rattle.parser.specs.Labels.{labelledD}
-use Rattle.parser.specs.Body.{Item, label, plain, call, callInto, ItemAt, Body, itemToken, isTerminator, terminates}
-use Rattle.parser.specs.Body.{afterBrace, afterLabel, afterOperation, afterTerminator, behind, closes, bodyEnd}
+use Rattle.parser.specs.Body.{Item, label, plain, call, callInto, ItemAt, Body}
+use Rattle.parser.specs.Body.{afterLabel, afterOperation, afterTerminator, behind, closes, bodyEnd}
 use Rattle.parser.specs.Body.{bodyStop, bodyThen, thenItem, calledItem, parsedItem, itemD, bodyD, labelsOf, ret}
-use Rattle.parser.specs.Body.{lacksRet, closedFrom, closedItems}
+use Rattle.parser.specs.Body.{lacksRet, closedFrom}
 use Rattle.parser.specs.Blocks.{partsOf, namesIn}
 use Rattle.parser.specs.declared.Refusal.{Refusal}
-use Rattle.parser.specs.declared.Variable.{Variable}
 use Rattle.parser.specs.declared.Consumed.{Consumed}
 use Rattle.parser.specs.declared.Consumed.the-variants as C
 use Rattle.parser.specs.declared.Named.{Named}
@@ -41,6 +40,9 @@ after (label w l) = afterLabel
 after (plain o) = behind (plain o)
 after (call w g xs) = afterOperation
 after (callInto w v g xs) = afterOperation
+
+never : true ≡ false → ⊥
+never e = let z : _≡_ {A = ℕ} 0 1 = cc in omega arith
 
 -- Behind a terminator comes a label, or nothing.
 unfoldable pub TerminatorsLast : ℕ → List Item → Type 0
@@ -75,7 +77,7 @@ module _ (Q : Body → Type 0) where
   named (N.At l at) k f g = g l at
   named (N.Refused e) k f g = f e
 
-  -- an item that was read is no label
+  -- with how it was read
   item-of : (r : ItemAt) (k : Item → ℕ → Body) → ((e : Refusal) → Q (bodyStop e))
       → ((i : Item) (at : ℕ) → r ≡ ItemAt.item i at → Q (k i at)) → Q (thenItem bodyStop r k)
   unfolding thenItem
@@ -119,12 +121,12 @@ stopped before e next h = absurd (let z : _≡_ {A = ℕ} 0 1 = cc in omega arit
 closed : (before kind next : ℕ) → closes before kind ≡ true → Ordered before (bodyEnd (C.At next))
 unfolding closes pick TerminatorsLast LabelsFollowed
 closed before kind next q after h =
-    (tt, λ e. let f : closes afterLabel kind ≡ true = rw e at q in let z : _≡_ {A = ℕ} 0 1 = cc in omega arith)
+    (tt, λ e. let f : closes afterLabel kind ≡ true = rw e at q in never (sym f))
 
 with-label : (before w : ℕ) (l : Identifier) (r : Body) → Ordered afterLabel r → Ordered before (bodyThen (label w l) r)
 unfolding TerminatorsLast LabelsFollowed
 with-label before w l r q next h =
-    ((λ e. absurd (let z : _≡_ {A = ℕ} 0 1 = cc in omega arith), q next h .0), q next h .1)
+    ((λ e. absurd (never e), q next h .0), q next h .1)
 
 with-item : (before : ℕ) (i : Item) (r : Body) → Operates i → (before ≡ afterTerminator → ⊥) → Ordered (behind i) r
     → Ordered before (bodyThen i r)
@@ -180,7 +182,7 @@ closed-terminator-last void before last [] t =
 closed-terminator-last void before last (label w l ∷ is) t =
     let more = closed-terminator-last void afterLabel last is (t .1) in
     added (TerminatorsLast before) (lacksRet void before) last (label w l ∷ closedFrom void afterLabel last is)
-    (λ q. ((λ _ e. omega (arith, lacks-behind void before q, e)), (λ e. absurd (let z : _≡_ {A = ℕ} 0 1 = cc in omega arith), more)))
+    (λ q. ((λ _ e. omega (arith, lacks-behind void before q, e)), (λ e. absurd (never e), more)))
     (λ _. (t .0, more))
 closed-terminator-last void before last (plain o ∷ is) t = (t .0, closed-terminator-last void _ _ is (t .1))
 closed-terminator-last void before last (call w g xs ∷ is) t = (t .0, closed-terminator-last void _ _ is (t .1))
@@ -210,19 +212,19 @@ pub closed-ends : (before last : ℕ) (is : List Item) → BlocksEnded before (c
 unfolding closedFrom BlocksEnded behind pick
 closed-ends before last [] =
     added (BlocksEnded before) (lacksRet true before) last []
-    (λ _. ((λ e. absurd (let z : _≡_ {A = ℕ} 0 1 = cc in omega arith)), λ e. omega (arith, e)))
+    (λ _. ((λ e. absurd (never (sym e))), λ e. omega (arith, e)))
     (lacks-none before)
 closed-ends before last (label w l ∷ is) =
     let more = closed-ends afterLabel last is in
     added (BlocksEnded before) (lacksRet true before) last (label w l ∷ closedFrom true afterLabel last is)
-    (λ _. ((λ e. absurd (let z : _≡_ {A = ℕ} 0 1 = cc in omega arith)), ((λ _ e. omega (arith, e)), more)))
+    (λ _. ((λ e. absurd (never (sym e))), ((λ _ e. omega (arith, e)), more)))
     (λ q. ((λ _. lacks-none before q), more))
 closed-ends before last (plain o ∷ is) =
-    ((λ e. absurd (let z : _≡_ {A = ℕ} 0 1 = cc in omega arith)), closed-ends _ _ is)
+    ((λ e. absurd (never (sym e))), closed-ends _ _ is)
 closed-ends before last (call w g xs ∷ is) =
-    ((λ e. absurd (let z : _≡_ {A = ℕ} 0 1 = cc in omega arith)), closed-ends _ _ is)
+    ((λ e. absurd (never (sym e))), closed-ends _ _ is)
 closed-ends before last (callInto w v g xs ∷ is) =
-    ((λ e. absurd (let z : _≡_ {A = ℕ} 0 1 = cc in omega arith)), closed-ends _ _ is)
+    ((λ e. absurd (never (sym e))), closed-ends _ _ is)
 
 -- The labels among the parts of closed items are the body's labels.
 pub names-closed : (void : Bool) (before last : ℕ) (is : List Item)
@@ -232,7 +234,7 @@ names-closed void before last [] =
     added (λ (js : List Item). namesIn (partsOf js) ≡ []) (lacksRet void before) last [] (λ _. refl) (λ _. refl)
 names-closed void before last (label w l ∷ is) =
     let more : namesIn (partsOf (label w l ∷ closedFrom void afterLabel last is)) ≡ l .0 ∷ labelsOf is =
-      rw (names-closed void afterLabel last is) in
+    rw (names-closed void afterLabel last is) in
     added (λ (js : List Item). namesIn (partsOf js) ≡ l .0 ∷ labelsOf is) (lacksRet void before) last
     (label w l ∷ closedFrom void afterLabel last is) (λ _. more) (λ _. more)
 names-closed void before last (plain o ∷ is) = names-closed void _ _ is

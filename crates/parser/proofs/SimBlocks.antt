@@ -1,7 +1,7 @@
 -- The simulation of demand 3 for what follows a body: related items give related parts and blocks, labels are resolved
 -- alike, and edges, predecessors and dead marks are the same. Names are compared by equality alone.
 use Prim.Native.Nat.{ℕ, suc, _+_}
-use mathlib.Core.Path.{_≡_, refl, sym, ap, _∙_}
+use mathlib.Core.Path.{_≡_, refl, ap}
 use mathlib.Core.List.{List, [], _∷_, _++_}
 use mathlib.Core.Bool.{Bool, true, false}
 use native.Mathlib.Omega.{arith}
@@ -12,11 +12,10 @@ use Rattle.utils.specs.Bytes.{pick}
 use Rattle.parser.specs.Step.{refusal}
 use Rattle.parser.specs.Body.{Item, operationToken, afterBrace, afterLabel, afterOperation, behind, labelsOf, ret}
 use Rattle.parser.specs.Body.{lacksRet, closedFrom, closedItems}
-use Rattle.parser.specs.Blocks.{Part, partOf, partsOf, namesIn, Block, fresh, grown, blocksFrom, blocksAfter, blocksOf}
-use Rattle.parser.specs.Edges.{Place, placeOf, thenPlace, Resolved, missing, resolveLabels, resolveFrom, resolveD}
+use Rattle.parser.specs.Blocks.{Part, partOf, partsOf, Block, fresh, grown, blocksFrom, blocksAfter, blocksOf}
+use Rattle.parser.specs.Edges.{Place, placeOf, thenPlace, Resolved, resolveLabels, resolveFrom, resolveD}
 use Rattle.parser.specs.Edges.{places, successors, predecessors, isDead}
-use Rattle.parser.specs.Moved.{Move, SimName, SimE, SimO, SimItem, Each, SimNumber, SimPart, SimBlock, SimResolved}
-use Rattle.parser.specs.declared.Refusal.{Refusal}
+use Rattle.parser.specs.Moved.{Move, SimE, SimO, SimItem, Each, SimNumber, SimPart, SimBlock, SimResolved}
 use Rattle.parser.proofs.Sim.{hasS}
 use Rattle.parser.proofs.SimBody.{token-moved, terminator-kept, number-of}
 
@@ -60,9 +59,9 @@ closedS void before last last′ e (Each.more (SimItem.label w q) r) =
     (Each.more (SimItem.label w q) (closedS void afterLabel last last′ (λ h. absurd (omega (arith, h))) r))
 closedS {m} void before last last′ e (Each.more {xs = is} {xs′ = is′} (SimItem.plain {o} {o′} q) r) =
     let more : Each (SimItem m) (closedFrom void (behind (Item.plain o)) (operationToken o) is)
-      (closedFrom void (behind (Item.plain o′)) (operationToken o′) is′) =
-      rw (terminator-kept (SimItem.plain q))
-      (closedS void (behind (Item.plain o′)) (operationToken o) (operationToken o′) (λ _. token-moved (SimItem.plain q)) r) in
+    (closedFrom void (behind (Item.plain o′)) (operationToken o′) is′) =
+    rw (terminator-kept (SimItem.plain q))
+    (closedS void (behind (Item.plain o′)) (operationToken o) (operationToken o′) (λ _. token-moved (SimItem.plain q)) r) in
     Each.more (SimItem.plain q) more
 closedS void before last last′ e (Each.more (SimItem.call w g xs) r) =
     Each.more (SimItem.call w g xs) (closedS void afterOperation _ w (λ _. refl) r)
