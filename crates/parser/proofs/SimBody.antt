@@ -21,7 +21,7 @@ use Rattle.parser.specs.declared.Parsed.{Parsed}
 use Rattle.parser.proofs.Sim.{pickS, testS, lookS, thenNamedS, labelledS, instructionS, callS}
 
 -- an item's token is moved, and a terminator stays one
-token-moved : {m : Move} {i i′ : Item} → SimItem m i i′ → itemToken i ≡ m .by + itemToken i′
+pub token-moved : {m : Move} {i i′ : Item} → SimItem m i i′ → itemToken i ≡ m .by + itemToken i′
 token-moved (SimItem.label w q) = refl
 token-moved (SimItem.plain (SimO.binary w v x y)) = refl
 token-moved (SimItem.plain (SimO.unary w v x)) = refl
@@ -35,7 +35,7 @@ token-moved (SimItem.plain (SimO.nop w)) = refl
 token-moved (SimItem.call w q r) = refl
 token-moved (SimItem.callInto w v q r) = refl
 
-terminator-kept : {m : Move} {i i′ : Item} → SimItem m i i′ → isTerminator i ≡ isTerminator i′
+pub terminator-kept : {m : Move} {i i′ : Item} → SimItem m i i′ → isTerminator i ≡ isTerminator i′
 terminator-kept (SimItem.label w q) = refl
 terminator-kept (SimItem.plain (SimO.binary w v x y)) = refl
 terminator-kept (SimItem.plain (SimO.unary w v x)) = refl
@@ -50,10 +50,10 @@ terminator-kept (SimItem.call w q r) = refl
 terminator-kept (SimItem.callInto w v q r) = refl
 
 -- one label more
-number-of : {m : Move} {l l′ : Identifier} → SimName m l l′ → SimNumber m (l .0) (l′ .0)
+pub number-of : {m : Move} {l l′ : Identifier} → SimName m l l′ → SimNumber m (l .0) (l′ .0)
 number-of (SimName.renamed x h) = SimName.renamed x h
 
-each-snoc : {m : Move} {xs xs′ : List ℕ} {l l′ : Identifier} → Each (SimNumber m) xs xs′ → SimName m l l′
+pub each-snoc : {m : Move} {xs xs′ : List ℕ} {l l′ : Identifier} → Each (SimNumber m) xs xs′ → SimName m l l′
     → Each (SimNumber m) (xs ++ (l .0 ∷ [])) (xs′ ++ (l′ .0 ∷ []))
 each-snoc Each.none q = Each.more (number-of q) Each.none
 each-snoc (Each.more p r) q = Each.more p (each-snoc r q)

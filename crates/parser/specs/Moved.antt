@@ -14,6 +14,8 @@ use Rattle.pieces.specs.declared.Identifier.{Identifier}
 use Rattle.parser.specs.Step.{refusal}
 use Rattle.parser.specs.Runs.{Variables, stopped, Calling, calling}
 use Rattle.parser.specs.Body.{Item, ItemAt, Body}
+use Rattle.parser.specs.Blocks.{Part, Block}
+use Rattle.parser.specs.Edges.{Resolved}
 use Rattle.parser.specs.declared.Refusal.{Refusal}
 use Rattle.parser.specs.declared.Ty.{Ty}
 use Rattle.parser.specs.declared.Variable.{Variable}
@@ -63,9 +65,15 @@ pub record Sim (m : Move) (n : ℕ) (ts ts′ : List Tok) : Type 0 where
 pub data SimName (m : Move) : Identifier → Identifier → Type 0 where
   renamed : (x : ℕ) → x < m .names → SimName m (record { 0 = m .name x }) (record { 0 = x })
 
--- the same refusal, at the moved token
+-- the same refusal, at the moved token; where its message spells a name, that name is renamed
+abbrev pub spelling : ℕ → ℕ → ℕ → ℕ → Identifier → Refusal
+spelling number token wanted found x =
+    record { number = number; token = token; wanted = wanted; found = found; name = x }
+
 pub data SimE (m : Move) : Refusal → Refusal → Type 0 where
   moved : (number token wanted : ℕ) → SimE m (refusal number (m .by + token) wanted) (refusal number token wanted)
+  named : (number token wanted found : ℕ) {x x′ : Identifier} → SimName m x x′
+      → SimE m (spelling number (m .by + token) wanted found x) (spelling number token wanted found x′)
 
 -- related answers; an index to go on at is below l
 pub data SimC (m : Move) (l : ℕ) : Consumed → Consumed → Type 0 where
@@ -151,6 +159,25 @@ pub data SimClose (m : Move) (l : ℕ) : Consumed → Consumed → Type 0 where
 pub record SimBody (m : Move) (l : ℕ) (r r′ : Body) : Type 0 where
   pub items : Each (SimItem m) (r .items) (r′ .items)
   pub end : SimClose m l (r .end) (r′ .end)
+
+-- the same part, with its token moved and its names renamed
+pub data SimPart (m : Move) : Part → Part → Type 0 where
+  name : {l l′ : ℕ} → SimNumber m l l′ → SimPart m (Part.name l) (Part.name l′)
+  operation : (w : ℕ) {goes goes′ : List ℕ} → Each (SimNumber m) goes goes′
+      → SimPart m (Part.operation (m .by + w) goes) (Part.operation w goes′)
+
+-- The same block, with its names renamed. The token is moved where there is one: a block without operation has none.
+pub record SimBlock (m : Move) (b b′ : Block) : Type 0 where
+  pub labels : Each (SimNumber m) (b .labels) (b′ .labels)
+  pub first : b .first ≡ b′ .first
+  pub operations : b .operations ≡ b′ .operations
+  pub token : (b′ .operations ≡ 0 → ⊥) → b .token ≡ m .by + b′ .token
+  pub goes : Each (SimNumber m) (b .goes) (b′ .goes)
+
+-- labels all resolved, or related refusals
+pub data SimResolved (m : Move) : Resolved → Resolved → Type 0 where
+  fine : SimResolved m Resolved.fine Resolved.fine
+  refused : (e e′ : Refusal) → SimE m e e′ → SimResolved m (Resolved.refused e) (Resolved.refused e′)
 
 -- The two answers are related by T; a family of its own, so that a search can read m, n and T off.
 pub data Rel (m : Move) (n : ℕ) {A : Type 0} (T : Move → ℕ → A → A → Type 0) : A → A → Type 0 where
