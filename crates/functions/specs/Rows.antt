@@ -3,8 +3,10 @@
 -- item, how many items, the first block, how many blocks, how many formals, and each formal's name and type.
 use Prim.Native.Nat.{ℕ, zero, suc, _+_, _*_, _-_}
 use mathlib.Core.List.{List, [], _∷_, _++_}
+use lib.Dec.{leb}
 use lib.ListN.{length, getD}
 use lib.Seq.{sets}
+use Rattle.utils.specs.Bytes.{pick}
 use Rattle.lexer.specs.Decoded.{Tok, tokenAt}
 use Rattle.lexer.specs.declared.TokenAt.{TokenAt}
 use Rattle.parser.specs.Runs.{typeCell, variablesCells}
@@ -51,10 +53,14 @@ unfoldable pub typesAt : List ℕ → ℕ → ℕ → List ℕ
 typesAt cells at zero = []
 typesAt cells at (suc n) = getD cells (at + 1) 0 ∷ typesAt cells (at + 2) n
 
+-- a row has room for 16 formals
+abbrev pub atMost16 : ℕ → ℕ
+atMost16 n = pick (leb n 16) n 16
+
 abbrev pub signedAt : List ℕ → ℕ → List ℕ
 signedAt cells i =
     let n = getD cells (countAt i) 0 in
-    getD cells (retAt i) 0 ∷ n ∷ typesAt cells (formalsAt i) n
+    getD cells (retAt i) 0 ∷ n ∷ typesAt cells (formalsAt i) (atMost16 n)
 
 abbrev pub knownAt : List ℕ → ℕ → Known
 knownAt cells i =

@@ -1,3 +1,8 @@
+use native.Mathlib.Nat.{sub-zero}
+use Rattle.functions.proofs.Turns.{known-more, known-none}
+use Rattle.functions.specs.Rows.{knownFrom, typesAt, formalsAt}
+use Rattle.functions.specs.Known.{expectedType, typeNumber}
+use Rattle.utils.specs.Bytes.{pick, sameBytes}
 use borrow.Author.Tests.{lt-ltb, le-ltb, le-leb, lt-leb, eq-eqb, ne-eqb}
 use native.Mathlib.Omega.{arith}
 use native.Mathlib.Numerals.{add-one}
@@ -34,10 +39,10 @@ shared-slice-read-if1 c = search needs
 
 -- src/known.rt:37:9
 returns : tie.Need-returns
+unfolding sameBytes pick
 returns c =
-    let a = c .before .before .before .args in
     let if1 = c .if1 in
-    ?returns
+    rw (ne-eqb _ _ (if1 .taken))
 
 -- src/known.rt:39:18
 mul-if2 : tie.Need-mul-if2
@@ -61,11 +66,11 @@ cast-if2 c = search needs
 
 -- src/known.rt:40:9
 returns-2 : tie.Need-returns-2
+unfolding sameBytes pick
 returns-2 c =
-    let a = c .before .before .before .before .before .args in
     let if1 = c .before .before .if1 in
     let if2 = c .if2 in
-    ?returns-2
+    rw (eq-eqb _ _ (if1 .left), ne-eqb _ _ (if2 .taken))
 
 -- src/known.rt:42:5
 same-formals-requires : tie.Need-same-formals-requires
@@ -73,12 +78,13 @@ same-formals-requires c κs = search needs
 
 -- src/known.rt:31:1
 returns-3 : tie.Need-returns-3
+unfolding sameBytes pick
 returns-3 c =
-    let a = c .before .before .before .before .before .before .args in
+    let pre = c .before .before .before .before .before .before .pre in
     let if1 = c .before .before .before .if1 in
     let if2 = c .before .if2 in
     let same-formals = c .same-formals in
-    ?returns-3
+    rw (eq-eqb _ _ (if1 .left), eq-eqb _ _ (if2 .left), if2 .left, le-leb _ 16 (pre .2)) (same-formals .ensures)
 
 pub same-type-spec : {M : Type 1} → statement M
 same-type-spec =

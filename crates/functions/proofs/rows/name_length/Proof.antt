@@ -43,8 +43,9 @@ returns c = search needs
 -- src/rows.rt:12:1
 returns-2 : tie.Need-returns-2
 returns-2 c =
+    let a = c .before .before .args in
     let if1 = c .if1 in
-    rw (List·getD-eq-default _ 0 (if1 .left))
+    sym (List·getD-eq-default (now (a .names)) 0 (if1 .left))
 
 pub name-length-spec : {M : Type 1} → statement M
 name-length-spec =

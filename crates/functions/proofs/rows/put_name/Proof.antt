@@ -117,7 +117,10 @@ same-length c = search needs
 
 -- src/rows.rt:23:1
 returns : tie.Need-returns
-returns c = simp towards-suc
+returns c =
+    let name-length = c .name-length in
+    let token-at = c .before .token-at in
+    rw (← token-at .ensures, ← name-length .ensures) (simp towards-suc)
 
 pub put-name-spec : {M : Type 1} → statement M
 put-name-spec =
