@@ -1,3 +1,5 @@
 pub mod Turns
 pub mod Stores
 pub mod Heads
+pub mod Program
+pub mod Seen

@@ -79,7 +79,32 @@ headerD ts full known types at =
     thenNamed noHeader (globalD ts at) (λ g at1.
     pick full (noHeader (refusal 35 at 0)) (signatureD ts known types at g at1))
 
--- A function: its header, its items, with the added `ret`s in a void function, and the index behind its closing brace.
+-- The items of a body, with the added `ret`s in a void function, and the index behind its closing brace, once its blocks
+-- were taken in order.
+pub data BuiltAt : Type 0 where
+  built : List Item → ℕ → BuiltAt
+  notBuilt : Refusal → BuiltAt
+
+unfoldable pub thenBuilt : {A : Type 0} → (Refusal → A) → BuiltAt → (List Item → ℕ → A) → A
+thenBuilt fail (built is next) k = k is next
+thenBuilt fail (notBuilt e) k = fail e
+
+abbrev pub blocksIn : List Item → List Block
+blocksIn is = blocksOf (partsOf is)
+
+-- the blocks stand fine, or give 22 or 14
+abbrev pub resolvedItems : List Item → ℕ → Resolved → BuiltAt
+resolvedItems is next fine = built is next
+resolvedItems is next (refused e) = notBuilt e
+
+-- from after the opening brace; `name` is the function's name token
+unfoldable pub builtD : List Tok → Bool → ℕ → ℕ → BuiltAt
+builtD ts void name at =
+    let body = functionBody ts at in
+    let is = closedItems void (body .items) in
+    thenAt notBuilt (body .end) (λ next. resolvedItems is next (resolveD name (blocksIn is)))
+
+-- A function: its header, its items, and the index behind its closing brace.
 pub record Function : Type 0 where
   pub head : Header
   pub items : List Item
@@ -96,24 +121,11 @@ thenFunction fail (noFunction e) k = fail e
 abbrev pub isVoid : Ty → Bool
 isVoid ret = eqb (typeCell ret) 3
 
-abbrev pub blocksIn : List Item → List Block
-blocksIn is = blocksOf (partsOf is)
-
--- what follows the blocks taken in order, which stand fine or give 22 or 14
-abbrev pub resolvedFunction : Function → Resolved → FunctionAt
-resolvedFunction f fine = function f
-resolvedFunction f (refused e) = noFunction e
-
-abbrev pub closedFunction : Header → List Item → ℕ → FunctionAt
-closedFunction h is next =
-    resolvedFunction (record { head = h; items = is; next = next }) (resolveD (h .token) (blocksIn is))
-
 unfoldable pub functionD : List Tok → Bool → List Known → ℕ → ℕ → FunctionAt
 functionD ts full known types at =
     thenHeader noFunction (headerD ts full known types at) (λ h at1.
-    let body = functionBody ts at1 in
-    thenAt noFunction (body .end) (λ next.
-    closedFunction h (closedItems (isVoid (h .ret)) (body .items)) next))
+    thenBuilt noFunction (builtD ts (isVoid (h .ret)) at at1) (λ is next.
+    function (record { head = h; items = is; next = next })))
 
 -- All functions that were read, and where the text ended or why it was refused.
 pub record Program : Type 0 where

@@ -37,6 +37,26 @@ pub struct Counts {
     pub predecessors: usize,
 }
 
+// Where to go on behind a body, and how much it takes of each slice.
+pub struct Body {
+    pub next: usize,
+    pub items: usize,
+    pub arguments: usize,
+    pub blocks: usize,
+    pub predecessors: usize,
+}
+
+pub enum Building {
+    Done(Body),
+    Refused(Refusal),
+}
+
+// Where to go on behind a function, how many function types there are, and how much is used of each slice.
+pub enum FunctionRead {
+    Done(usize, u32, Counts),
+    Refused(Refusal),
+}
+
 pub enum ProgramRead {
     Done(Counts),
     Refused(Refusal),
