@@ -130,17 +130,17 @@ module _ (ts : List Tok) (names : List ℕ) (s₀ : Slices) where
     onward {f = f} q h a s′ w =
         let e = functions-more ts (n .functions) (knownFrom (s .functions) 0 (n .functions)) types at (w .few) q h a in
         let same : left at types n s
-            ≡ programThen f (left (f .next) (typesAfter types (f .head .type)) (countsWith n f) s′) =
+        ≡ programThen f (left (f .next) (typesAfter types (f .head .type)) (countsWith n f) s′) =
         e ∙ rw (w .seen) in
         record {
           few = omega (arith, w .few);
           types-few = types-grow types (f .head .type) (n .functions) (g .types-few);
           room = w .room;
-          functions-kept = rw (w .stored) (length-sets _ _ _ ∙ g .functions-kept);
-          items-kept = rw (w .stored) (length-sets _ _ _ ∙ g .items-kept);
-          arguments-kept = rw (w .stored) (length-sets _ _ _ ∙ g .arguments-kept);
-          blocks-kept = rw (w .stored) (length-sets _ _ _ ∙ g .blocks-kept);
-          predecessors-kept = rw (w .stored) (length-sets _ _ _ ∙ g .predecessors-kept);
+          functions-kept = rw (w .stored, length-sets) (g .functions-kept);
+          items-kept = rw (w .stored, length-sets) (g .items-kept);
+          arguments-kept = rw (w .stored, length-sets) (g .arguments-kept);
+          blocks-kept = rw (w .stored, length-sets) (g .blocks-kept);
+          predecessors-kept = rw (w .stored, length-sets) (g .predecessors-kept);
           ends = rw same at (g .ends);
           counted = rw same at (g .counted);
           stored = ap (λ (z : Slices). storedFrom ts names (countsWith n f) z

@@ -1,0 +1,9 @@
+-- Typing, in reading order.
+-- the table of names, and what each step does to it
+pub mod Symbols
+-- one operation
+pub mod Typing
+-- the items that cells hold
+pub mod Items
+-- the functions by name
+pub mod Globals

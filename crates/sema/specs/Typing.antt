@@ -1,0 +1,140 @@
+-- One operation's typing (document 01, "Typing"; Sema of parser.rs), in exactly its order of look-ups, entries and
+-- comparisons.
+use Prim.Native.Nat.{ℕ}
+use mathlib.Core.List.{List, [], _∷_}
+use mathlib.Core.Bool.{Bool, true, false}
+use lib.Dec.{eqb, leb}
+use lib.ListN.{length, getD}
+use Rattle.utils.specs.Bytes.{pick}
+use Rattle.lexer.specs.Decoded.{Tok, tokenAt}
+use Rattle.pieces.specs.declared.Identifier.{Identifier}
+use Rattle.parser.specs.Step.{refusal}
+use Rattle.parser.specs.Runs.{typeCell}
+use Rattle.parser.specs.Body.{Item, label, plain, call, callInto}
+use Rattle.parser.specs.declared.Variable.{Variable}
+use Rattle.parser.specs.declared.Operation.{Operation}
+use Rattle.parser.specs.declared.Operation.the-variants as O
+use Rattle.sema.specs.Symbols.{Typed, on, stop, thenTyped, facts, noName, enterD, thenLook, thenSame}
+
+-- the cells of the types
+abbrev pub int : ℕ
+int = 1
+
+abbrev pub bool : ℕ
+bool = 2
+
+abbrev pub void : ℕ
+void = 3
+
+-- result type, left, right compared
+unfoldable pub thenThree : List ℕ → ℕ → ℕ → ℕ → ℕ → ℕ → ℕ → Typed
+thenThree t token result left right wantedResult wantedOperands =
+    thenSame t token result wantedResult
+    (thenSame t token left wantedOperands
+    (thenSame t token right wantedOperands (on t)))
+
+-- Binary: left, right looked up; result entered; result type, left, right compared. `eq`: right against left, then result.
+-- The kinds are those of the operators' words: 5 to 9 arithmetic, 12 `eq`, 13 to 16 comparisons, 18 and 19 `and`, `or`.
+unfoldable pub operandsD : List ℕ → ℕ → ℕ → ℕ → ℕ → ℕ → Typed
+operandsD t kind token result left right =
+    pick (leb kind 9) (thenThree t token result left right int int)
+    (pick (eqb kind 12) (thenSame t token right left (thenSame t token result bool (on t)))
+    (pick (leb kind 16) (thenThree t token result left right bool int)
+    (thenThree t token result left right bool bool)))
+
+unfoldable pub binaryD : List ℕ → ℕ → ℕ → Identifier → ℕ → Identifier → Identifier → Typed
+binaryD t kind token result type x y =
+    thenLook t token x (λ left.
+    thenLook t token y (λ right.
+    thenTyped (enterD t token result type) (λ t1. operandsD t1 kind token type left right)))
+
+-- Unary: operand, result entered, then `id` (37): operand against result; `not`: result, operand.
+unfoldable pub operandD : List ℕ → ℕ → ℕ → ℕ → ℕ → Typed
+operandD t kind token type operand =
+    pick (eqb kind 37) (thenSame t token operand type (on t))
+    (thenSame t token type bool (thenSame t token operand bool (on t)))
+
+unfoldable pub unaryD : List ℕ → ℕ → ℕ → Identifier → ℕ → Identifier → Typed
+unaryD t kind token result type x =
+    thenLook t token x (λ operand.
+    thenTyped (enterD t token result type) (λ t1. operandD t1 kind token type operand))
+
+-- `const`: type against result, then entered. An integer's kind is 4.
+unfoldable pub constD : List ℕ → ℕ → ℕ → Identifier → ℕ → Typed
+constD t kind token result type =
+    thenSame t token (pick (eqb kind 4) int bool) type (enterD t token result type)
+
+-- `ret x`: x looked up, void 18, type. `ret`: 19.
+unfoldable pub retValueD : List ℕ → ℕ → ℕ → Identifier → Typed
+retValueD t ret token x =
+    thenLook t token x (λ found.
+    pick (eqb ret void) (stop t (refusal 18 token 0)) (thenSame t token found ret (on t)))
+
+unfoldable pub retD : List ℕ → ℕ → ℕ → Typed
+retD t ret token = pick (eqb ret void) (on t) (stop t (refusal 19 token 0))
+
+-- Calls. ------------------------------------------------------------------------------------------------------------
+
+-- A function's type as calls see it: its result and its formals' types; absent where no function has the name.
+pub data Global : Type 0 where
+  absent : Global
+  global : ℕ → List ℕ → Global
+
+-- arguments looked up
+unfoldable pub presentD : List ℕ → ℕ → List Variable → Typed
+presentD t token [] = on t
+presentD t token (x ∷ xs) = let more = presentD t token xs in thenLook t token (x .id) (λ type. more)
+
+unfoldable pub typesOf : List ℕ → List Variable → List ℕ
+typesOf t [] = []
+typesOf t (x ∷ xs) = getD t (x .id .0) 0 ∷ typesOf t xs
+
+-- then compared
+unfoldable pub sameAll : List ℕ → ℕ → List ℕ → List ℕ → Typed
+sameAll t token [] wanted = on t
+sameAll t token (f ∷ fs) [] = on t
+sameAll t token (f ∷ fs) (w ∷ ws) = let more = sameAll t token fs ws in thenSame t token f w more
+
+-- count 20; then arguments looked up; then compared
+unfoldable pub argumentsD : List ℕ → ℕ → List ℕ → List Variable → Typed
+argumentsD t token formals xs =
+    pick (eqb (length formals) (length xs))
+    (thenTyped (presentD t token xs) (λ t1. sameAll t1 token (typesOf t1 xs) formals))
+    (stop t (facts 20 token (length formals) (length xs) noName))
+
+-- `call`: callee looked up; with a result, void callee 18, type 17, result entered; without, non-void 19; then the
+-- arguments. So the result is entered before the arguments.
+unfoldable pub thenGlobal : List ℕ → ℕ → Identifier → Global → (ℕ → List ℕ → Typed) → Typed
+thenGlobal t token callee absent k = stop t (facts 16 token 0 0 callee)
+thenGlobal t token callee (global ret formals) k = k ret formals
+
+unfoldable pub callD : List ℕ → Global → ℕ → Identifier → List Variable → Typed
+callD t g token callee xs =
+    thenGlobal t token callee g (λ ret formals.
+    pick (eqb ret void) (argumentsD t token formals xs) (stop t (refusal 19 token 0)))
+
+unfoldable pub callIntoD : List ℕ → Global → ℕ → Identifier → ℕ → Identifier → List Variable → Typed
+callIntoD t g token result type callee xs =
+    thenGlobal t token callee g (λ ret formals.
+    pick (eqb ret void) (stop t (refusal 18 token 0))
+    (thenSame t token type ret
+    (thenTyped (enterD t token result type) (λ t1. argumentsD t1 token formals xs))))
+
+-- An operation by its form. `ret` is the result type of the function it stands in, `globals` the functions by name.
+-- `print` operands and `br` conditions are never looked up.
+unfoldable pub plainD : List Tok → ℕ → List ℕ → Operation → Typed
+plainD ts ret t (O.BinaryOp w v x y) = binaryD t (tokenAt ts w .kind) w (v .id) (typeCell (v .ty)) x y
+plainD ts ret t (O.UnaryOp w v x) = unaryD t (tokenAt ts w .kind) w (v .id) (typeCell (v .ty)) x
+plainD ts ret t (O.Const w v) = constD t (tokenAt ts w .kind) w (v .id) (typeCell (v .ty))
+plainD ts ret t (O.Jump w l) = on t
+plainD ts ret t (O.Branch w x l m) = on t
+plainD ts ret t (O.Ret w) = retD t ret w
+plainD ts ret t (O.RetValue w x) = retValueD t ret w x
+plainD ts ret t (O.Print w x) = on t
+plainD ts ret t (O.Nop w) = on t
+
+unfoldable pub analyzeD : List Tok → (ℕ → Global) → ℕ → List ℕ → Item → Typed
+analyzeD ts globals ret t (label w l) = on t
+analyzeD ts globals ret t (plain o) = plainD ts ret t o
+analyzeD ts globals ret t (call w g xs) = callD t (globals (g .0)) w g xs
+analyzeD ts globals ret t (callInto w v g xs) = callIntoD t (globals (g .0)) w (v .id) (typeCell (v .ty)) g xs

@@ -1,0 +1,12 @@
+// Typing: Sema of bril-lib/src/parser.rs, with SymbolTable of ir.rs.
+mod calls;
+mod operations;
+mod symbols;
+
+ghost use mathlib.Core.Path.{_≡_};
+use parser::Refusal;
+
+pub enum Checked {
+    Fine,
+    Refused(Refusal),
+}

@@ -1,0 +1,156 @@
+// Operations that call nothing, each in document 01's order of look-ups, entries and comparisons.
+ghost use mathlib.Core.Path.{_≡_};
+ghost use mathlib.Core.List.{List};
+ghost use Prim.Native.Nat.{ℕ};
+ghost use lib.Dec.{eqb};
+ghost use Rattle.utils.specs.Bytes.{pick};
+ghost use Rattle.sema.specs.Symbols.{typed};
+ghost use Rattle.sema.specs.Typing.{thenThree, operandsD, binaryD, operandD, unaryD, constD, retD, retValueD};
+use crate::Checked;
+use crate::symbols;
+use pieces::Identifier;
+
+// The result's type, then the left and the right operand's.
+fn expect_three(
+    token: usize,
+    result: u32,
+    left: u32,
+    right: u32,
+    of_result: u32,
+    of_operands: u32,
+) -> Checked
+    ensures { λ r. ⌜ ((t : List ℕ) → typed t r ≡ thenThree t token result left right «of_result» «of_operands») ⌝ }
+{
+    match symbols::expect_type(token, result, of_result) {
+        Checked::Refused(e) => Checked::Refused(e),
+        Checked::Fine => match symbols::expect_type(token, left, of_operands) {
+            Checked::Refused(e) => Checked::Refused(e),
+            Checked::Fine => symbols::expect_type(token, right, of_operands),
+        },
+    }
+}
+
+// The types are int 1 and bool 2.
+fn expect_operands(kind: u32, token: usize, result: u32, left: u32, right: u32) -> Checked
+    ensures { λ r. ⌜ ((t : List ℕ) → typed t r ≡ operandsD t kind token result left right) ⌝ }
+{
+    if kind <= 9 {
+        return expect_three(token, result, left, right, 1, 1);
+    }
+    if kind == 12 {
+        return match symbols::expect_type(token, right, left) {
+            Checked::Refused(e) => Checked::Refused(e),
+            Checked::Fine => symbols::expect_type(token, result, 2),
+        };
+    }
+    if kind <= 16 {
+        return expect_three(token, result, left, right, 2, 1);
+    }
+    expect_three(token, result, left, right, 2, 2)
+}
+
+// Operands are looked up before the result is entered.
+pub fn analyze_bin_op(
+    table: &mut [u32],
+    kind: u32,
+    token: usize,
+    result: Identifier,
+    ty: u32,
+    lhs: Identifier,
+    rhs: Identifier,
+) -> Checked
+    ensures { λ r. ⌜ typed (now (table .exit)) r ≡ binaryD (now (table .entry)) kind token result ty lhs rhs ⌝ }
+{
+    let left = symbols::get(table, lhs);
+    if left == 0 {
+        return symbols::refuse(16, token, 0, 0, lhs);
+    }
+    let right = symbols::get(table, rhs);
+    if right == 0 {
+        return symbols::refuse(16, token, 0, 0, rhs);
+    }
+    match symbols::insert(table, token, result, ty) {
+        Checked::Refused(e) => Checked::Refused(e),
+        Checked::Fine => expect_operands(kind, token, ty, left, right),
+    }
+}
+
+// `id` holds the operand against the result, `not` both against bool.
+fn expect_operand(kind: u32, token: usize, result: u32, operand: u32) -> Checked
+    ensures { λ r. ⌜ ((t : List ℕ) → typed t r ≡ operandD t kind token result operand) ⌝ }
+{
+    if kind == 37 {
+        return symbols::expect_type(token, operand, result);
+    }
+    match symbols::expect_type(token, result, 2) {
+        Checked::Refused(e) => Checked::Refused(e),
+        Checked::Fine => symbols::expect_type(token, operand, 2),
+    }
+}
+
+pub fn analyze_unary_op(
+    table: &mut [u32],
+    kind: u32,
+    token: usize,
+    result: Identifier,
+    ty: u32,
+    operand: Identifier,
+) -> Checked
+    ensures { λ r. ⌜ typed (now (table .exit)) r ≡ unaryD (now (table .entry)) kind token result ty operand ⌝ }
+{
+    let found = symbols::get(table, operand);
+    if found == 0 {
+        return symbols::refuse(16, token, 0, 0, operand);
+    }
+    match symbols::insert(table, token, result, ty) {
+        Checked::Refused(e) => Checked::Refused(e),
+        Checked::Fine => expect_operand(kind, token, ty, found),
+    }
+}
+
+fn constant_type(kind: u32) -> u32
+    ensures { λ r. ⌜ r ≡ pick (eqb kind 4) 1 2 ⌝ }
+{
+    if kind == 4 {
+        return 1;
+    }
+    2
+}
+
+// Compared before it is entered.
+pub fn analyze_const(
+    table: &mut [u32],
+    kind: u32,
+    token: usize,
+    result: Identifier,
+    ty: u32,
+) -> Checked
+    ensures { λ r. ⌜ typed (now (table .exit)) r ≡ constD (now (table .entry)) kind token result ty ⌝ }
+{
+    match symbols::expect_type(token, constant_type(kind), ty) {
+        Checked::Refused(e) => Checked::Refused(e),
+        Checked::Fine => symbols::insert(table, token, result, ty),
+    }
+}
+
+pub fn analyze_ret(ret: u32, token: usize) -> Checked
+    ensures { λ r. ⌜ ((t : List ℕ) → typed t r ≡ retD t ret token) ⌝ }
+{
+    if ret == 3 {
+        return Checked::Fine;
+    }
+    symbols::refuse(19, token, 0, 0, Identifier(0))
+}
+
+pub fn analyze_ret_value(table: &[u32], ret: u32, token: usize, x: Identifier) -> Checked
+    ensures { λ r. ⌜ typed (now (table .entry)) r ≡ retValueD (now (table .entry)) ret token x ⌝ }
+{
+    let found = symbols::get(table, x);
+    if found == 0 {
+        return symbols::refuse(16, token, 0, 0, x);
+    }
+    if ret == 3 {
+        return symbols::refuse(18, token, 0, 0, Identifier(0));
+    }
+    symbols::expect_type(token, found, ret)
+}
