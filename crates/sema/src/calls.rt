@@ -3,8 +3,8 @@ ghost use mathlib.Core.Path.{_≡_};
 ghost use mathlib.Core.List.{List};
 ghost use Prim.Native.Nat.{ℕ, _+_, _*_, _≤_, _<_};
 ghost use lib.ListN.{length, getD};
-ghost use Rattle.functions.specs.Rows.{formalsAt, atMost16, typesAt};
-ghost use Rattle.sema.specs.Symbols.{typed};
+ghost use Rattle.functions.specs.Rows.{retAt, countAt, formalsAt, atMost16, typesAt};
+ghost use Rattle.sema.specs.Symbols.{typed, thenTyped, enterD};
 ghost use Rattle.sema.specs.Typing.{presentD, typesOf, sameAll, argumentsD, callD, callIntoD};
 ghost use Rattle.sema.specs.Items.{named, variablesAt};
 ghost use Rattle.sema.specs.Globals.{rowFrom, rowGlobal, globalsIn};
@@ -90,4 +90,141 @@ fn compare_arguments(
         }
     }
     Checked::Fine
+}
+
+// A row has room for 16 formals.
+fn at_most_16(n: u32) -> u32
+    ensures { λ r. ⌜ (r ≡ atMost16 n) × (r ≤ 16) ⌝ }
+{
+    if n <= 16 {
+        return n;
+    }
+    16
+}
+
+// The arguments of a call of the function in row i.
+fn analyze_arguments(
+    table: &[u32],
+    token: usize,
+    rows: &[u32],
+    i: usize,
+    arguments: &[u32],
+    first: u32,
+    count: u32,
+) -> Checked
+    requires { ⌜ (i < 64) × (2881 ≤ length (now rows)) ⌝ }
+    ensures { λ r. ⌜ typed (now (table .entry)) r ≡ argumentsD (now (table .entry)) token
+        (typesAt (now (rows .entry)) (formalsAt i) (atMost16 (getD (now (rows .entry)) (countAt i) 0)))
+        (variablesAt (now (arguments .entry)) first count) ⌝ }
+{
+    let formals = at_most_16(rows[13 + i * 45]);
+    if formals != count {
+        return symbols::refuse(20, token, formals, count, Identifier(0));
+    }
+    match look_arguments(table, token, arguments, first, count) {
+        Checked::Refused(e) => Checked::Refused(e),
+        Checked::Fine => {
+            compare_arguments(table, token, arguments, first, count, rows, 14 + i * 45)
+        }
+    }
+}
+
+// The result type of the function in row i.
+fn result_type(rows: &[u32], i: usize) -> u32
+    requires { ⌜ (i < 64) × (2881 ≤ length (now rows)) ⌝ }
+    ensures { λ r. ⌜ r ≡ getD (now (rows .entry)) (retAt i) 0 ⌝ }
+{
+    rows[7 + i * 45]
+}
+
+// A call whose result nobody takes.
+pub fn analyze_call(
+    table: &[u32],
+    token: usize,
+    rows: &[u32],
+    n: usize,
+    callee: Identifier,
+    arguments: &[u32],
+    first: u32,
+    count: u32,
+) -> Checked
+    requires { ⌜ (n ≤ 64) × (2881 ≤ length (now rows)) ⌝ }
+    ensures { λ r. ⌜ typed (now (table .entry)) r ≡ callD (now (table .entry)) (globalsIn (now (rows .entry)) n (callee .0))
+        token callee (variablesAt (now (arguments .entry)) first count) ⌝ }
+{
+    match find_function(rows, n, callee) {
+        FoundRow::Absent => symbols::refuse(16, token, 0, 0, callee),
+        FoundRow::At(i) => {
+            if result_type(rows, i) != 3 {
+                return symbols::refuse(19, token, 0, 0, Identifier(0));
+            }
+            analyze_arguments(table, token, rows, i, arguments, first, count)
+        }
+    }
+}
+
+// The result is entered before the arguments are looked up.
+fn enter_result(
+    table: &mut [u32],
+    token: usize,
+    rows: &[u32],
+    i: usize,
+    result: Identifier,
+    ty: u32,
+    arguments: &[u32],
+    first: u32,
+    count: u32,
+) -> Checked
+    requires { ⌜ (i < 64) × (2881 ≤ length (now rows)) ⌝ }
+    ensures { λ r. ⌜ typed (now (table .exit)) r ≡ thenTyped (enterD (now (table .entry)) token result ty)
+        (λ t. argumentsD t token
+        (typesAt (now (rows .entry)) (formalsAt i) (atMost16 (getD (now (rows .entry)) (countAt i) 0)))
+        (variablesAt (now (arguments .entry)) first count)) ⌝ }
+{
+    match symbols::insert(table, token, result, ty) {
+        Checked::Refused(e) => Checked::Refused(e),
+        Checked::Fine => analyze_arguments(table, token, rows, i, arguments, first, count),
+    }
+}
+
+pub fn analyze_call_into(
+    table: &mut [u32],
+    token: usize,
+    rows: &[u32],
+    n: usize,
+    result: Identifier,
+    ty: u32,
+    callee: Identifier,
+    arguments: &[u32],
+    first: u32,
+    count: u32,
+) -> Checked
+    requires { ⌜ (n ≤ 64) × (2881 ≤ length (now rows)) ⌝ }
+    ensures { λ r. ⌜ typed (now (table .exit)) r
+        ≡ callIntoD (now (table .entry)) (globalsIn (now (rows .entry)) n (callee .0)) token result ty callee
+        (variablesAt (now (arguments .entry)) first count) ⌝ }
+{
+    match find_function(rows, n, callee) {
+        FoundRow::Absent => symbols::refuse(16, token, 0, 0, callee),
+        FoundRow::At(i) => {
+            let ret = result_type(rows, i);
+            if ret == 3 {
+                return symbols::refuse(18, token, 0, 0, Identifier(0));
+            }
+            match symbols::expect_type(token, ty, ret) {
+                Checked::Refused(e) => Checked::Refused(e),
+                Checked::Fine => enter_result(
+                    table,
+                    token,
+                    rows,
+                    i,
+                    result,
+                    ty,
+                    arguments,
+                    first,
+                    count,
+                ),
+            }
+        }
+    }
 }
