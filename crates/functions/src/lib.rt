@@ -4,6 +4,15 @@ mod known;
 mod rows;
 
 ghost use mathlib.Core.Path.{_≡_};
+ghost use Prim.Native.Nat.{ℕ, _≤_};
+ghost use lib.Dec.{leb, eqb};
+ghost use lib.ListN.{length};
+ghost use Rattle.lexer.specs.Decoded.{tokensOf};
+ghost use Rattle.body.specs.Room.{Within};
+ghost use Rattle.functions.specs.Known.{typesAfter};
+ghost use Rattle.functions.specs.Functions.{functionD, programD};
+ghost use Rattle.functions.specs.Rows.{knownFrom};
+ghost use Rattle.functions.specs.Answer.{Room, Long, slices, functionRead, FunctionHeld, programRead, Held};
 use parser::Refusal;
 use pieces::Identifier;
 
@@ -60,4 +69,15 @@ pub enum FunctionRead {
 pub enum ProgramRead {
     Done(Counts),
     Refused(Refusal),
+}
+
+// How many function types there are once this number is given.
+fn types_after(types: u32, ty: u32) -> u32
+    requires { ⌜ types ≤ 64 ⌝ }
+    ensures { λ r. ⌜ r ≡ typesAfter types ty ⌝ }
+{
+    if ty == types {
+        return types + 1;
+    }
+    types
 }

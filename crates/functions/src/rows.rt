@@ -6,6 +6,10 @@ ghost use lib.ListN.{length, getD};
 ghost use lib.Seq.{sets};
 ghost use Rattle.lexer.specs.Decoded.{tokensOf, tokenAt};
 ghost use Rattle.functions.specs.Rows.{rowAt, retAt};
+ghost use Rattle.functions.specs.Answer.{counts};
+use crate::Body;
+use crate::Counts;
+use crate::Head;
 use pieces::Identifier;
 
 // A name's length, by its record.
@@ -70,4 +74,52 @@ pub fn put_counts(
     rows[at + 4] = base as u32;
     rows[at + 5] = blocks as u32;
     rows[at + 6] = formals as u32;
+}
+
+// The cells before the formals, which stand there already.
+pub fn put_row(
+    rows: &mut [u32],
+    tokens: &[u32],
+    names: &[u32],
+    token: usize,
+    n: Counts,
+    h: Head,
+    b: Body,
+)
+    requires { ⌜ (n .functions < 64) × (token ≤ 4095) × (1 ≤ b .next) × (b .next ≤ 4096) × (n .items ≤ 4096)
+        × (b .items ≤ 4096) × (n .blocks ≤ 4096) × (b .blocks ≤ 4096) × (h .formals ≤ 16) × (2881 ≤ length (now rows)) ⌝ }
+    ensures { λ _. ⌜ now (rows .exit) ≡ sets (now (rows .entry)) (rowAt (n .functions))
+        (token ∷ h .name .0 ∷ (b .next - 1) ∷ tokenAt (tokensOf (now (tokens .entry))) token .place
+        ∷ getD (now (names .entry)) (h .name .0 * 2 + 1) 0 ∷ tokenAt (tokensOf (now (tokens .entry))) token .line .0
+        ∷ h .ret ∷ h .ty ∷ n .items ∷ b .items ∷ n .blocks ∷ b .blocks ∷ h .formals ∷ []) ⌝ }
+{
+    let i = n.functions;
+    put_name(rows, i, tokens, names, token, h.name, b.next - 1);
+    put_counts(
+        rows,
+        i,
+        h.ret,
+        h.ty,
+        n.items,
+        b.items,
+        n.blocks,
+        b.blocks,
+        h.formals,
+    );
+}
+
+// What is used with one function more.
+pub fn counts_after(n: Counts, b: Body) -> Counts
+    requires { ⌜ (n .functions ≤ 4096) × (n .items ≤ 4096) × (b .items ≤ 4096) × (n .arguments ≤ 4096) × (b .arguments ≤ 4096)
+        × (n .blocks ≤ 4096) × (b .blocks ≤ 4096) × (n .predecessors ≤ 4096) × (b .predecessors ≤ 4096) ⌝ }
+    ensures { λ r. ⌜ r ≡ counts (n .functions + 1) (n .items + b .items) (n .arguments + b .arguments)
+        (n .blocks + b .blocks) (n .predecessors + b .predecessors) ⌝ }
+{
+    Counts {
+        functions: n.functions + 1,
+        items: n.items + b.items,
+        arguments: n.arguments + b.arguments,
+        blocks: n.blocks + b.blocks,
+        predecessors: n.predecessors + b.predecessors,
+    }
 }
