@@ -1,0 +1,130 @@
+use borrow.Author.Tests.{lt-ltb, le-ltb, le-leb, lt-leb, eq-eqb, ne-eqb}
+use native.Mathlib.Omega.{arith}
+use native.Mathlib.Numerals.{add-one}
+use Prim.Native.Nat.{ℕ, suc, _+_, _-_, _*_, _≤_, _<_}
+use mathlib.Core.Path.{_≡_, refl, sym, ap, _∙_}
+use mathlib.Core.Logic.{⊎-elim}
+use mathlib.Core.List.{List, [], _∷_, _++_}
+use mathlib.Core.Bool.{Bool, true, false}
+use lib.ListN.{length, drop, take, getD}
+use lib.Seq.{drop-cons}
+use denote.Ref.{now}
+use borrow.Author.Needs.{needs}
+use Rattle.body.proofs.turns.turn.Statement.{statement}
+use Rattle.body.proofs.turns.turn.Tie as tie
+use Rattle.body.proofs.turns.turn.Reads as reads
+use Rattle.body.proofs.turns.turn.Lts as lts
+use Rattle.body.proofs.turns.add_ret.Reads as add-ret-reads
+use Rattle.body.proofs.turns.closes_body.Reads as closes-body-reads
+use Rattle.body.proofs.turns.item_turn.Reads as item-turn-reads
+use Rattle.body.proofs.turns.label_turn.Reads as label-turn-reads
+use Rattle.body.proofs.turns.lacks_ret.Reads as lacks-ret-reads
+use Rattle.lexer.proofs.token_at.Reads as token-at-reads
+
+-- src/turns.rt:140:9
+token-at-requires : tie.Need-token-at-requires
+token-at-requires c κs = search needs
+
+-- src/turns.rt:141:8
+closes-body-requires : tie.Need-closes-body-requires
+closes-body-requires c κs = search needs
+
+-- src/turns.rt:142:41
+lacks-ret-requires : tie.Need-lacks-ret-requires
+lacks-ret-requires c κs = search needs
+
+-- src/turns.rt:142:13
+add-ret-requires : tie.Need-add-ret-requires
+add-ret-requires c κs = search needs
+
+-- src/turns.rt:143:9
+same-length : tie.Need-same-length
+same-length c = search needs
+
+-- src/turns.rt:143:9
+returns : tie.Need-returns
+returns c =
+    let a = c .before .before .before .before .before .before .before .before .before .before .before .before .args in
+    let token-at = c .before .before .before .before .before .before .before .token-at in
+    let closes-body = c .before .before .before .before .before .before .closes-body in
+    let if1 = c .before .before .before .before .before .if1 in
+    let add-ret-arg = c .before .before .before .before .add-ret-arg in
+    let lacks-ret = c .before .before .before .lacks-ret in
+    let add-ret = c .before .before .add-ret in
+    let items = c .before .items in
+    ?returns
+
+-- src/turns.rt:151:9
+label-turn-requires : tie.Need-label-turn-requires
+label-turn-requires c κs = search needs
+
+-- src/turns.rt:151:9
+same-length-2 : tie.Need-same-length-2
+same-length-2 c = search needs
+
+-- src/turns.rt:151:9
+same-length-3 : tie.Need-same-length-3
+same-length-3 c = search needs
+
+-- src/turns.rt:151:9
+returns-2 : tie.Need-returns-2
+returns-2 c =
+    let a = c .before .before .before .before .before .before .before .before .before .before .before .before .before .before .before .before .args in
+    let token-at = c .before .before .before .before .before .before .before .before .before .before .before .token-at in
+    let closes-body = c .before .before .before .before .before .before .before .before .before .before .closes-body in
+    let if1 = c .before .before .before .before .before .before .before .before .before .if1 in
+    let struct-known = c .before .before .before .before .before .before .before .before .struct-known in
+    let if2 = c .before .before .before .before .before .before .before .if2 in
+    let label-turn-arg = c .before .before .before .before .before .before .label-turn-arg in
+    let label-turn-arg2 = c .before .before .before .before .before .label-turn-arg2 in
+    let label-turn = c .before .before .before .before .label-turn in
+    let items2 = c .before .before .before .items2 in
+    let labels = c .before .labels in
+    ?returns-2
+
+-- src/turns.rt:153:5
+item-turn-requires : tie.Need-item-turn-requires
+item-turn-requires c κs = search needs
+
+-- src/turns.rt:126:1
+same-length-4 : tie.Need-same-length-4
+same-length-4 c = search needs
+
+-- src/turns.rt:126:1
+same-length-5 : tie.Need-same-length-5
+same-length-5 c = search needs
+
+-- src/turns.rt:126:1
+returns-3 : tie.Need-returns-3
+returns-3 c =
+    let a = c .before .before .before .before .before .before .before .before .before .before .before .before .before .before .before .before .args in
+    let token-at = c .before .before .before .before .before .before .before .before .before .before .before .token-at in
+    let closes-body = c .before .before .before .before .before .before .before .before .before .before .closes-body in
+    let if1 = c .before .before .before .before .before .before .before .before .before .if1 in
+    let struct-known = c .before .before .before .before .before .before .before .before .struct-known in
+    let if2 = c .before .before .before .before .before .before .before .if2 in
+    let item-turn-arg = c .before .before .before .before .before .before .item-turn-arg in
+    let item-turn-arg2 = c .before .before .before .before .before .item-turn-arg2 in
+    let item-turn = c .before .before .before .before .item-turn in
+    let items3 = c .before .before .before .items3 in
+    let arguments = c .before .arguments in
+    ?returns-3
+
+pub turn-spec : {M : Type 1} → statement M
+turn-spec =
+    tie.close
+    (tie.spec
+    token-at-requires
+    closes-body-requires
+    lacks-ret-requires
+    add-ret-requires
+    same-length
+    returns
+    label-turn-requires
+    same-length-2
+    same-length-3
+    returns-2
+    item-turn-requires
+    same-length-4
+    same-length-5
+    returns-3)
