@@ -170,7 +170,6 @@ pub record Gone (ts : List Tok) (void : Bool) (s s′ : Going) (items₀ items a
 pub record Ended (ts : List Tok) (void : Bool) (s : Going) (e : Closed) (items₀ items arguments₀ arguments labels₀ labels : List ℕ)
     : Type 0 where
   pub goes : (room : ℕ) → bodyFrom ts (suc room) s labels₀ ≡ bodyEnd (C.At (e .next))
-  pub no-label : s .before ≡ afterLabel → ⊥
   pub one : s .at + 1 ≤ e .next
   pub within : Within ts (e .next)
   pub items-next : e .items ≡ s .items + length (added (lacksRet void (s .before)) (s .last))

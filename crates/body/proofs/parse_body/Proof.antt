@@ -24,19 +24,19 @@ abbrev μ-loop : tie.MeasureT-loop
 
 -- src/lib.rt:90:5
 loop-holds : tie.Need-loop-holds Inv-loop μ-loop
-loop-holds c = search needs
+loop-holds c = ?
 
 -- src/lib.rt:91:15
 turn-requires : tie.Need-turn-requires Inv-loop μ-loop
-turn-requires c κs = search needs
+turn-requires c κs = ?
 
 -- src/lib.rt:92:22
 enum-known-next : tie.Need-enum-known-next Inv-loop μ-loop
-enum-known-next c = search needs
+enum-known-next c = ?
 
 -- src/lib.rt:90:5
 loop-less : tie.Need-loop-less Inv-loop μ-loop
-loop-less c = search needs
+loop-less c = ?
 
 -- src/lib.rt:90:5
 loop-again : tie.Need-loop-again Inv-loop μ-loop
@@ -57,27 +57,27 @@ loop-again c =
 
 -- src/lib.rt:95:24
 enum-known-e : tie.Need-enum-known-e Inv-loop μ-loop
-enum-known-e c = search needs
+enum-known-e c = ?
 
 -- src/lib.rt:98:28
 sub-t20 : tie.Need-sub-t20 Inv-loop μ-loop
-sub-t20 c = search needs
+sub-t20 c = ?
 
 -- src/lib.rt:99:32
 sub-t21 : tie.Need-sub-t21 Inv-loop μ-loop
-sub-t21 c = search needs
+sub-t21 c = ?
 
 -- src/lib.rt:96:17
 same-length : tie.Need-same-length Inv-loop μ-loop
-same-length c = search needs
+same-length c = ?
 
 -- src/lib.rt:96:17
 same-length-2 : tie.Need-same-length-2 Inv-loop μ-loop
-same-length-2 c = search needs
+same-length-2 c = ?
 
 -- src/lib.rt:96:17
 same-length-3 : tie.Need-same-length-3 Inv-loop μ-loop
-same-length-3 c = search needs
+same-length-3 c = ?
 
 -- src/lib.rt:96:17
 returns : tie.Need-returns Inv-loop μ-loop
@@ -100,19 +100,19 @@ returns c =
 
 -- src/lib.rt:103:27
 enum-known-e-2 : tie.Need-enum-known-e-2 Inv-loop μ-loop
-enum-known-e-2 c = search needs
+enum-known-e-2 c = ?
 
 -- src/lib.rt:104:17
 same-length-4 : tie.Need-same-length-4 Inv-loop μ-loop
-same-length-4 c = search needs
+same-length-4 c = ?
 
 -- src/lib.rt:104:17
 same-length-5 : tie.Need-same-length-5 Inv-loop μ-loop
-same-length-5 c = search needs
+same-length-5 c = ?
 
 -- src/lib.rt:104:17
 same-length-6 : tie.Need-same-length-6 Inv-loop μ-loop
-same-length-6 c = search needs
+same-length-6 c = ?
 
 -- src/lib.rt:104:17
 returns-2 : tie.Need-returns-2 Inv-loop μ-loop

@@ -40,7 +40,7 @@ cast-record-of c = search needs
 
 -- src/item.rt:38:86
 cast-record-of-2 : tie.Need-cast-record-of-2
-cast-record-of-2 c = search needs
+cast-record-of-2 c = ?
 
 -- src/item.rt:38:17
 record-of-requires : tie.Need-record-of-requires
@@ -52,7 +52,7 @@ put-record-requires c κs = search needs
 
 -- src/item.rt:40:31
 add-t25 : tie.Need-add-t25
-add-t25 c = search needs
+add-t25 c = ?
 
 -- src/item.rt:17:1
 same-length : tie.Need-same-length

@@ -34,7 +34,7 @@ enum-known-o c = search needs
 
 -- src/item.rt:63:17
 operation-record-requires : tie.Need-operation-record-requires
-operation-record-requires c κs = search needs
+operation-record-requires c κs = ?
 
 -- src/item.rt:64:13
 put-record-requires : tie.Need-put-record-requires
@@ -46,7 +46,7 @@ enum-known-word c = search needs
 
 -- src/item.rt:67:31
 parse-call-item-requires : tie.Need-parse-call-item-requires
-parse-call-item-requires c κs = search needs
+parse-call-item-requires c κs = ?
 
 -- src/item.rt:68:26
 enum-known-v : tie.Need-enum-known-v
@@ -58,7 +58,7 @@ type-cell-requires c κs = search needs
 
 -- src/item.rt:71:13
 parse-call-item-requires-2 : tie.Need-parse-call-item-requires-2
-parse-call-item-requires-2 c κs = search needs
+parse-call-item-requires-2 c κs = ?
 
 -- src/item.rt:46:1
 returns : tie.Need-returns

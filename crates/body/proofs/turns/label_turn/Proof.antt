@@ -46,23 +46,23 @@ record-of-requires c κs = search needs
 
 -- src/turns.rt:112:13
 put-record-requires : tie.Need-put-record-requires
-put-record-requires c κs = search needs
+put-record-requires c κs = ?
 
 -- src/turns.rt:113:13
 mul-labels : tie.Need-mul-labels
-mul-labels c = search needs
+mul-labels c = ?
 
 -- src/turns.rt:113:13
 slice-write-labels : tie.Need-slice-write-labels
-slice-write-labels c = search needs
+slice-write-labels c = ?
 
 -- src/turns.rt:116:24
 add-t23 : tie.Need-add-t23
-add-t23 c = search needs
+add-t23 c = ?
 
 -- src/turns.rt:118:25
 add-t25 : tie.Need-add-t25
-add-t25 c = search needs
+add-t25 c = ?
 
 -- src/turns.rt:101:1
 same-length : tie.Need-same-length

@@ -1,0 +1,3 @@
+pub mod Cells
+pub mod Progress
+pub mod Reading
