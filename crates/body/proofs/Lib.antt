@@ -1,3 +1,5 @@
 pub mod Cells
+pub mod Items
 pub mod Progress
 pub mod Reading
+pub mod Turning

@@ -25,7 +25,8 @@ fn parse_call_item(
     arguments: &mut [u32],
     used: usize,
 ) -> ItemRead
-    requires { ⌜ (word ≤ 4095) × (used ≤ 3448) × (n * 8 + 8 ≤ length (now items)) × (6928 ≤ length (now arguments)) ⌝ }
+    requires { ⌜ Within (tokensOf (now tokens)) word
+        × (used ≤ 3448) × (n * 8 + 8 ≤ length (now items)) × (6928 ≤ length (now arguments)) ⌝ }
     ensures { λ r. ⌜ r ≡ callRead kind word dest dty used (callD (tokensOf (now (tokens .entry))) word) ⌝ }
     ensures { λ _. ⌜ CallHeld n used (callRecord kind word dest dty used (callD (tokensOf (now (tokens .entry))) word))
         (variablesCells (callD (tokensOf (now (tokens .entry))) word .arguments .list))

@@ -10,6 +10,15 @@ use lib.ListN.{length, drop, take, getD}
 use lib.Seq.{drop-cons}
 use denote.Ref.{now}
 use borrow.Author.Needs.{needs}
+use native.Mathlib.Nat.{add-zero}
+use Rattle.lexer.specs.Decoded.{tokensOf}
+use Rattle.parser.specs.Step.{thenAt}
+use Rattle.parser.specs.Runs.{callD, variablesCells}
+use Rattle.parser.specs.Body.{itemD, parsedItem, callInto}
+use Rattle.body.specs.Records.{recordOf}
+use Rattle.body.specs.Turns.{itemRead, callRead, callRecord}
+use Rattle.body.proofs.Progress.{call-in, instruction-in}
+use Rattle.body.proofs.Items.{called-done, called-refused, call-item, call-into-item}
 use Rattle.body.proofs.item.parse_call_item.Statement.{statement}
 use Rattle.body.proofs.item.parse_call_item.Tie as tie
 use Rattle.body.proofs.item.parse_call_item.Reads as reads
@@ -40,7 +49,12 @@ cast-record-of c = search needs
 
 -- src/item.rt:38:86
 cast-record-of-2 : tie.Need-cast-record-of-2
-cast-record-of-2 c = ?
+cast-record-of-2 c = 
+    let ts = tokensOf (now (c .before .before .before .before .before .before .before .before .before .before .args .tokens)) in
+    let w = c .before .before .before .before .before .before .before .before .before .before .pre .0 in
+    let d = called-done (callD ts (c .before .before .before .before .before .before .before .before .before .before .args .word)) (sym (c .before .callee .given .1) ∙ c .before .before .before .before .before .parse-call .ensures .0) in
+    let few = call-in ts (w .last) (w .ends) (c .before .before .before .before .before .before .before .before .before .before .args .word) (w .reached) .few in
+    omega (arith, few, d .2)
 
 -- src/item.rt:38:17
 record-of-requires : tie.Need-record-of-requires
@@ -52,7 +66,12 @@ put-record-requires c κs = search needs
 
 -- src/item.rt:40:31
 add-t25 : tie.Need-add-t25
-add-t25 c = ?
+add-t25 c = 
+    let ts = tokensOf (now (c .before .before .before .before .before .before .before .before .before .before .before .before .before .before .before .args .tokens)) in
+    let w = c .before .before .before .before .before .before .before .before .before .before .before .before .before .before .before .pre .0 in
+    let d = called-done (callD ts (c .before .before .before .before .before .before .before .before .before .before .before .before .before .before .before .args .word)) (sym (c .before .before .before .before .before .before .callee .given .1) ∙ c .before .before .before .before .before .before .before .before .before .before .parse-call .ensures .0) in
+    let few = call-in ts (w .last) (w .ends) (c .before .before .before .before .before .before .before .before .before .before .before .before .before .before .before .args .word) (w .reached) .few in
+    omega (arith, few, d .2, c .before .before .before .before .before .before .before .before .before .before .before .before .before .before .before .pre .1)
 
 -- src/item.rt:17:1
 same-length : tie.Need-same-length
@@ -60,15 +79,11 @@ same-length c = search needs
 
 -- src/item.rt:17:1
 returns : tie.Need-returns
-returns c =
-    let a = c .before .before .before .before .before .before .before .before .before .before .args in
-    let parse-call-arg = c .before .before .before .before .before .before .parse-call-arg in
-    let parse-call = c .before .before .before .before .before .parse-call in
-    let arguments = c .before .before .before .before .arguments in
-    let match = c .before .before .match in
-    let e = c .before .e in
-    let known-told = c .known-told in
-    ?returns
+unfolding callRead thenAt
+returns c = let ts = tokensOf (now (c .before .before .before .before .before .before .before .before .before .before .args .tokens)) in
+    let w = c .before .before .before .before .before .before .before .before .before .before .pre .0 in
+    let end = called-refused (callD ts (c .before .before .before .before .before .before .before .before .before .before .args .word)) (sym (c .before .e .given .1) ∙ c .before .before .before .before .before .parse-call .ensures .0) in
+    rw end (refl, tt)
 
 -- src/item.rt:17:1
 same-length-2 : tie.Need-same-length-2
@@ -80,19 +95,17 @@ same-length-3 c = search needs
 
 -- src/item.rt:17:1
 returns-2 : tie.Need-returns-2
-returns-2 c =
-    let a = c .before .before .before .before .before .before .before .before .before .before .before .before .before .before .before .args in
-    let parse-call-arg = c .before .before .before .before .before .before .before .before .before .before .before .parse-call-arg in
-    let parse-call = c .before .before .before .before .before .before .before .before .before .before .parse-call in
-    let arguments = c .before .before .before .before .before .before .before .before .before .arguments in
-    let match = c .before .before .before .before .before .before .before .match in
-    let callee = c .before .before .before .before .before .before .callee in
-    let known-told2 = c .before .before .before .before .before .known-told2 in
-    let record-of = c .before .before .before .before .record-of in
-    let put-record-arg = c .before .before .before .put-record-arg in
-    let put-record = c .before .before .put-record in
-    let items = c .before .items in
-    ?returns-2
+unfolding callRead thenAt
+returns-2 c = let ts = tokensOf (now (c .before .before .before .before .before .before .before .before .before .before .before .before .before .before .before .args .tokens)) in
+    let w = c .before .before .before .before .before .before .before .before .before .before .before .before .before .before .before .pre .0 in
+    let d = called-done (callD ts (c .before .before .before .before .before .before .before .before .before .before .before .before .before .before .before .args .word)) (sym (c .before .before .before .before .before .before .callee .given .1) ∙ c .before .before .before .before .before .before .before .before .before .before .parse-call .ensures .0) in
+    let few = call-in ts (w .last) (w .ends) (c .before .before .before .before .before .before .before .before .before .before .before .before .before .before .before .args .word) (w .reached) .few in
+    rw (d .0, c .before .before .before .before .record-of .ensures, d .1, d .2)
+    (refl,
+    record {
+      items-are = rw (c .before .before .before .before .record-of .ensures) at (c .before .before .put-record .ensures);
+      arguments-are = c .before .before .before .before .before .before .before .before .before .before .parse-call .ensures .1;
+    })
 
 pub parse-call-item-spec : {M : Type 1} → statement M
 parse-call-item-spec =

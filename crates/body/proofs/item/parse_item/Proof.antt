@@ -10,6 +10,15 @@ use lib.ListN.{length, drop, take, getD}
 use lib.Seq.{drop-cons}
 use denote.Ref.{now}
 use borrow.Author.Needs.{needs}
+use native.Mathlib.Nat.{add-zero}
+use Rattle.lexer.specs.Decoded.{tokensOf}
+use Rattle.parser.specs.Step.{thenAt}
+use Rattle.parser.specs.Runs.{callD, variablesCells}
+use Rattle.parser.specs.Body.{itemD, parsedItem, callInto}
+use Rattle.body.specs.Records.{recordOf}
+use Rattle.body.specs.Turns.{itemRead, callRead, callRecord}
+use Rattle.body.proofs.Progress.{call-in, instruction-in}
+use Rattle.body.proofs.Items.{called-done, called-refused, call-item, call-into-item}
 use Rattle.body.proofs.item.parse_item.Statement.{statement}
 use Rattle.body.proofs.item.parse_item.Tie as tie
 use Rattle.body.proofs.item.parse_item.Reads as reads
@@ -34,7 +43,11 @@ enum-known-o c = search needs
 
 -- src/item.rt:63:17
 operation-record-requires : tie.Need-operation-record-requires
-operation-record-requires c κs = ?
+operation-record-requires c κs = 
+    let ts = tokensOf (now (c .before .before .before .before .before .before .before .args .tokens)) in
+    let w = c .before .before .before .before .before .before .before .pre .0 in
+    let p = rw (← c .before .before .before .parse-instruction .ensures, c .before .o .given .1) at (instruction-in ts (w .last) (w .ends) (c .before .before .before .before .before .before .before .args .at) (w .reached)) in
+    omega (arith, p .2, w .few)
 
 -- src/item.rt:64:13
 put-record-requires : tie.Need-put-record-requires
@@ -46,7 +59,11 @@ enum-known-word c = search needs
 
 -- src/item.rt:67:31
 parse-call-item-requires : tie.Need-parse-call-item-requires
-parse-call-item-requires c κs = ?
+parse-call-item-requires c κs = 
+    let ts = tokensOf (now (c .before .before .before .before .before .before .before .before .before .args .tokens)) in
+    let w = c .before .before .before .before .before .before .before .before .before .pre .0 in
+    let p = rw (← c .before .before .before .before .before .parse-instruction .ensures, c .before .before .before .word .given .1) at (instruction-in ts (w .last) (w .ends) (c .before .before .before .before .before .before .before .before .before .args .at) (w .reached)) in
+    (record { last = w .last; ends = w .ends; reached = p .1; few = w .few }, c .before .before .before .before .before .before .before .before .before .pre .1, c .before .before .before .before .before .before .before .before .before .pre .2, c .before .before .before .before .before .before .before .before .before .pre .3)
 
 -- src/item.rt:68:26
 enum-known-v : tie.Need-enum-known-v
@@ -58,17 +75,16 @@ type-cell-requires c κs = search needs
 
 -- src/item.rt:71:13
 parse-call-item-requires-2 : tie.Need-parse-call-item-requires-2
-parse-call-item-requires-2 c κs = ?
+parse-call-item-requires-2 c κs = 
+    let ts = tokensOf (now (c .before .before .before .before .before .before .before .before .before .before .args .tokens)) in
+    let w = c .before .before .before .before .before .before .before .before .before .before .pre .0 in
+    let p = rw (← c .before .before .before .before .before .before .parse-instruction .ensures, c .before .before .before .before .v .given .1) at (instruction-in ts (w .last) (w .ends) (c .before .before .before .before .before .before .before .before .before .before .args .at) (w .reached)) in
+    (record { last = w .last; ends = w .ends; reached = p .1; few = w .few }, c .before .before .before .before .before .before .before .before .before .before .pre .1, c .before .before .before .before .before .before .before .before .before .before .pre .2, c .before .before .before .before .before .before .before .before .before .before .pre .3)
 
 -- src/item.rt:46:1
 returns : tie.Need-returns
-returns c =
-    let a = c .before .before .before .before .before .before .before .args in
-    let parse-instruction = c .before .before .before .parse-instruction in
-    let match = c .before .before .match in
-    let e = c .before .e in
-    let known-told = c .known-told in
-    ?returns
+unfolding itemD parsedItem itemRead
+returns c = rw (← c .before .before .before .parse-instruction .ensures, c .before .e .given .1) (refl, tt)
 
 -- src/item.rt:46:1
 same-length : tie.Need-same-length
@@ -76,17 +92,9 @@ same-length c = search needs
 
 -- src/item.rt:46:1
 returns-2 : tie.Need-returns-2
-returns-2 c =
-    let a = c .before .before .before .before .before .before .before .before .before .before .before .before .args in
-    let parse-instruction = c .before .before .before .before .before .before .before .before .parse-instruction in
-    let match = c .before .before .before .before .before .before .before .match in
-    let o = c .before .before .before .before .before .before .o in
-    let known-told2 = c .before .before .before .before .before .known-told2 in
-    let operation-record = c .before .before .before .before .operation-record in
-    let put-record-arg = c .before .before .before .put-record-arg in
-    let put-record = c .before .before .put-record in
-    let items = c .before .items in
-    ?returns-2
+unfolding itemD parsedItem itemRead recordOf variablesCells
+returns-2 c = rw (← c .before .before .before .before .before .before .before .before .parse-instruction .ensures, c .before .before .before .before .before .before .o .given .1, c .before .before .before .before .operation-record .ensures, add-zero)
+    (refl, record { items-are = rw (c .before .before .before .before .operation-record .ensures) at (c .before .before .put-record .ensures); arguments-are = refl })
 
 -- src/item.rt:46:1
 same-length-2 : tie.Need-same-length-2
@@ -98,18 +106,13 @@ same-length-3 c = search needs
 
 -- src/item.rt:46:1
 returns-3 : tie.Need-returns-3
-returns-3 c =
-    let a = c .before .before .before .before .before .before .before .before .before .before .before .before .before .before .args in
-    let parse-instruction = c .before .before .before .before .before .before .before .before .before .before .parse-instruction in
-    let match = c .before .before .before .before .before .before .before .before .before .match in
-    let word = c .before .before .before .before .before .before .before .before .word in
-    let known-told3 = c .before .before .before .before .before .before .before .known-told3 in
-    let parse-call-item-arg = c .before .before .before .before .before .before .parse-call-item-arg in
-    let parse-call-item-arg2 = c .before .before .before .before .before .parse-call-item-arg2 in
-    let parse-call-item = c .before .before .before .before .parse-call-item in
-    let items2 = c .before .before .before .items2 in
-    let arguments = c .before .arguments in
-    ?returns-3
+unfolding itemD parsedItem
+returns-3 c = let ts = tokensOf (now (c .before .before .before .before .before .before .before .before .before .before .before .before .before .before .args .tokens)) in
+    let w = c .before .before .before .before .before .before .before .before .before .before .before .before .before .before .pre .0 in
+    let word = c .before .before .before .before .before .before .before .before .word .given .0 .0 in
+    let call = c .before .before .before .before .parse-call-item in
+    let h = call-item word (c .before .before .before .before .before .before .before .before .before .before .before .before .before .before .args .n) (c .before .before .before .before .before .before .before .before .before .before .before .before .before .before .args .used) (callD ts word) (now (c .before .before .before .before .before .before .before .before .before .before .before .before .before .before .args .items)) (call .last .1 .1 .1 .1 .1 .0) (now (c .before .before .before .before .before .before .before .before .before .before .before .before .before .before .args .arguments)) (call .last .1 .1 .1 .1 .1 .1 .1 .0) (call .ensures .1) in
+    rw (← c .before .before .before .before .before .before .before .before .before .before .parse-instruction .ensures, c .before .before .before .before .before .before .before .before .word .given .1, call .ensures .0) (h .0, h .1)
 
 -- src/item.rt:46:1
 same-length-4 : tie.Need-same-length-4
@@ -121,19 +124,17 @@ same-length-5 c = search needs
 
 -- src/item.rt:46:1
 returns-4 : tie.Need-returns-4
-returns-4 c =
-    let a = c .before .before .before .before .before .before .before .before .before .before .before .before .before .before .before .args in
-    let parse-instruction = c .before .before .before .before .before .before .before .before .before .before .before .parse-instruction in
-    let match = c .before .before .before .before .before .before .before .before .before .before .match in
-    let v = c .before .before .before .before .before .before .before .before .before .v in
-    let known-told4 = c .before .before .before .before .before .before .before .before .known-told4 in
-    let type-cell = c .before .before .before .before .before .before .before .type-cell in
-    let parse-call-item-arg3 = c .before .before .before .before .before .before .parse-call-item-arg3 in
-    let parse-call-item-arg4 = c .before .before .before .before .before .parse-call-item-arg4 in
-    let parse-call-item2 = c .before .before .before .before .parse-call-item2 in
-    let items3 = c .before .before .before .items3 in
-    let arguments2 = c .before .arguments2 in
-    ?returns-4
+unfolding itemD parsedItem recordOf
+returns-4 c = let ts = tokensOf (now (c .before .before .before .before .before .before .before .before .before .before .before .before .before .before .before .args .tokens)) in
+    let w = c .before .before .before .before .before .before .before .before .before .before .before .before .before .before .before .pre .0 in
+    let v = c .before .before .before .before .before .before .before .before .before .v .given .0 .0 in
+    let word = c .before .before .before .before .before .before .before .before .before .v .given .0 .1 .0 in
+    let call = c .before .before .before .before .parse-call-item2 in
+    let t = c .before .before .before .before .before .before .before .type-cell .result in
+    let c′ = callD ts word in
+    let q : callRecord 6 word (v .id .0) t (c .before .before .before .before .before .before .before .before .before .before .before .before .before .before .before .args .used) c′ ≡ recordOf (c .before .before .before .before .before .before .before .before .before .before .before .before .before .before .before .args .used) (callInto word v (c′ .callee) (c′ .arguments .list)) = rw (c .before .before .before .before .before .before .before .type-cell .ensures) in
+    let h = call-into-item word (c .before .before .before .before .before .before .before .before .before .before .before .before .before .before .before .args .n) (c .before .before .before .before .before .before .before .before .before .before .before .before .before .before .before .args .used) v t c′ (now (c .before .before .before .before .before .before .before .before .before .before .before .before .before .before .before .args .items)) (call .last .1 .1 .1 .1 .1 .0) (now (c .before .before .before .before .before .before .before .before .before .before .before .before .before .before .before .args .arguments)) (call .last .1 .1 .1 .1 .1 .1 .1 .0) q (call .ensures .1) in
+    rw (← c .before .before .before .before .before .before .before .before .before .before .before .parse-instruction .ensures, c .before .before .before .before .before .before .before .before .before .v .given .1, call .ensures .0) (h .0, h .1)
 
 pub parse-item-spec : {M : Type 1} → statement M
 parse-item-spec =
