@@ -100,7 +100,7 @@ module _ (ts : List Tok) (void : Bool) (s : Going) (l : Identifier) (next : ℕ)
 -- The body from a state on. -----------------------------------------------------------------------------------------
 
 module _ (ts : List Tok) (void : Bool) (s : Going) (items₀ items labels₀ : List ℕ)
-    (open : closes (s .before) (tokenAt ts (s .at) .kind) ≡ false) where
+    (goes-on : closes (s .before) (tokenAt ts (s .at) .kind) ≡ false) (few : s .labels ≤ 255) where
   pub label-turned : (r : Turn) (arguments labels : List ℕ) → eqb (tokenAt ts (s .at) .kind) 3 ≡ true
       → LabelTurned ts void s items₀ items labels₀ labels r
       → Turned ts void s items₀ items arguments arguments labels₀ labels r
@@ -109,7 +109,7 @@ module _ (ts : List Tok) (void : Bool) (s : Going) (items₀ items labels₀ : L
       let t = h .taken in
       record {
         read = label (s .at) (h .name);
-        goes = λ room. rw (open, k, h .goes, h .labels-are, t .before-next);
+        goes = λ room. rw (goes-on, k, h .goes, h .labels-are, t .before-next);
         labels-next = h .labels-next;
         labels-few = h .labels-few;
         labels-are = h .labels-are;
@@ -125,7 +125,7 @@ module _ (ts : List Tok) (void : Bool) (s : Going) (items₀ items labels₀ : L
             };
       }
   label-turned (T.Done e) arguments labels k h = absurd h
-  label-turned (T.Refused e) arguments labels k h = λ room. rw (open, k, h)
+  label-turned (T.Refused e) arguments labels k h = λ room. rw (goes-on, k, h)
 
   pub item-turned : (r : Turn) (arguments₀ arguments : List ℕ) → eqb (tokenAt ts (s .at) .kind) 3 ≡ false
       → ItemTurned ts s items₀ items arguments₀ arguments r
@@ -137,14 +137,14 @@ module _ (ts : List Tok) (void : Bool) (s : Going) (items₀ items labels₀ : L
       record {
         read = h .read;
         goes = λ room.
-            rw (open, k)
+            rw (goes-on, k)
             (h .goes (λ i at1. record { items = i ∷ bodyD ts room (take (s .labels) labels₀) (behind i) at1 .items; end = bodyD ts room (take (s .labels) labels₀) (behind i) at1 .end })
             ∙ rw (h .labels-next, t .before-next, h .before-same));
         labels-next = rw (h .no-label, add-zero) (h .labels-next);
-        labels-few = ?few;
+        labels-few = rw (h .labels-next) few;
         labels-are = rw (h .labels-next, h .no-label) (sym (append-nil (take (s .labels) labels₀)));
         passed = h .passed;
         taken = t;
       }
   item-turned (T.Done e) arguments₀ arguments k h = absurd h
-  item-turned (T.Refused e) arguments₀ arguments k h = λ room. rw (open, k) (h _)
+  item-turned (T.Refused e) arguments₀ arguments k h = λ room. rw (goes-on, k) (h _)

@@ -10,6 +10,15 @@ use lib.ListN.{length, drop, take, getD}
 use lib.Seq.{drop-cons}
 use denote.Ref.{now}
 use borrow.Author.Needs.{needs}
+use Rattle.lexer.specs.Decoded.{tokensOf, tokenAt}
+use Rattle.parser.specs.Labels.{labelledD}
+use Rattle.parser.specs.Body.{itemD, lacksRet, closes, bodyD}
+use Rattle.parser.specs.Step.{opened}
+use Rattle.parser.specs.declared.Named.the-variants as N
+use Rattle.body.specs.Records.{recordOf, itemsCells}
+use Rattle.body.specs.Turns.{itemThen, added}
+use Rattle.body.proofs.Items.{read-refused, read-done, record-token, item-refused, item-late, item-taken}
+use Rattle.body.proofs.Turning.{added-short, label-room, label-taken, label-turned, item-turned}
 use Rattle.body.proofs.turns.item_turn.Statement.{statement}
 use Rattle.body.proofs.turns.item_turn.Tie as tie
 use Rattle.body.proofs.turns.item_turn.Reads as reads
@@ -48,20 +57,16 @@ same-length-2 c = search needs
 
 -- src/turns.rt:86:17
 returns : tie.Need-returns
-returns c =
-    let a = c .before .before .before .before .before .before .before .before .before .before .before .before .before .before .before .before .args in
-    let parse-item-arg = c .before .before .before .before .before .before .before .before .before .before .before .before .parse-item-arg in
-    let parse-item-arg2 = c .before .before .before .before .before .before .before .before .before .before .before .parse-item-arg2 in
-    let parse-item = c .before .before .before .before .before .before .before .before .before .before .parse-item in
-    let items = c .before .before .before .before .before .before .before .before .before .items in
-    let arguments = c .before .before .before .before .before .before .before .arguments in
-    let match = c .before .before .before .before .before .match in
-    let r = c .before .before .before .before .r in
-    let known-told2 = c .before .before .before .known-told2 in
-    let struct-known = c .before .before .struct-known in
-    let if1 = c .before .if1 in
-    let refuse = c .refuse in
-    ?returns
+returns c = 
+    let ts = tokensOf (now (c .before .before .before .before .before .before .before .before .before .before .before .before .before .before .before .before .args .tokens)) in
+    let s = c .before .before .before .before .before .before .before .before .before .before .before .before .before .before .before .before .args .s in
+    let parse = c .before .before .before .before .before .before .before .before .before .before .parse-item in
+    let d =
+    read-done (s .items) (s .arguments) (itemD ts (s .at)) (now (c .before .before .before .before .before .before .before .before .before .before .before .before .before .before .before .before .args .items)) (parse .last .1 .1 .0) (now (c .before .before .before .before .before .before .before .before .before .before .before .before .before .before .before .before .args .arguments))
+    (parse .last .1 .1 .1 .1 .0) (sym (c .before .before .before .before .r .given .1) ∙ parse .ensures .0) (parse .ensures .1) in
+    λ k.
+    rw (c .refuse .ensures, d .record-is, record-token (s .arguments) (d .read))
+    (item-late ts (s .before) (s .at) (d .read) (c .before .before .before .before .r .given .0 .1 .1 .0) (d .is) (c .before .if1 .taken) k)
 
 -- src/turns.rt:90:24
 add-t22 : tie.Need-add-t22
@@ -81,17 +86,11 @@ same-length-4 c = search needs
 
 -- src/turns.rt:72:1
 returns-2 : tie.Need-returns-2
-returns-2 c =
-    let a = c .before .before .before .before .before .before .before .before .before .before .before .before .before .args in
-    let parse-item-arg = c .before .before .before .before .before .before .before .before .before .parse-item-arg in
-    let parse-item-arg2 = c .before .before .before .before .before .before .before .before .parse-item-arg2 in
-    let parse-item = c .before .before .before .before .before .before .before .parse-item in
-    let items = c .before .before .before .before .before .before .items in
-    let arguments = c .before .before .before .before .arguments in
-    let match = c .before .before .match in
-    let e = c .before .e in
-    let known-told = c .known-told in
-    ?returns-2
+returns-2 c = 
+    let ts = tokensOf (now (c .before .before .before .before .before .before .before .before .before .before .before .before .before .args .tokens)) in
+    let s = c .before .before .before .before .before .before .before .before .before .before .before .before .before .args .s in
+    let q = read-refused (s .arguments) (itemD ts (s .at)) (sym (c .before .e .given .1) ∙ c .before .before .before .before .before .before .before .parse-item .ensures .0) in
+    item-refused ts (s .before) (s .at) (c .before .e .given .0 .0) q
 
 -- src/turns.rt:72:1
 same-length-5 : tie.Need-same-length-5
@@ -103,20 +102,25 @@ same-length-6 c = search needs
 
 -- src/turns.rt:72:1
 returns-3 : tie.Need-returns-3
-returns-3 c =
-    let a = c .before .before .before .before .before .before .before .before .before .before .before .before .before .before .before .before .args in
-    let parse-item-arg = c .before .before .before .before .before .before .before .before .before .before .before .before .parse-item-arg in
-    let parse-item-arg2 = c .before .before .before .before .before .before .before .before .before .before .before .parse-item-arg2 in
-    let parse-item = c .before .before .before .before .before .before .before .before .before .before .parse-item in
-    let items = c .before .before .before .before .before .before .before .before .before .items in
-    let arguments = c .before .before .before .before .before .before .before .arguments in
-    let match = c .before .before .before .before .before .match in
-    let r = c .before .before .before .before .r in
-    let known-told2 = c .before .before .before .known-told2 in
-    let struct-known = c .before .before .struct-known in
-    let if1 = c .before .if1 in
-    let behind-kind = c .behind-kind in
-    ?returns-3
+returns-3 c = 
+    let ts = tokensOf (now (c .before .before .before .before .before .before .before .before .before .before .before .before .before .before .before .before .args .tokens)) in
+    let s = c .before .before .before .before .before .before .before .before .before .before .before .before .before .before .before .before .args .s in
+    let parse = c .before .before .before .before .before .before .before .before .before .before .parse-item in
+    let d =
+    read-done (s .items) (s .arguments) (itemD ts (s .at)) (now (c .before .before .before .before .before .before .before .before .before .before .before .before .before .before .before .before .args .items)) (parse .last .1 .1 .0) (now (c .before .before .before .before .before .before .before .before .before .before .before .before .before .before .before .before .args .arguments))
+    (parse .last .1 .1 .1 .1 .0) (sym (c .before .before .before .before .r .given .1) ∙ parse .ensures .0) (parse .ensures .1) in
+    let next = c .before .before .before .before .r .given .0 .1 .1 .0 in
+    λ void.
+    item-taken ts void s
+    (record {
+      at = next;
+      items = s .items + 1;
+      arguments = c .before .before .before .before .r .given .0 .1 .0;
+      labels = s .labels;
+      before = c .behind-kind .result;
+      last = c .before .before .before .before .r .given .0 .0 .token;
+    }) (d .read) (now (c .before .before .before .before .before .before .before .before .before .before .before .before .before .before .before .before .args .items)) (parse .last .1 .1 .0) (now (c .before .before .before .before .before .before .before .before .before .before .before .before .before .before .before .before .args .arguments)) (parse .last .1 .1 .1 .1 .0)
+    (c .before .before .before .before .before .before .before .before .before .before .before .before .before .before .before .before .pre .0 .within) (d .is) (c .before .if1 .left) refl (d .then-is) refl (rw (← d .record-is) (c .behind-kind .ensures)) (rw (← d .record-is) refl) (d .put)
 
 pub item-turn-spec : {M : Type 1} → statement M
 item-turn-spec =

@@ -10,6 +10,15 @@ use lib.ListN.{length, drop, take, getD}
 use lib.Seq.{drop-cons}
 use denote.Ref.{now}
 use borrow.Author.Needs.{needs}
+use Rattle.lexer.specs.Decoded.{tokensOf, tokenAt}
+use Rattle.parser.specs.Labels.{labelledD}
+use Rattle.parser.specs.Body.{itemD, lacksRet, closes, bodyD}
+use Rattle.parser.specs.Step.{opened}
+use Rattle.parser.specs.declared.Named.the-variants as N
+use Rattle.body.specs.Records.{recordOf, itemsCells}
+use Rattle.body.specs.Turns.{itemThen, added}
+use Rattle.body.proofs.Items.{read-refused, read-done, record-token, item-refused, item-late, item-taken}
+use Rattle.body.proofs.Turning.{added-short, label-room, label-taken, label-turned, item-turned}
 use Rattle.body.proofs.turns.label_turn.Statement.{statement}
 use Rattle.body.proofs.turns.label_turn.Tie as tie
 use Rattle.body.proofs.turns.label_turn.Reads as reads
@@ -46,23 +55,63 @@ record-of-requires c κs = search needs
 
 -- src/turns.rt:112:13
 put-record-requires : tie.Need-put-record-requires
-put-record-requires c κs = ?
+put-record-requires c κs = 
+    let ts = tokensOf (now (c .before .before .before .before .before .before .before .before .before .before .before .before .before .before .before .args .tokens)) in
+    let s = c .before .before .before .before .before .before .before .before .before .before .before .before .before .before .before .args .s in
+    let q = sym (c .before .before .before .before .before .before .before .before .before .before .parse-label .ensures) ∙ c .before .before .before .before .before .before .before .before .label .given .1 in
+    let few : s .labels ≤ length (now (c .before .before .before .before .before .before .before .before .before .before .before .before .before .before .before .args .labels)) = omega (arith, c .before .before .before .before .before .before .before .before .before .before .before .before .before .before .before .pre .0 .labels-few, c .before .before .before .before .before .before .before .before .before .before .before .before .before .before .before .pre .2) in
+    let l = c .before .before .before .before .before .before .before .before .label .given .0 .0 in
+    let next = c .before .before .before .before .before .before .before .before .label .given .0 .1 .0 in
+    let room = label-room ts (c .before .before .before .before .before .before .before .before .before .before .before .before .before .before .before .args .void) s l next (now (c .before .before .before .before .before .before .before .before .before .before .before .before .before .before .before .args .labels)) (c .before .before .before .before .before .before .before .before .before .before .before .before .before .before .before .pre .0 .within) few q (c .before .before .before .before .before .before .before .before .before .before .before .before .before .before .before .pre .0 .items-few) in
+    omega (arith, room .0, c .before .before .before .before .add-ret .ensures .0, added-short (c .before .before .before .before .before .lacks-ret .result) (s .last), c .before .before .before .before .add-ret .kept .0, c .before .before .before .before .before .before .before .before .before .before .before .before .before .before .before .pre .1)
 
 -- src/turns.rt:113:13
 mul-labels : tie.Need-mul-labels
-mul-labels c = ?
+mul-labels c = 
+    let ts = tokensOf (now (c .before .before .before .before .before .before .before .before .before .before .before .before .before .before .before .before .before .before .args .tokens)) in
+    let s = c .before .before .before .before .before .before .before .before .before .before .before .before .before .before .before .before .before .before .args .s in
+    let q = sym (c .before .before .before .before .before .before .before .before .before .before .before .before .before .parse-label .ensures) ∙ c .before .before .before .before .before .before .before .before .before .before .before .label .given .1 in
+    let few : s .labels ≤ length (now (c .before .before .before .before .before .before .before .before .before .before .before .before .before .before .before .before .before .before .args .labels)) = omega (arith, c .before .before .before .before .before .before .before .before .before .before .before .before .before .before .before .before .before .before .pre .0 .labels-few, c .before .before .before .before .before .before .before .before .before .before .before .before .before .before .before .before .before .before .pre .2) in
+    let l = c .before .before .before .before .before .before .before .before .before .before .before .label .given .0 .0 in
+    let next = c .before .before .before .before .before .before .before .before .before .before .before .label .given .0 .1 .0 in
+    let room = label-room ts (c .before .before .before .before .before .before .before .before .before .before .before .before .before .before .before .before .before .before .args .void) s l next (now (c .before .before .before .before .before .before .before .before .before .before .before .before .before .before .before .before .before .before .args .labels)) (c .before .before .before .before .before .before .before .before .before .before .before .before .before .before .before .before .before .before .pre .0 .within) few q (c .before .before .before .before .before .before .before .before .before .before .before .before .before .before .before .before .before .before .pre .0 .items-few) in
+    omega (arith, room .1)
 
 -- src/turns.rt:113:13
 slice-write-labels : tie.Need-slice-write-labels
-slice-write-labels c = ?
+slice-write-labels c = 
+    let ts = tokensOf (now (c .before .before .before .before .before .before .before .before .before .before .before .before .before .before .before .before .before .before .args .tokens)) in
+    let s = c .before .before .before .before .before .before .before .before .before .before .before .before .before .before .before .before .before .before .args .s in
+    let q = sym (c .before .before .before .before .before .before .before .before .before .before .before .before .before .parse-label .ensures) ∙ c .before .before .before .before .before .before .before .before .before .before .before .label .given .1 in
+    let few : s .labels ≤ length (now (c .before .before .before .before .before .before .before .before .before .before .before .before .before .before .before .before .before .before .args .labels)) = omega (arith, c .before .before .before .before .before .before .before .before .before .before .before .before .before .before .before .before .before .before .pre .0 .labels-few, c .before .before .before .before .before .before .before .before .before .before .before .before .before .before .before .before .before .before .pre .2) in
+    let l = c .before .before .before .before .before .before .before .before .before .before .before .label .given .0 .0 in
+    let next = c .before .before .before .before .before .before .before .before .before .before .before .label .given .0 .1 .0 in
+    let room = label-room ts (c .before .before .before .before .before .before .before .before .before .before .before .before .before .before .before .before .before .before .args .void) s l next (now (c .before .before .before .before .before .before .before .before .before .before .before .before .before .before .before .before .before .before .args .labels)) (c .before .before .before .before .before .before .before .before .before .before .before .before .before .before .before .before .before .before .pre .0 .within) few q (c .before .before .before .before .before .before .before .before .before .before .before .before .before .before .before .before .before .before .pre .0 .items-few) in
+    omega (arith, room .1, c .before .before .before .before .before .before .before .before .before .before .before .before .before .before .before .before .before .before .pre .2)
 
 -- src/turns.rt:116:24
 add-t23 : tie.Need-add-t23
-add-t23 c = ?
+add-t23 c = 
+    let ts = tokensOf (now (c .before .before .before .before .before .before .before .before .before .before .before .before .before .before .before .before .before .before .args .tokens)) in
+    let s = c .before .before .before .before .before .before .before .before .before .before .before .before .before .before .before .before .before .before .args .s in
+    let q = sym (c .before .before .before .before .before .before .before .before .before .before .before .before .before .parse-label .ensures) ∙ c .before .before .before .before .before .before .before .before .before .before .before .label .given .1 in
+    let few : s .labels ≤ length (now (c .before .before .before .before .before .before .before .before .before .before .before .before .before .before .before .before .before .before .args .labels)) = omega (arith, c .before .before .before .before .before .before .before .before .before .before .before .before .before .before .before .before .before .before .pre .0 .labels-few, c .before .before .before .before .before .before .before .before .before .before .before .before .before .before .before .before .before .before .pre .2) in
+    let l = c .before .before .before .before .before .before .before .before .before .before .before .label .given .0 .0 in
+    let next = c .before .before .before .before .before .before .before .before .before .before .before .label .given .0 .1 .0 in
+    let room = label-room ts (c .before .before .before .before .before .before .before .before .before .before .before .before .before .before .before .before .before .before .args .void) s l next (now (c .before .before .before .before .before .before .before .before .before .before .before .before .before .before .before .before .before .before .args .labels)) (c .before .before .before .before .before .before .before .before .before .before .before .before .before .before .before .before .before .before .pre .0 .within) few q (c .before .before .before .before .before .before .before .before .before .before .before .before .before .before .before .before .before .before .pre .0 .items-few) in
+    omega (arith, room .0, c .before .before .before .before .before .before .before .add-ret .ensures .0, added-short (c .before .before .before .before .before .before .before .before .lacks-ret .result) (s .last))
 
 -- src/turns.rt:118:25
 add-t25 : tie.Need-add-t25
-add-t25 c = ?
+add-t25 c = 
+    let ts = tokensOf (now (c .before .before .before .before .before .before .before .before .before .before .before .before .before .before .before .before .before .before .args .tokens)) in
+    let s = c .before .before .before .before .before .before .before .before .before .before .before .before .before .before .before .before .before .before .args .s in
+    let q = sym (c .before .before .before .before .before .before .before .before .before .before .before .before .before .parse-label .ensures) ∙ c .before .before .before .before .before .before .before .before .before .before .before .label .given .1 in
+    let few : s .labels ≤ length (now (c .before .before .before .before .before .before .before .before .before .before .before .before .before .before .before .before .before .before .args .labels)) = omega (arith, c .before .before .before .before .before .before .before .before .before .before .before .before .before .before .before .before .before .before .pre .0 .labels-few, c .before .before .before .before .before .before .before .before .before .before .before .before .before .before .before .before .before .before .pre .2) in
+    let l = c .before .before .before .before .before .before .before .before .before .before .before .label .given .0 .0 in
+    let next = c .before .before .before .before .before .before .before .before .before .before .before .label .given .0 .1 .0 in
+    let room = label-room ts (c .before .before .before .before .before .before .before .before .before .before .before .before .before .before .before .before .before .before .args .void) s l next (now (c .before .before .before .before .before .before .before .before .before .before .before .before .before .before .before .before .before .before .args .labels)) (c .before .before .before .before .before .before .before .before .before .before .before .before .before .before .before .before .before .before .pre .0 .within) few q (c .before .before .before .before .before .before .before .before .before .before .before .before .before .before .before .before .before .before .pre .0 .items-few) in
+    omega (arith, room .1)
 
 -- src/turns.rt:101:1
 same-length : tie.Need-same-length
@@ -70,14 +119,7 @@ same-length c = search needs
 
 -- src/turns.rt:101:1
 returns : tie.Need-returns
-returns c =
-    let a = c .before .before .before .before .before .before .before .before .args in
-    let parse-label-arg = c .before .before .before .before .parse-label-arg in
-    let parse-label = c .before .before .before .parse-label in
-    let match = c .before .before .match in
-    let e = c .before .e in
-    let known-told = c .known-told in
-    ?returns
+returns c = sym (c .before .before .before .parse-label .ensures) ∙ c .before .e .given .1
 
 -- src/turns.rt:101:1
 same-length-2 : tie.Need-same-length-2
@@ -89,22 +131,17 @@ same-length-3 c = search needs
 
 -- src/turns.rt:101:1
 returns-2 : tie.Need-returns-2
-returns-2 c =
-    let a = c .before .before .before .before .before .before .before .before .before .before .before .before .before .before .before .before .before .before .args in
-    let parse-label-arg = c .before .before .before .before .before .before .before .before .before .before .before .before .before .before .parse-label-arg in
-    let parse-label = c .before .before .before .before .before .before .before .before .before .before .before .before .before .parse-label in
-    let match = c .before .before .before .before .before .before .before .before .before .before .before .before .match in
-    let label = c .before .before .before .before .before .before .before .before .before .before .before .label in
-    let known-told2 = c .before .before .before .before .before .before .before .before .before .before .known-told2 in
-    let add-ret-arg = c .before .before .before .before .before .before .before .before .before .add-ret-arg in
-    let lacks-ret = c .before .before .before .before .before .before .before .before .lacks-ret in
-    let add-ret = c .before .before .before .before .before .before .before .add-ret in
-    let items = c .before .before .before .before .before .before .items in
-    let put-record-arg = c .before .before .before .before .put-record-arg in
-    let record-of = c .before .before .before .record-of in
-    let put-record = c .before .before .put-record in
-    let items2 = c .before .items2 in
-    ?returns-2
+returns-2 c = 
+    let ts = tokensOf (now (c .before .before .before .before .before .before .before .before .before .before .before .before .before .before .before .before .before .before .args .tokens)) in
+    let s = c .before .before .before .before .before .before .before .before .before .before .before .before .before .before .before .before .before .before .args .s in
+    let q = sym (c .before .before .before .before .before .before .before .before .before .before .before .before .before .parse-label .ensures) ∙ c .before .before .before .before .before .before .before .before .before .before .before .label .given .1 in
+    let few : s .labels ≤ length (now (c .before .before .before .before .before .before .before .before .before .before .before .before .before .before .before .before .before .before .args .labels)) = omega (arith, c .before .before .before .before .before .before .before .before .before .before .before .before .before .before .before .before .before .before .pre .0 .labels-few, c .before .before .before .before .before .before .before .before .before .before .before .before .before .before .before .before .before .before .pre .2) in
+    let l = c .before .before .before .before .before .before .before .before .before .before .before .label .given .0 .0 in
+    let next = c .before .before .before .before .before .before .before .before .before .before .before .label .given .0 .1 .0 in
+    let room = label-room ts (c .before .before .before .before .before .before .before .before .before .before .before .before .before .before .before .before .before .before .args .void) s l next (now (c .before .before .before .before .before .before .before .before .before .before .before .before .before .before .before .before .before .before .args .labels)) (c .before .before .before .before .before .before .before .before .before .before .before .before .before .before .before .before .before .before .pre .0 .within) few q (c .before .before .before .before .before .before .before .before .before .before .before .before .before .before .before .before .before .before .pre .0 .items-few) in
+    label-taken ts (c .before .before .before .before .before .before .before .before .before .before .before .before .before .before .before .before .before .before .args .void) s l next (now (c .before .before .before .before .before .before .before .before .before .before .before .before .before .before .before .before .before .before .args .labels)) (c .before .before .before .before .before .before .before .before .before .before .before .before .before .before .before .before .before .before .pre .0 .within) few q (c .before .before .before .before .before .before .before .add-ret .result)
+    (now (c .before .before .before .before .before .before .before .before .before .before .before .before .before .before .before .before .before .before .args .items)) (c .before .before .before .before .before .before .before .add-ret .last .0) (c .before .before .put-record .last .0) (c .before .before .before .before .before .before .before .before .before .before .before .before .before .before .before .before .before .before .pre .2) (rw (c .before .before .before .before .before .before .before .before .lacks-ret .ensures) at (c .before .before .before .before .before .before .before .add-ret .ensures .0))
+    (rw (c .before .before .before .before .before .before .before .before .lacks-ret .ensures) at (c .before .before .before .before .before .before .before .add-ret .ensures .1)) (rw (c .before .before .before .record-of .ensures) at (c .before .before .put-record .ensures))
 
 pub label-turn-spec : {M : Type 1} → statement M
 label-turn-spec =

@@ -10,6 +10,15 @@ use lib.ListN.{length, drop, take, getD}
 use lib.Seq.{drop-cons}
 use denote.Ref.{now}
 use borrow.Author.Needs.{needs}
+use Rattle.lexer.specs.Decoded.{tokensOf, tokenAt}
+use Rattle.parser.specs.Labels.{labelledD}
+use Rattle.parser.specs.Body.{itemD, lacksRet, closes, bodyD}
+use Rattle.parser.specs.Step.{opened}
+use Rattle.parser.specs.declared.Named.the-variants as N
+use Rattle.body.specs.Records.{recordOf, itemsCells}
+use Rattle.body.specs.Turns.{itemThen, added}
+use Rattle.body.proofs.Items.{read-refused, read-done, record-token, item-refused, item-late, item-taken}
+use Rattle.body.proofs.Turning.{added-short, label-room, label-taken, label-turned, item-turned}
 use Rattle.body.proofs.turns.turn.Statement.{statement}
 use Rattle.body.proofs.turns.turn.Tie as tie
 use Rattle.body.proofs.turns.turn.Reads as reads
