@@ -5,6 +5,7 @@ use mathlib.Core.Path.{_≡_, refl, sym, ap, _∙_}
 use mathlib.Core.Bool.{Bool, true}
 use mathlib.Core.List.{List, [], _∷_, _++_, append-nil}
 use native.Mathlib.Omega.{arith}
+use native.Mathlib.Nat.{zero-add}
 use lib.ListN.{length, take}
 use lib.Seq.{sets, length-sets, length-take-le}
 use Rattle.lexer.specs.Decoded.{Tok}
@@ -54,6 +55,57 @@ pub record Reading (ts : List Tok) (void : Bool) (at first used : ℕ) (whole : 
   pub labels-few : s .labels ≤ 255
   pub blocks-few : at + blocks * 4 ≤ s .at + 2
   pub blocks-spared : s .before ≤ 1 → at + blocks * 4 ≤ s .at
+
+abbrev pub beginning : ℕ → ℕ → ℕ → Going
+beginning at first used = record { at = at; items = first; arguments = used; labels = 0; before = 0; last = 0 }
+
+pub begin : (ts : List Tok) (void : Bool) (at first used : ℕ) (items arguments labels : List ℕ) → Within ts at
+    → Reading ts void at first used (functionBody ts at) items arguments labels (beginning at first used) items arguments labels
+    4096 0
+begin ts void at first used items arguments labels w =
+    record {
+      within = w;
+      long-items = refl;
+      long-arguments = refl;
+      long-labels = refl;
+      fuel = omega arith;
+      ends = refl;
+      items-rest = refl;
+      arguments-rest = refl;
+      labels-rest = refl;
+      items-count = refl;
+      arguments-count = refl;
+      blocks-count = zero-add (filled true (partsOf (closedItems void (functionBody ts at .items))));
+      items-few = omega arith;
+      items-spared = λ z. absurd (omega (arith, z));
+      arguments-few = omega arith;
+      labels-few = omega arith;
+      blocks-few = omega arith;
+      blocks-spared = λ z. omega arith;
+    }
+
+-- the answer of a body that is closed
+pub closed-read : (ts : List Tok) (void : Bool) (at first used : ℕ) (whole : Body) (e : Closed)
+    (items₀ items arguments₀ arguments labels : List ℕ)
+    → (whole .end ≡ C.At (e .next)) × (length (closedItems void (whole .items)) + first ≡ e .items)
+    × (argumentsCount (whole .items) + used ≡ e .arguments) × (length (labelsOf (whole .items)) ≡ e .labels)
+    × Stored ts void (whole .items) at first used (e .next) items₀ items arguments₀ arguments labels
+    → (B.Done (record { next = e .next; items = e .items - first; arguments = e .arguments - used; labels = e .labels })
+    ≡ bodyRead void whole)
+    × Held ts void (whole .items) at first used items₀ items arguments₀ arguments labels (whole .end)
+unfolding bodyRead thenAt
+closed-read ts void at first used whole e items₀ items arguments₀ arguments labels f =
+    let n : e .items - first ≡ length (closedItems void (whole .items)) = omega (arith, f .1) in
+    let m : e .arguments - used ≡ argumentsCount (whole .items) = omega (arith, f .2) in
+    rw (f .0, n, m, ← f .3) (refl, f .4)
+
+-- the answer of a body that is refused
+pub refused-read : (ts : List Tok) (void : Bool) (at first used : ℕ) (whole : Body) (e : Refusal)
+    (items₀ items arguments₀ arguments labels : List ℕ) → whole .end ≡ C.Refused e
+    → (B.Refused e ≡ bodyRead void whole)
+    × Held ts void (whole .items) at first used items₀ items arguments₀ arguments labels (whole .end)
+unfolding bodyRead thenAt
+refused-read ts void at first used whole e items₀ items arguments₀ arguments labels f = rw f (refl, tt)
 
 module _ {ts : List Tok} {void : Bool} {at first used : ℕ} {whole : Body} {items₀ arguments₀ labels₀ : List ℕ}
     (first-few : first * 4 ≤ at * 3) (used-few : used * 19 ≤ at * 16) where

@@ -6,11 +6,13 @@ use mathlib.Core.List.{List, [], _∷_, _++_, append-nil}
 use native.Mathlib.Omega.{arith}
 use native.Mathlib.Nat.{add-zero}
 use native.Mathlib.Numerals.{add-one}
+use borrow.Author.Tests.{eqb-true}
 use lib.Dec.{eqb}
 use lib.ListN.{length, take, set, length-append}
 use lib.Seq.{sets, length-take-le, take-suc-set}
 use Rattle.utils.specs.Bytes.{pick}
 use Rattle.utils.proofs.Runs.{sets-append}
+use Rattle.pieces.proofs.Progress.{pick-either}
 use Rattle.pieces.specs.declared.Identifier.{Identifier}
 use Rattle.lexer.specs.Decoded.{Tok, tokenAt}
 use Rattle.lexer.specs.declared.TokenAt.{TokenAt}
@@ -96,6 +98,38 @@ module _ (ts : List Tok) (void : Bool) (s : Going) (l : Identifier) (next : ℕ)
               arguments-are = refl;
             };
       }
+
+-- The closing brace. ------------------------------------------------------------------------------------------------
+
+closes-kind : (before kind : ℕ) → closes before kind ≡ true → kind ≡ 28
+unfolding closes
+closes-kind before kind =
+    pick-either (λ (b : Bool). b ≡ true → kind ≡ 28) (eqb before 1) _ _
+    (λ t h. absurd (let z : _≡_ {A = ℕ} 0 1 = cc in omega arith)) (λ t h. eqb-true kind 28 h)
+
+pub body-ended : (ts : List Tok) (void : Bool) (s : Going) (e : Closed) (items₀ items arguments labels : List ℕ)
+    → Within ts (s .at) → closes (s .before) (tokenAt ts (s .at) .kind) ≡ true
+    → e .next ≡ tokenAt ts (s .at) .next
+    → e .items ≡ s .items + length (added (lacksRet void (s .before)) (s .last))
+    → e .arguments ≡ s .arguments → e .labels ≡ s .labels
+    → items ≡ sets items₀ (s .items * 8) (itemsCells 0 (added (lacksRet void (s .before)) (s .last)))
+    → Ended ts void s e items₀ items arguments arguments labels labels
+unfolding bodyD opened
+body-ended ts void s e items₀ items arguments labels w h next n used count f =
+    let k = closes-kind (s .before) (tokenAt ts (s .at) .kind) h in
+    let m = moves ts (w .last) (w .ends) (s .at) (w .reached) (λ z. omega (arith, z, k)) in
+    let one : e .next ≡ s .at + 1 = next ∙ m .0 in
+    record {
+      goes = λ room. rw (h, next);
+      one = omega (arith, one);
+      within = record { last = w .last; ends = w .ends; reached = omega (arith, one, m .1); few = w .few };
+      items-next = n;
+      arguments-next = used;
+      labels-next = count;
+      items-are = f ∙ ap (sets items₀ (s .items * 8)) (added-cells (lacksRet void (s .before)) (s .last) (s .arguments));
+      arguments-are = refl;
+      labels-are = refl;
+    }
 
 -- The body from a state on. -----------------------------------------------------------------------------------------
 

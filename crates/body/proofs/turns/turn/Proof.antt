@@ -18,7 +18,7 @@ use Rattle.parser.specs.declared.Named.the-variants as N
 use Rattle.body.specs.Records.{recordOf, itemsCells}
 use Rattle.body.specs.Turns.{itemThen, added}
 use Rattle.body.proofs.Items.{read-refused, read-done, record-token, item-refused, item-late, item-taken}
-use Rattle.body.proofs.Turning.{added-short, label-room, label-taken, label-turned, item-turned}
+use Rattle.body.proofs.Turning.{body-ended, label-turned, item-turned}
 use Rattle.body.proofs.turns.turn.Statement.{statement}
 use Rattle.body.proofs.turns.turn.Tie as tie
 use Rattle.body.proofs.turns.turn.Reads as reads
@@ -52,16 +52,15 @@ same-length c = search needs
 
 -- src/turns.rt:143:9
 returns : tie.Need-returns
-returns c =
-    let a = c .before .before .before .before .before .before .before .before .before .before .before .before .args in
-    let token-at = c .before .before .before .before .before .before .before .token-at in
-    let closes-body = c .before .before .before .before .before .before .closes-body in
-    let if1 = c .before .before .before .before .before .if1 in
-    let add-ret-arg = c .before .before .before .before .add-ret-arg in
-    let lacks-ret = c .before .before .before .lacks-ret in
-    let add-ret = c .before .before .add-ret in
-    let items = c .before .items in
-    ?returns
+returns c = 
+    let ts = tokensOf (now (c .before .before .before .before .before .before .before .before .before .before .before .before .args .tokens)) in
+    let s = c .before .before .before .before .before .before .before .before .before .before .before .before .args .s in
+    let k = rw (c .before .before .before .before .before .before .before .token-at .ensures) at (sym (c .before .before .before .before .before .before .closes-body .ensures) ∙ c .before .before .before .before .before .if1 .taken) in
+    body-ended ts (c .before .before .before .before .before .before .before .before .before .before .before .before .args .void) s
+    (record { next = c .before .before .before .before .before .before .before .token-at .result .next; items = c .before .before .add-ret .result; arguments = s .arguments; labels = s .labels })
+    (now (c .before .before .before .before .before .before .before .before .before .before .before .before .args .items)) (c .before .before .add-ret .last .0) (now (c .before .before .before .before .before .before .before .before .before .before .before .before .args .arguments)) (now (c .before .before .before .before .before .before .before .before .before .before .before .before .args .labels)) (c .before .before .before .before .before .before .before .before .before .before .before .before .pre .0 .within) k
+    (rw (c .before .before .before .before .before .before .before .token-at .ensures) refl) (rw (c .before .before .before .lacks-ret .ensures) at (c .before .before .add-ret .ensures .0)) refl refl
+    (rw (c .before .before .before .lacks-ret .ensures) at (c .before .before .add-ret .ensures .1))
 
 -- src/turns.rt:151:9
 label-turn-requires : tie.Need-label-turn-requires
@@ -77,19 +76,14 @@ same-length-3 c = search needs
 
 -- src/turns.rt:151:9
 returns-2 : tie.Need-returns-2
-returns-2 c =
-    let a = c .before .before .before .before .before .before .before .before .before .before .before .before .before .before .before .before .args in
-    let token-at = c .before .before .before .before .before .before .before .before .before .before .before .token-at in
-    let closes-body = c .before .before .before .before .before .before .before .before .before .before .closes-body in
-    let if1 = c .before .before .before .before .before .before .before .before .before .if1 in
-    let struct-known = c .before .before .before .before .before .before .before .before .struct-known in
-    let if2 = c .before .before .before .before .before .before .before .if2 in
-    let label-turn-arg = c .before .before .before .before .before .before .label-turn-arg in
-    let label-turn-arg2 = c .before .before .before .before .before .label-turn-arg2 in
-    let label-turn = c .before .before .before .before .label-turn in
-    let items2 = c .before .before .before .items2 in
-    let labels = c .before .labels in
-    ?returns-2
+returns-2 c = 
+    let ts = tokensOf (now (c .before .before .before .before .before .before .before .before .before .before .before .before .before .before .before .before .args .tokens)) in
+    let s = c .before .before .before .before .before .before .before .before .before .before .before .before .before .before .before .before .args .s in
+    let k = rw (c .before .before .before .before .before .before .before .before .before .before .before .token-at .ensures) at (sym (c .before .before .before .before .before .before .before .before .before .before .closes-body .ensures) ∙ c .before .before .before .before .before .before .before .before .before .if1 .left) in
+    let j = rw (c .before .before .before .before .before .before .before .before .before .before .before .token-at .ensures) at (eq-eqb (c .before .before .before .before .before .before .before .before .before .before .before .token-at .result .kind) 3 (c .before .before .before .before .before .before .before .if2 .taken)) in
+    label-turned ts (c .before .before .before .before .before .before .before .before .before .before .before .before .before .before .before .before .args .void) s (now (c .before .before .before .before .before .before .before .before .before .before .before .before .before .before .before .before .args .items)) (c .before .before .before .before .label-turn .last .1 .1 .1 .0) (now (c .before .before .before .before .before .before .before .before .before .before .before .before .before .before .before .before .args .labels)) k
+    (c .before .before .before .before .before .before .before .before .before .before .before .before .before .before .before .before .pre .0 .labels-few) (c .before .before .before .before .label-turn .result) (now (c .before .before .before .before .before .before .before .before .before .before .before .before .before .before .before .before .args .arguments)) (c .before .before .before .before .label-turn .last .1 .1 .1 .1 .0) j
+    (c .before .before .before .before .label-turn .ensures)
 
 -- src/turns.rt:153:5
 item-turn-requires : tie.Need-item-turn-requires
@@ -105,19 +99,14 @@ same-length-5 c = search needs
 
 -- src/turns.rt:126:1
 returns-3 : tie.Need-returns-3
-returns-3 c =
-    let a = c .before .before .before .before .before .before .before .before .before .before .before .before .before .before .before .before .args in
-    let token-at = c .before .before .before .before .before .before .before .before .before .before .before .token-at in
-    let closes-body = c .before .before .before .before .before .before .before .before .before .before .closes-body in
-    let if1 = c .before .before .before .before .before .before .before .before .before .if1 in
-    let struct-known = c .before .before .before .before .before .before .before .before .struct-known in
-    let if2 = c .before .before .before .before .before .before .before .if2 in
-    let item-turn-arg = c .before .before .before .before .before .before .item-turn-arg in
-    let item-turn-arg2 = c .before .before .before .before .before .item-turn-arg2 in
-    let item-turn = c .before .before .before .before .item-turn in
-    let items3 = c .before .before .before .items3 in
-    let arguments = c .before .arguments in
-    ?returns-3
+returns-3 c = 
+    let ts = tokensOf (now (c .before .before .before .before .before .before .before .before .before .before .before .before .before .before .before .before .args .tokens)) in
+    let s = c .before .before .before .before .before .before .before .before .before .before .before .before .before .before .before .before .args .s in
+    let k = rw (c .before .before .before .before .before .before .before .before .before .before .before .token-at .ensures) at (sym (c .before .before .before .before .before .before .before .before .before .before .closes-body .ensures) ∙ c .before .before .before .before .before .before .before .before .before .if1 .left) in
+    let j = rw (c .before .before .before .before .before .before .before .before .before .before .before .token-at .ensures) at (ne-eqb (c .before .before .before .before .before .before .before .before .before .before .before .token-at .result .kind) 3 (c .before .before .before .before .before .before .before .if2 .left)) in
+    item-turned ts (c .before .before .before .before .before .before .before .before .before .before .before .before .before .before .before .before .args .void) s (now (c .before .before .before .before .before .before .before .before .before .before .before .before .before .before .before .before .args .items)) (c .before .before .before .before .item-turn .last .1 .1 .0) (now (c .before .before .before .before .before .before .before .before .before .before .before .before .before .before .before .before .args .labels)) k
+    (c .before .before .before .before .before .before .before .before .before .before .before .before .before .before .before .before .pre .0 .labels-few) (c .before .before .before .before .item-turn .result) (now (c .before .before .before .before .before .before .before .before .before .before .before .before .before .before .before .before .args .arguments)) (c .before .before .before .before .item-turn .last .1 .1 .1 .0) j
+    (c .before .before .before .before .item-turn .ensures)
 
 pub turn-spec : {M : Type 1} → statement M
 turn-spec =
