@@ -5,3 +5,5 @@ pub mod Records
 pub mod Room
 -- the whole body
 pub mod Answer
+-- one turn of its loop
+pub mod Turns

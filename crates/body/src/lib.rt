@@ -1,5 +1,14 @@
 // A function's body: parse_function_body of bril-lib/src/parser.rs. Its items go to their records as they are read.
+mod item;
+pub mod records;
+mod turns;
+
 ghost use mathlib.Core.Path.{_≡_};
+ghost use Prim.Native.Nat.{ℕ, _*_, _≤_};
+ghost use lib.ListN.{length};
+ghost use Rattle.lexer.specs.Decoded.{tokensOf};
+ghost use Rattle.body.specs.Room.{Within};
+ghost use Rattle.body.specs.Answer.{functionBody, bodyRead, Held};
 use parser::Refusal;
 
 // An item as its eight cells (docs/INTERFACE.md): the result, the left and the right operand, each with its type.
@@ -25,4 +34,75 @@ pub struct Closed {
 pub enum BodyRead {
     Done(Closed),
     Refused(Refusal),
+}
+
+// An operation's record, how many arguments there are with its own, and the index to go on at.
+pub enum ItemRead {
+    Done(ItemRecord, usize, usize),
+    Refused(Refusal),
+}
+
+// The loop's state: the next token, the next free item and argument, how many labels there are, what stands before (0 the
+// body's brace, 1 a label, 2 an operation, 3 a terminator), and the last operation's token.
+pub struct Going {
+    pub at: usize,
+    pub items: usize,
+    pub arguments: usize,
+    pub labels: usize,
+    pub before: u32,
+    pub last: u32,
+}
+
+pub enum Turn {
+    On(Going),
+    // Items and arguments as in `Going`.
+    Done(Closed),
+    Refused(Refusal),
+}
+
+// From after the opening brace.
+pub fn parse_body(
+    tokens: &[u32],
+    at: usize,
+    void: bool,
+    items: &mut [u32],
+    first: usize,
+    arguments: &mut [u32],
+    used: usize,
+    labels: &mut [u32],
+) -> BodyRead
+    requires { ⌜ Within (tokensOf (now tokens)) at ⌝ }
+    requires { ⌜ (first * 4 ≤ at * 3) × (used * 19 ≤ at * 16) ⌝ }
+    requires { ⌜ (24576 ≤ length (now items)) × (6928 ≤ length (now arguments)) × (255 ≤ length (now labels)) ⌝ }
+    ensures { λ r. ⌜ r ≡ bodyRead void (functionBody (tokensOf (now (tokens .entry))) at) ⌝ }
+    ensures { λ _. ⌜ Held (tokensOf (now (tokens .entry))) void (functionBody (tokensOf (now (tokens .entry))) at .items)
+        at first used (now (items .entry)) (now (items .exit)) (now (arguments .entry)) (now (arguments .exit))
+        (now (labels .exit)) (functionBody (tokensOf (now (tokens .entry))) at .end) ⌝ }
+{
+    let mut s = Going {
+        at,
+        items: first,
+        arguments: used,
+        labels: 0,
+        before: 0,
+        last: 0,
+    };
+    loop {
+        match turns::turn(tokens, void, s, items, arguments, labels) {
+            Turn::On(next) => {
+                s = next;
+            }
+            Turn::Done(e) => {
+                return BodyRead::Done(Closed {
+                    next: e.next,
+                    items: e.items - first,
+                    arguments: e.arguments - used,
+                    labels: e.labels,
+                });
+            }
+            Turn::Refused(e) => {
+                return BodyRead::Refused(e);
+            }
+        }
+    }
 }

@@ -1,0 +1,75 @@
+// One operation, a call with its arguments, as a record.
+ghost use mathlib.Core.Path.{_≡_};
+ghost use Prim.Native.Nat.{ℕ, _+_, _*_, _≤_};
+ghost use lib.ListN.{length};
+ghost use Rattle.lexer.specs.Decoded.{tokensOf};
+ghost use Rattle.parser.specs.Runs.{variablesCells, callD};
+ghost use Rattle.parser.specs.Body.{itemD};
+ghost use Rattle.body.specs.Room.{Within};
+ghost use Rattle.body.specs.Turns.{itemRead, ItemHeld, callRecord, callRead, CallHeld};
+use crate::ItemRead;
+use crate::records;
+use parser::Called;
+use parser::Parsed;
+use parser::runs;
+
+// A call from its word on; `dest` and `dty` are its result's cells.
+fn parse_call_item(
+    tokens: &[u32],
+    word: usize,
+    kind: u32,
+    dest: u32,
+    dty: u32,
+    items: &mut [u32],
+    n: usize,
+    arguments: &mut [u32],
+    used: usize,
+) -> ItemRead
+    requires { ⌜ Within (tokensOf (now tokens)) word
+        × (used ≤ 3448) × (n * 8 + 8 ≤ length (now items)) × (6928 ≤ length (now arguments)) ⌝ }
+    ensures { λ r. ⌜ r ≡ callRead kind word dest dty used (callD (tokensOf (now (tokens .entry))) word) ⌝ }
+    ensures { λ _. ⌜ CallHeld n used (callRecord kind word dest dty used (callD (tokensOf (now (tokens .entry))) word))
+        (variablesCells (callD (tokensOf (now (tokens .entry))) word .arguments .list))
+        (now (items .entry)) (now (items .exit)) (now (arguments .entry)) (now (arguments .exit))
+        (callD (tokensOf (now (tokens .entry))) word .arguments .end) ⌝ }
+{
+    match runs::parse_call(tokens, word, arguments, used * 2) {
+        Called::Refused(e) => ItemRead::Refused(e),
+        Called::Done(callee, count, next) => {
+            let r = records::record_of(kind, word, dest, dty, callee.0, used as u32, count as u32);
+            records::put_record(items, n, r);
+            ItemRead::Done(r, used + count, next)
+        }
+    }
+}
+
+// Stores the item at index n, and its arguments from `used` on.
+pub(crate) fn parse_item(
+    tokens: &[u32],
+    at: usize,
+    items: &mut [u32],
+    n: usize,
+    arguments: &mut [u32],
+    used: usize,
+) -> ItemRead
+    requires { ⌜ Within (tokensOf (now tokens)) at
+        × (used ≤ 3448) × (n * 8 + 8 ≤ length (now items)) × (6928 ≤ length (now arguments)) ⌝ }
+    ensures { λ r. ⌜ r ≡ itemRead used (itemD (tokensOf (now (tokens .entry))) at) ⌝ }
+    ensures { λ _. ⌜ ItemHeld n used (now (items .entry)) (now (items .exit)) (now (arguments .entry))
+        (now (arguments .exit)) (itemD (tokensOf (now (tokens .entry))) at) ⌝ }
+{
+    match parser::parse_instruction(tokens, at) {
+        Parsed::Refused(e) => ItemRead::Refused(e),
+        Parsed::Done(o, next) => {
+            let r = records::operation_record(o);
+            records::put_record(items, n, r);
+            ItemRead::Done(r, used, next)
+        }
+        Parsed::Call(word) => parse_call_item(tokens, word, 5, 0, 0, items, n, arguments, used),
+        Parsed::CallInto(v, word) => {
+            let ty = v.ty;
+            let dty = runs::type_cell(ty);
+            parse_call_item(tokens, word, 6, v.id.0, dty, items, n, arguments, used)
+        }
+    }
+}

@@ -1,0 +1,154 @@
+// One turn of the body's loop: an item and its record, or the closing brace.
+ghost use mathlib.Core.Path.{_≡_};
+ghost use Prim.Native.Nat.{ℕ, _+_, _*_, _≤_};
+ghost use lib.ListN.{length};
+ghost use lib.Seq.{sets};
+ghost use Rattle.lexer.specs.Decoded.{tokensOf};
+ghost use Rattle.parser.specs.Body.{closes, lacksRet};
+ghost use Rattle.body.specs.Records.{itemsCells};
+ghost use Rattle.body.specs.Turns.{behindKind, added, Ready, ItemTurned, LabelTurned, Turned};
+use crate::Closed;
+use crate::Going;
+use crate::ItemRead;
+use crate::ItemRecord;
+use crate::Turn;
+use crate::item;
+use crate::records;
+use parser::Named;
+
+// Right behind a label an operation has to stand.
+fn closes_body(before: u32, kind: u32) -> bool
+    ensures { λ r. ⌜ r ≡ closes before kind ⌝ }
+{
+    if before == 1 {
+        return false;
+    }
+    kind == 28
+}
+
+// A void function's block gets a `ret` where it has no terminator.
+fn lacks_ret(void: bool, before: u32) -> bool
+    ensures { λ r. ⌜ r ≡ lacksRet void before ⌝ }
+{
+    if void {
+        return before == 2;
+    }
+    false
+}
+
+fn behind_kind(kind: u32) -> u32
+    ensures { λ r. ⌜ r ≡ behindKind kind ⌝ }
+{
+    if 9 <= kind {
+        return 3;
+    }
+    2
+}
+
+// The next free item behind the `ret` that is lacking, or where none is.
+fn add_ret(items: &mut [u32], n: usize, lacks: bool, last: u32) -> usize
+    requires { ⌜ n * 8 + 8 ≤ length (now items) ⌝ }
+    ensures { λ r. ⌜ r ≡ n + length (added lacks last) ⌝ }
+    ensures { λ _. ⌜ now (items .exit) ≡ sets (now (items .entry)) (n * 8) (itemsCells 0 (added lacks last)) ⌝ }
+{
+    if lacks {
+        let r = ItemRecord {
+            kind: 11,
+            token: last,
+            dest: 0,
+            dty: 0,
+            left: 0,
+            lty: 0,
+            right: 0,
+            rty: 0,
+        };
+        records::put_record(items, n, r);
+        return n + 1;
+    }
+    n
+}
+
+// 12 comes once the operation is parsed.
+fn item_turn(tokens: &[u32], s: Going, items: &mut [u32], arguments: &mut [u32]) -> Turn
+    requires { ⌜ Ready (tokensOf (now tokens)) s × (24576 ≤ length (now items)) × (6928 ≤ length (now arguments)) ⌝ }
+    ensures { λ r. ⌜ ItemTurned (tokensOf (now (tokens .entry))) s (now (items .entry)) (now (items .exit))
+        (now (arguments .entry)) (now (arguments .exit)) r ⌝ }
+{
+    let at = s.at;
+    let n = s.items;
+    let used = s.arguments;
+    let before = s.before;
+    match item::parse_item(tokens, at, items, n, arguments, used) {
+        ItemRead::Refused(e) => Turn::Refused(e),
+        ItemRead::Done(r, then, next) => {
+            let token = r.token as usize;
+            if before == 3 {
+                return Turn::Refused(parser::refuse(12, token));
+            }
+            Turn::On(Going {
+                at: next,
+                items: n + 1,
+                arguments: then,
+                labels: s.labels,
+                before: behind_kind(r.kind),
+                last: r.token,
+            })
+        }
+    }
+}
+
+// A label closes the block before it.
+fn label_turn(tokens: &[u32], void: bool, s: Going, items: &mut [u32], labels: &mut [u32]) -> Turn
+    requires { ⌜ Ready (tokensOf (now tokens)) s × (24576 ≤ length (now items)) × (255 ≤ length (now labels)) ⌝ }
+    ensures { λ r. ⌜ LabelTurned (tokensOf (now (tokens .entry))) void s (now (items .entry)) (now (items .exit))
+        (now (labels .entry)) (now (labels .exit)) r ⌝ }
+{
+    let at = s.at;
+    let count = s.labels;
+    match parser::labels::parse_label(tokens, at, labels, count) {
+        Named::Refused(e) => Turn::Refused(e),
+        Named::At(label, next) => {
+            let n = add_ret(items, s.items, lacks_ret(void, s.before), s.last);
+            records::put_record(items, n, records::record_of(1, at, 0, 0, 0, label.0, 0));
+            labels[count] = label.0;
+            Turn::On(Going {
+                at: next,
+                items: n + 1,
+                arguments: s.arguments,
+                labels: count + 1,
+                before: 1,
+                last: s.last,
+            })
+        }
+    }
+}
+
+pub(crate) fn turn(
+    tokens: &[u32],
+    void: bool,
+    s: Going,
+    items: &mut [u32],
+    arguments: &mut [u32],
+    labels: &mut [u32],
+) -> Turn
+    requires { ⌜ Ready (tokensOf (now tokens)) s × (24576 ≤ length (now items)) × (6928 ≤ length (now arguments))
+        × (255 ≤ length (now labels)) ⌝ }
+    ensures { λ r. ⌜ Turned (tokensOf (now (tokens .entry))) void s (now (items .entry)) (now (items .exit))
+        (now (arguments .entry)) (now (arguments .exit)) (now (labels .entry)) (now (labels .exit)) r ⌝ }
+{
+    let at = s.at;
+    let t = lexer::token_at(tokens, at);
+    if closes_body(s.before, t.kind) {
+        let n = add_ret(items, s.items, lacks_ret(void, s.before), s.last);
+        return Turn::Done(Closed {
+            next: t.next,
+            items: n,
+            arguments: s.arguments,
+            labels: s.labels,
+        });
+    }
+    if t.kind == 3 {
+        return label_turn(tokens, void, s, items, labels);
+    }
+    item_turn(tokens, s, items, arguments)
+}
