@@ -1,4 +1,6 @@
 // A function's body: parse_function_body of bril-lib/src/parser.rs. Its items go to their records as they are read.
+pub mod records;
+
 ghost use mathlib.Core.Path.{_≡_};
 use parser::Refusal;
 
