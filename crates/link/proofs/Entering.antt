@@ -2,17 +2,18 @@
 use Prim.Native.Nat.{ℕ, zero, suc, _+_, _-_, _*_, _≤_, _<_}
 use mathlib.Core.Path.{_≡_, refl, sym, ap, _∙_}
 use mathlib.Core.Bool.{Bool, true, false}
+use mathlib.Core.Logic.{_⊎_, inl, inr}
 use mathlib.Core.List.{List, [], _∷_, _++_}
 use native.Mathlib.Omega.{arith}
 use native.Mathlib.Nat.{add-zero}
 use native.Mathlib.Numerals.{add-one}
 use lib.Dec.{ltb, eqb}
 use lib.ListN.{length, getD, set, length-append, length-set}
-use lib.Seq.{sets, length-sets}
+use lib.Seq.{sets, length-sets, getD-set-other}
 use Rattle.utils.specs.Bytes.{pick}
 use Rattle.utils.proofs.Runs.{sets-append}
 use Rattle.parser.specs.Edges.{entering, predecessors}
-use Rattle.link.specs.Steps.{entersD, goesAt, linksAt, entriesFrom}
+use Rattle.link.specs.Steps.{entersD, goesAt, linksAt, entriesFrom, threeOf, putThrees}
 
 -- Of `whole`, to be stored from `used` on, `rest` is left, to be stored from `here` on.
 pub record Entered (whole rest : List ℕ) (used here : ℕ) (s₀ s : List ℕ) : Type 0 where
@@ -153,3 +154,51 @@ entries-more all j n h =
 pub entries-none : (all : List (List ℕ)) (j n : ℕ) → n ≡ 0 → entriesFrom j all n ≡ []
 unfolding entriesFrom
 entries-none all j n z = rw z
+
+-- The three cells behind each block's successors leave the successors as they were.
+aside : (cells : List ℕ) (k m a x y z : ℕ) → m ≡ k * 8 + 5 → (i : ℕ) → i ≡ a * 8 + 2 ⊎ (i ≡ a * 8 + 3 ⊎ i ≡ a * 8 + 4)
+    → getD (sets cells m (x ∷ y ∷ z ∷ [])) i 0 ≡ getD cells i 0
+aside cells k m a x y z e i p =
+    let h : (i ≡ m → ⊥) × (i ≡ suc m → ⊥) × (i ≡ suc (suc m) → ⊥) = by p in
+    getD-set-other (set (set cells m x) (suc m) y) (suc (suc m)) i z 0 (h .2)
+    ∙ getD-set-other (set cells m x) (suc m) i y 0 (h .1)
+    ∙ getD-set-other cells m i x 0 (h .0)
+  where
+    by : i ≡ a * 8 + 2 ⊎ (i ≡ a * 8 + 3 ⊎ i ≡ a * 8 + 4)
+        → (i ≡ m → ⊥) × (i ≡ suc m → ⊥) × (i ≡ suc (suc m) → ⊥)
+    by (inl q) = (λ u. omega arith, λ u. omega arith, λ u. omega arith)
+    by (inr (inl q)) = (λ u. omega arith, λ u. omega arith, λ u. omega arith)
+    by (inr (inr q)) = (λ u. omega arith, λ u. omega arith, λ u. omega arith)
+
+goes-kept : (cells : List ℕ) (k m a x y z : ℕ) → m ≡ k * 8 + 5
+    → goesAt (sets cells m (x ∷ y ∷ z ∷ [])) (a * 8) ≡ goesAt cells (a * 8)
+unfolding goesAt
+goes-kept cells k m a x y z e =
+    rw (
+      aside cells k m a x y z e (a * 8 + 2) (inl refl),
+      aside cells k m a x y z e (a * 8 + 3) (inr (inl refl)),
+      aside cells k m a x y z e (a * 8 + 4) (inr (inr refl)),
+    )
+
+pub links-kept : (cells : List ℕ) (k m a n x y z : ℕ) → m ≡ k * 8 + 5
+    → linksAt (sets cells m (x ∷ y ∷ z ∷ [])) a n ≡ linksAt cells a n
+unfolding linksAt
+links-kept cells k m a zero x y z e = refl
+links-kept cells k m a (suc n) x y z e =
+    rw (goes-kept cells k m a x y z e, links-kept cells k m (a + 1) n x y z e)
+
+pub threes-more : (used : ℕ) (all : List (List ℕ)) (cells : List ℕ) (base j n at next : ℕ) → j < n
+    → at ≡ (base + j) * 8 + 5 → next ≡ used + length (predecessors j 0 all)
+    → putThrees (j + 1) next all (sets cells at (threeOf j used (next - used))) ((base + (j + 1)) * 8) (n - (j + 1))
+    ≡ putThrees j used all cells ((base + j) * 8) (n - j)
+unfolding putThrees
+threes-more used all cells base j n at next h p q =
+    let e : n - j ≡ suc (n - (j + 1)) = omega arith in
+    let f : next - used ≡ length (predecessors j 0 all) = omega arith in
+    let g : (base + (j + 1)) * 8 ≡ (base + j) * 8 + 8 = omega arith in
+    rw (e, f, g, p, q)
+
+pub threes-none : (used : ℕ) (all : List (List ℕ)) (cells : List ℕ) (j i n : ℕ) → n ≡ 0
+    → putThrees j used all cells i n ≡ cells
+unfolding putThrees
+threes-none used all cells j i n z = rw z

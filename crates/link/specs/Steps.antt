@@ -8,7 +8,7 @@ use lib.ListN.{length, getD, take}
 use lib.Seq.{sets}
 use Rattle.utils.specs.Bytes.{pick}
 use Rattle.parser.specs.Blocks.{Part, name, operation, Block, namesIn, blocksOf}
-use Rattle.parser.specs.Edges.{Place, at, nowhere, thenPlace, missing, places, Resolved, fine, refused, predecessors}
+use Rattle.parser.specs.Edges.{Place, at, nowhere, missing, places, Resolved, fine, refused, predecessors}
 use Rattle.body.specs.Records.{partsAt}
 use Rattle.body.specs.Room.{filled}
 use Rattle.body.specs.declared.ItemRecord.{ItemRecord}
@@ -40,16 +40,21 @@ abbrev pub foundOf : Place → Found
 foundOf (at k) = F.At k
 foundOf nowhere = F.Nowhere
 
+-- what follows a label that was found, and one that was not
+unfoldable pub thenFound : {A : Type 0} → Found → (ℕ → A) → A → A
+thenFound (F.At k) found none = found k
+thenFound F.Nowhere found none = none
+
 -- where the label of a `jmp` leads
 unfoldable pub oneD : ℕ → List ℕ → ℕ → ℕ → Goes
 oneD before names token l =
-    thenPlace (labelPlace before 0 names l) (λ x. G.Done 1 x 0) (G.Refused (missing token l))
+    thenFound (foundOf (labelPlace before 0 names l)) (λ x. G.Done 1 x 0) (G.Refused (missing token l))
 
 -- where those of a `br` lead, the first of them resolved first
 unfoldable pub twoD : ℕ → List ℕ → ℕ → ℕ → ℕ → Goes
 twoD before names token l m =
-    thenPlace (labelPlace before 0 names l) (λ x.
-    thenPlace (labelPlace before 0 names m) (λ y. G.Done 2 x y) (G.Refused (missing token m)))
+    thenFound (foundOf (labelPlace before 0 names l)) (λ x.
+    thenFound (foundOf (labelPlace before 0 names m)) (λ y. G.Done 2 x y) (G.Refused (missing token m)))
     (G.Refused (missing token l))
 
 -- where a block leads whose last operation has this record

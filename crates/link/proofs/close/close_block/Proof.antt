@@ -56,14 +56,7 @@ put-block-requires c κs = search needs
 
 -- src/close.rt:49:1
 returns : tie.Need-returns
-returns c =
-    let a = c .before .before .before .before .before .before .before .before .args in
-    let record-at = c .before .before .before .before .record-at in
-    let resolve = c .before .before .before .resolve in
-    let match = c .before .before .match in
-    let e = c .before .e in
-    let known-told = c .known-told in
-    ?returns
+returns c = (rw (← c .before .before .before .before .record-at .ensures, ← c .before .before .before .resolve .ensures, c .before .e .given .1), search needs)
 
 -- src/close.rt:49:1
 same-length : tie.Need-same-length
@@ -71,17 +64,7 @@ same-length c = search needs
 
 -- src/close.rt:49:1
 returns-2 : tie.Need-returns-2
-returns-2 c =
-    let a = c .before .before .before .before .before .before .before .before .before .before .before .before .args in
-    let record-at = c .before .before .before .before .before .before .before .before .record-at in
-    let resolve = c .before .before .before .before .before .before .before .resolve in
-    let match = c .before .before .before .before .before .before .match in
-    let count = c .before .before .before .before .before .count in
-    let known-told2 = c .before .before .before .before .known-told2 in
-    let put-block-arg = c .before .before .before .put-block-arg in
-    let put-block = c .before .before .put-block in
-    let blocks2 = c .before .blocks2 in
-    ?returns-2
+returns-2 c = (rw (← c .before .before .before .before .before .before .before .before .record-at .ensures, ← c .before .before .before .before .before .before .before .resolve .ensures, c .before .before .before .before .before .count .given .1), c .before .before .put-block .ensures)
 
 pub close-block-spec : {M : Type 1} → statement M
 close-block-spec =

@@ -10,6 +10,7 @@ use lib.ListN.{length, drop, take, getD}
 use lib.Seq.{drop-cons}
 use denote.Ref.{now}
 use borrow.Author.Needs.{needs}
+use Rattle.link.proofs.Entering.{room-first, room-second, two-sources}
 use Rattle.link.proofs.enter.enter_from.Statement.{statement}
 use Rattle.link.proofs.enter.enter_from.Tie as tie
 use Rattle.link.proofs.enter.enter_from.Reads as reads
@@ -63,11 +64,21 @@ enters-requires-2 c κs = search needs
 
 -- src/enter.rt:45:9
 put-source-requires : tie.Need-put-source-requires
-put-source-requires c κs = search needs
+put-source-requires c κs = 
+    let a = c .before .before .before .before .before .before .before .before .args in
+    let cells = now (a .blocks) in
+    let s = now (a .sources) in
+    room-first cells (a .at) (a .j) (a .k) (a .used) s (c .before .before .before .enters .result) (c .before .enters2 .result) (c .before .before .before .enters .ensures) (c .before .enters2 .ensures)
+    (c .before .before .before .before .before .before .before .before .pre .1)
 
 -- src/enter.rt:46:5
 put-source-requires-2 : tie.Need-put-source-requires-2
-put-source-requires-2 c κs = search needs
+put-source-requires-2 c κs = 
+    let a = c .before .before .before .before .before .before .before .before .before .before .before .before .args in
+    let cells = now (a .blocks) in
+    let s = now (a .sources) in
+    room-second cells (a .at) (a .j) (a .k) (a .used) s (c .before .before .before .before .before .before .before .enters .result) (c .before .before .before .before .before .enters2 .result) (c .before .before .before .before .before .before .before .enters .ensures) (c .before .before .before .before .before .enters2 .ensures)
+    (c .before .before .before .put-source .result) (c .before .before .before .put-source .last .0) (c .before .before .before .before .before .before .before .before .before .before .before .before .pre .1) (c .before .before .before .put-source .ensures .0) (c .before .before .before .put-source .kept .0)
 
 -- src/enter.rt:35:1
 same-length : tie.Need-same-length
@@ -75,17 +86,12 @@ same-length c = search needs
 
 -- src/enter.rt:35:1
 returns : tie.Need-returns
-returns c =
+returns c = 
     let a = c .before .before .before .before .before .before .before .before .before .before .before .before .before .before .before .args in
-    let enters = c .before .before .before .before .before .before .before .before .before .before .enters in
-    let enters2 = c .before .before .before .before .before .before .before .before .enters2 in
-    let put-source-arg = c .before .before .before .before .before .before .before .put-source-arg in
-    let put-source = c .before .before .before .before .before .before .put-source in
-    let sources = c .before .before .before .before .before .sources in
-    let put-source-arg2 = c .before .before .before .put-source-arg2 in
-    let put-source2 = c .before .before .put-source2 in
-    let sources2 = c .before .sources2 in
-    ?returns
+    let cells = now (a .blocks) in
+    let s = now (a .sources) in
+    two-sources cells (a .at) (a .j) (a .k) (a .used) s (c .before .before .before .before .before .before .before .before .before .before .enters .result) (c .before .before .before .before .before .before .before .before .enters2 .result) (c .before .before .before .before .before .before .before .before .before .before .enters .ensures) (c .before .before .before .before .before .before .before .before .enters2 .ensures)
+    (c .before .before .before .before .before .before .put-source .result) (c .before .before .put-source2 .result) (c .before .before .before .before .before .before .put-source .last .0) (c .before .before .put-source2 .last .0) (c .before .before .before .before .before .before .put-source .ensures) (c .before .before .put-source2 .ensures)
 
 pub enter-from-spec : {M : Type 1} → statement M
 enter-from-spec =

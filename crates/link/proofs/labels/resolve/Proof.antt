@@ -10,6 +10,8 @@ use lib.ListN.{length, drop, take, getD}
 use lib.Seq.{drop-cons}
 use denote.Ref.{now}
 use borrow.Author.Needs.{needs}
+use Rattle.link.specs.Steps.{thenFound, oneD, twoD, goesD}
+use Rattle.utils.specs.Bytes.{pick}
 use Rattle.link.proofs.labels.resolve.Statement.{statement}
 use Rattle.link.proofs.labels.resolve.Tie as tie
 use Rattle.link.proofs.labels.resolve.Reads as reads
@@ -27,13 +29,8 @@ resolve-one-requires c κs = search needs
 
 -- src/labels.rt:99:9
 returns : tie.Need-returns
-returns c =
-    let a = c .before .before .before .before .before .args in
-    let struct-known = c .before .before .before .struct-known in
-    let struct-known2 = c .before .before .struct-known2 in
-    let if1 = c .before .if1 in
-    let resolve-one = c .resolve-one in
-    ?returns
+unfolding goesD pick
+returns c = rw (eq-eqb _ _ (c .before .if1 .taken)) (c .resolve-one .ensures)
 
 -- src/labels.rt:102:9
 resolve-two-requires : tie.Need-resolve-two-requires
@@ -41,26 +38,13 @@ resolve-two-requires c κs = search needs
 
 -- src/labels.rt:102:9
 returns-2 : tie.Need-returns-2
-returns-2 c =
-    let a = c .before .before .before .before .before .before .before .args in
-    let struct-known = c .before .before .before .before .before .struct-known in
-    let struct-known2 = c .before .before .before .before .struct-known2 in
-    let if1 = c .before .before .before .if1 in
-    let struct-known3 = c .before .before .struct-known3 in
-    let if2 = c .before .if2 in
-    let resolve-two = c .resolve-two in
-    ?returns-2
+unfolding goesD pick
+returns-2 c = rw (ne-eqb _ _ (c .before .before .before .if1 .left), eq-eqb _ _ (c .before .if2 .taken)) (c .resolve-two .ensures)
 
 -- src/labels.rt:93:1
 returns-3 : tie.Need-returns-3
-returns-3 c =
-    let a = c .before .before .before .before .before .before .args in
-    let struct-known = c .before .before .before .before .struct-known in
-    let struct-known2 = c .before .before .before .struct-known2 in
-    let if1 = c .before .before .if1 in
-    let struct-known3 = c .before .struct-known3 in
-    let if2 = c .if2 in
-    ?returns-3
+unfolding goesD pick
+returns-3 c = rw (ne-eqb _ _ (c .before .before .if1 .left), ne-eqb _ _ (c .if2 .left))
 
 pub resolve-spec : {M : Type 1} → statement M
 resolve-spec =

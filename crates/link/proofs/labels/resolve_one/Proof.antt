@@ -10,6 +10,7 @@ use lib.ListN.{length, drop, take, getD}
 use lib.Seq.{drop-cons}
 use denote.Ref.{now}
 use borrow.Author.Needs.{needs}
+use Rattle.link.specs.Steps.{thenFound, oneD, twoD, goesD}
 use Rattle.link.proofs.labels.resolve_one.Statement.{statement}
 use Rattle.link.proofs.labels.resolve_one.Tie as tie
 use Rattle.link.proofs.labels.resolve_one.Reads as reads
@@ -35,23 +36,13 @@ unknown-requires c κs = search needs
 
 -- src/labels.rt:69:1
 returns : tie.Need-returns
-returns c =
-    let a = c .before .before .before .before .before .args in
-    let get = c .before .before .before .get in
-    let match = c .before .before .match in
-    let to = c .before .to in
-    let known-told = c .known-told in
-    ?returns
+unfolding oneD thenFound
+returns c = rw (← c .before .before .before .get .ensures, c .before .to .given .1)
 
 -- src/labels.rt:69:1
 returns-2 : tie.Need-returns-2
-returns-2 c =
-    let a = c .before .before .before .before .before .args in
-    let get = c .before .before .before .get in
-    let match = c .before .before .match in
-    let enum-told = c .before .enum-told in
-    let unknown = c .unknown in
-    ?returns-2
+unfolding oneD thenFound
+returns-2 c = rw (← c .before .before .before .get .ensures, c .before .enum-told .given .1, c .unknown .ensures)
 
 pub resolve-one-spec : {M : Type 1} → statement M
 resolve-one-spec =

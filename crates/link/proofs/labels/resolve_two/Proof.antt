@@ -10,6 +10,7 @@ use lib.ListN.{length, drop, take, getD}
 use lib.Seq.{drop-cons}
 use denote.Ref.{now}
 use borrow.Author.Needs.{needs}
+use Rattle.link.specs.Steps.{thenFound, oneD, twoD, goesD}
 use Rattle.link.proofs.labels.resolve_two.Statement.{statement}
 use Rattle.link.proofs.labels.resolve_two.Tie as tie
 use Rattle.link.proofs.labels.resolve_two.Reads as reads
@@ -51,41 +52,18 @@ unknown-requires-2 c κs = search needs
 
 -- src/labels.rt:79:1
 returns : tie.Need-returns
-returns c =
-    let a = c .before .before .before .before .before .before .before .before .before .args in
-    let get = c .before .before .before .before .before .before .before .get in
-    let match = c .before .before .before .before .before .before .match in
-    let to = c .before .before .before .before .before .to in
-    let known-told = c .before .before .before .before .known-told in
-    let get2 = c .before .before .before .get2 in
-    let match2 = c .before .before .match2 in
-    let other = c .before .other in
-    let known-told2 = c .known-told2 in
-    ?returns
+unfolding twoD thenFound
+returns c = rw (← c .before .before .before .before .before .before .before .get .ensures, c .before .before .before .before .before .to .given .1, ← c .before .before .before .get2 .ensures, c .before .other .given .1)
 
 -- src/labels.rt:79:1
 returns-2 : tie.Need-returns-2
-returns-2 c =
-    let a = c .before .before .before .before .before .before .before .before .before .args in
-    let get = c .before .before .before .before .before .before .before .get in
-    let match = c .before .before .before .before .before .before .match in
-    let to = c .before .before .before .before .before .to in
-    let known-told = c .before .before .before .before .known-told in
-    let get2 = c .before .before .before .get2 in
-    let match2 = c .before .before .match2 in
-    let enum-told = c .before .enum-told in
-    let unknown = c .unknown in
-    ?returns-2
+unfolding twoD thenFound
+returns-2 c = rw (← c .before .before .before .before .before .before .before .get .ensures, c .before .before .before .before .before .to .given .1, ← c .before .before .before .get2 .ensures, c .before .enum-told .given .1, c .unknown .ensures)
 
 -- src/labels.rt:79:1
 returns-3 : tie.Need-returns-3
-returns-3 c =
-    let a = c .before .before .before .before .before .args in
-    let get = c .before .before .before .get in
-    let match = c .before .before .match in
-    let enum-told2 = c .before .enum-told2 in
-    let unknown2 = c .unknown2 in
-    ?returns-3
+unfolding twoD thenFound
+returns-3 c = rw (← c .before .before .before .get .ensures, c .before .enum-told2 .given .1, c .unknown2 .ensures)
 
 pub resolve-two-spec : {M : Type 1} → statement M
 resolve-two-spec =
