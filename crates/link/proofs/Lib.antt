@@ -1,2 +1,5 @@
 pub mod Scanning
 pub mod Entering
+pub mod Places
+pub mod Closing
+pub mod Cutting

@@ -9,7 +9,8 @@ use lib.Seq.{sets}
 use Rattle.utils.specs.Bytes.{pick}
 use Rattle.parser.specs.Blocks.{Part, name, operation, Block, namesIn, blocksOf}
 use Rattle.parser.specs.Edges.{Place, at, nowhere, missing, places, Resolved, fine, refused, predecessors}
-use Rattle.body.specs.Records.{partsAt}
+use Rattle.parser.specs.declared.Refusal.{Refusal}
+use Rattle.body.specs.Records.{recordAt, partsAt}
 use Rattle.body.specs.Room.{filled}
 use Rattle.body.specs.declared.ItemRecord.{ItemRecord}
 use Rattle.link.specs.Table.{labelPlace, leading}
@@ -33,6 +34,19 @@ pub record Ready (items : List ℕ) (first count : ℕ) (labels : List ℕ) (lab
   pub blocks-there : 8192 ≤ length blocks
   pub few-before : used ≤ base * 2
   pub predecessors-there : 2048 ≤ length preds
+
+-- What cutting the items into blocks needs of it, with how many labels stand before the first operation.
+pub record Cut (items : List ℕ) (first count : ℕ) (labels : List ℕ) (labelled before : ℕ) (blocks : List ℕ) (base : ℕ)
+    : Type 0 where
+  pub items-there : (first + count) * 8 ≤ length items
+  pub few-items : first + count ≤ 3072
+  pub few-labels : labelled ≤ 255
+  pub labels-there : labelled ≤ length labels
+  pub labels-are : take labelled labels ≡ namesIn (partsAt items first count)
+  pub before-are : before ≡ leading (partsAt items first count)
+  pub before-few : before ≤ count
+  pub few-blocks : base + filled true (partsAt items first count) ≤ 1024
+  pub blocks-there : 8192 ≤ length blocks
 
 -- Labels. -----------------------------------------------------------------------------------------------------------
 
@@ -81,6 +95,17 @@ putGoes b i from n (G.Refused e) = b
 abbrev pub countedBy : ℕ → Goes → Numbered
 countedBy n (G.Done c x y) = N.Done (n + 1)
 countedBy n (G.Refused e) = N.Refused e
+
+-- Record k after the block of the operations from `from` to before `stop`, which stands there then: `empty` where there
+-- are none.
+unfoldable pub addedD : ℕ → List ℕ → List ℕ → ℕ → ℕ → Refusal → ℕ → Numbered
+addedD before names items from stop empty k =
+    pick (eqb stop from) (N.Refused empty) (countedBy k (goesD before names (recordAt items (stop - 1))))
+
+unfoldable pub addedCells : ℕ → List ℕ → List ℕ → ℕ → ℕ → List ℕ → ℕ → List ℕ
+addedCells before names items from stop cells k =
+    pick (eqb stop from) cells
+    (putGoes cells (k * 8) from (stop - from) (goesD before names (recordAt items (stop - 1))))
 
 abbrev pub fiveOf : ℕ → Block → List ℕ → List ℕ
 fiveOf first b s = (first + b .first) ∷ b .operations ∷ length s ∷ getD s 0 0 ∷ getD s 1 0 ∷ []

@@ -2,13 +2,12 @@
 ghost use mathlib.Core.Path.{_≡_};
 ghost use mathlib.Core.List.{[], _∷_};
 ghost use Prim.Native.Nat.{_+_, _-_, _*_, _≤_, _<_};
-ghost use lib.Dec.{eqb};
 ghost use lib.ListN.{length, take};
 ghost use lib.Seq.{sets};
-ghost use Rattle.utils.specs.Bytes.{pick};
 ghost use Rattle.body.specs.Records.{recordAt, partsAt};
-ghost use Rattle.link.specs.declared.Numbered.the-variants as N;
-ghost use Rattle.link.specs.Steps.{goesD, run, putGoes, countedBy};
+ghost use Rattle.parser.specs.Blocks.{blocksOf};
+ghost use Rattle.parser.specs.Edges.{resolveD};
+ghost use Rattle.link.specs.Steps.{goesD, run, putGoes, addedD, addedCells, Cut, numberedBy, FivesHeld};
 use crate::Goes;
 use crate::Numbered;
 use crate::labels;
@@ -67,6 +66,73 @@ fn close_block(
         Goes::Done(count, to, other) => {
             put_block(blocks, at, from as u32, (stop - from) as u32, count, to, other);
             Goes::Done(count, to, other)
+        }
+    }
+}
+
+// The block of the operations from `from` to before `stop` becomes record k. The record after it, or `empty` where there
+// are no operations.
+fn add_block(
+    items: &[u32],
+    from: usize,
+    stop: usize,
+    empty: Refusal,
+    labels: &[u32],
+    labelled: usize,
+    before: usize,
+    blocks: &mut [u32],
+    k: usize,
+) -> Numbered
+    requires { ⌜ (from ≤ stop) × (stop ≤ 3072) × (stop * 8 ≤ length (now items)) × (labelled ≤ 255)
+        × (labelled ≤ length (now labels)) × (8192 ≤ length (now blocks)) × (from < stop → k < 1024) ⌝ }
+    ensures { λ r. ⌜ r ≡ addedD before (take labelled (now (labels .entry))) (now (items .entry)) from stop empty k ⌝ }
+    ensures { λ r. ⌜ now (blocks .exit) ≡ addedCells before (take labelled (now (labels .entry))) (now (items .entry))
+        from stop (now (blocks .entry)) k ⌝ }
+{
+    if stop == from {
+        return Numbered::Refused(empty);
+    }
+    match close_block(items, from, stop, labels, labelled, before, blocks, k * 8) {
+        Goes::Refused(e) => Numbered::Refused(e),
+        Goes::Done(_, _, _) => Numbered::Done(k + 1),
+    }
+}
+
+// A function's blocks from the record `base` on, but for what enters them. How many they are, or 22 or 14.
+pub fn link_blocks(
+    items: &[u32],
+    first: usize,
+    count: usize,
+    name: usize,
+    labels: &[u32],
+    labelled: usize,
+    before: usize,
+    blocks: &mut [u32],
+    base: usize,
+) -> Numbered
+    requires { ⌜ Cut (now items) first count (now labels) labelled before (now blocks) base ⌝ }
+    ensures { λ r. ⌜ r ≡ numberedBy (blocksOf (partsAt (now (items .entry)) first count))
+        (resolveD name (blocksOf (partsAt (now (items .entry)) first count))) ⌝ }
+    ensures { λ r. ⌜ FivesHeld (blocksOf (partsAt (now (items .entry)) first count)) first base
+        (now (blocks .entry)) (now (blocks .exit)) r ⌝ }
+{
+    let end = first + count;
+    let empty = parser::refuse(22, name);
+    let mut from = first + before;
+    let mut k = base;
+    loop {
+        let stop = block_end(items, from, end);
+        match add_block(items, from, stop, empty, labels, labelled, before, blocks, k) {
+            Numbered::Refused(e) => {
+                return Numbered::Refused(e);
+            }
+            Numbered::Done(next) => {
+                k = next;
+                if stop == end {
+                    return Numbered::Done(k - base);
+                }
+                from = stop + 1;
+            }
         }
     }
 }
