@@ -3,3 +3,5 @@ pub mod Entering
 pub mod Places
 pub mod Closing
 pub mod Cutting
+pub mod Laws
+pub mod Edges
