@@ -5,3 +5,5 @@ pub mod Closing
 pub mod Cutting
 pub mod Laws
 pub mod Edges
+pub mod Whole
+pub mod Linking
