@@ -3,3 +3,5 @@
 pub mod Table
 -- block records and predecessors, and the whole answer
 pub mod Cells
+-- what each function does
+pub mod Steps

@@ -1,0 +1,9 @@
+pub mod Scanning
+pub mod Entering
+pub mod Places
+pub mod Closing
+pub mod Cutting
+pub mod Laws
+pub mod Edges
+pub mod Whole
+pub mod Linking

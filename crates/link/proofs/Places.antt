@@ -1,0 +1,122 @@
+-- A label's number among the labels tells its block, and a record's labels are resolved as `resolveLabels` does it.
+use Prim.Native.Nat.{ℕ, zero, suc, _+_, _-_, _≤_, _<_}
+use mathlib.Core.Path.{_≡_, refl, sym, ap, _∙_}
+use mathlib.Core.Bool.{Bool, true, false}
+use mathlib.Core.List.{List, [], _∷_, _++_}
+use native.Mathlib.Omega.{arith}
+use native.Mathlib.Nat.{add-zero}
+use borrow.Author.Tests.{lt-ltb, le-ltb}
+use lib.Dec.{ltb, eqb}
+use lib.ListN.{length, getD}
+use Rattle.utils.specs.Bytes.{pick}
+use Rattle.parser.specs.Labels.{has}
+use Rattle.parser.specs.Blocks.{Part, name, operation, Block, fresh, grown, namesIn, blocksFrom, blocksAfter, blocksOf}
+use Rattle.parser.specs.Edges.{Place, at, nowhere, placeOf, thenPlace, missing, places, Resolved, refused, resolveLabels}
+use Rattle.body.specs.Records.{goesOf}
+use Rattle.body.specs.declared.ItemRecord.{ItemRecord}
+use Rattle.link.specs.Table.{leading, blockOf, labelPlace}
+use Rattle.link.specs.Steps.{foundOf, thenFound, oneD, twoD, goesD}
+use Rattle.link.specs.declared.Goes.{Goes}
+use Rattle.link.specs.declared.Goes.the-variants as G
+
+later-block : (before i k : ℕ) → k + before ≡ i → blockOf before i ≡ k + 1
+unfolding blockOf pick
+later-block before i k h = rw (le-ltb i before (omega arith)) (omega arith)
+
+first-block : (before i : ℕ) → i < before → blockOf before i ≡ 0
+unfolding blockOf pick
+first-block before i h = rw (lt-ltb i before h)
+
+-- one label more is looked at
+one-label : (t : Bool) (x y : Place) → pick (pick t true false) x y ≡ pick t x y
+unfolding pick
+one-label true x y = refl
+one-label false x y = refl
+
+last-label : (s t : Bool) (x y : Place) → pick (pick s true t) x y ≡ pick s x (pick t x y)
+unfolding pick
+last-label true t x y = refl
+last-label false t x y = refl
+
+has-last : (ls : List ℕ) (m l : ℕ) → has (ls ++ (m ∷ [])) l ≡ pick (has ls l) true (eqb m l)
+unfolding has pick
+has-last [] m l = by (eqb m l)
+  where
+    by : (t : Bool) → pick t true false ≡ t
+    by true = refl
+    by false = refl
+has-last (x ∷ ls) m l = rw (has-last ls m l) (by (eqb x l))
+  where
+    by : (t : Bool) → pick t true (pick (has ls l) true (eqb m l)) ≡ pick (pick t true (has ls l)) true (eqb m l)
+    by true = refl
+    by false = refl
+
+place-from : (l before : ℕ) (ps : List Part) (here : ℕ) (b : Block) (k i : ℕ) → k + before ≡ i
+    → placeOf (blocksFrom here b ps) l k ≡ pick (has (b .labels) l) (at k) (labelPlace before i (namesIn ps) l)
+unfolding placeOf blocksFrom labelPlace namesIn has
+place-from l before [] here b k i h = refl
+place-from l before (name m ∷ ps) here b k i h =
+    let ih = place-from l before ps (here + 1) (fresh (m ∷ []) (here + 1)) (k + 1) (i + 1) (omega arith) in
+    rw (ih, later-block before i k h, one-label (eqb m l) (at (k + 1)) (labelPlace before (i + 1) (namesIn ps) l))
+place-from l before (operation w goes ∷ ps) here b k i h = place-from l before ps (here + 1) (grown b w goes) k i h
+
+place-after : (l before : ℕ) (ps : List Part) (here : ℕ) (ls : List ℕ) (i : ℕ) → before ≡ i + leading ps
+    → placeOf (blocksAfter here ls ps) l 0 ≡ pick (has ls l) (at 0) (labelPlace before i (namesIn ps) l)
+unfolding placeOf blocksAfter labelPlace namesIn leading
+place-after l before [] here ls i h = refl
+place-after l before (name m ∷ ps) here ls i h =
+    let ih = place-after l before ps (here + 1) (ls ++ (m ∷ [])) (i + 1) (omega arith) in
+    rw (ih, has-last ls m l, first-block before i (omega arith))
+    (last-label (has ls l) (eqb m l) (at 0) (labelPlace before (i + 1) (namesIn ps) l))
+place-after l before (operation w goes ∷ ps) here ls i h =
+    place-from l before (operation w goes ∷ ps) here (fresh ls here) 0 i (omega arith)
+
+-- The block that has a label among its own is the one that the label's number tells.
+pub place-of-label : (ps : List Part) (l : ℕ) → placeOf (blocksOf ps) l 0 ≡ labelPlace (leading ps) 0 (namesIn ps) l
+unfolding has pick
+place-of-label ps l = place-after l (leading ps) ps 0 [] 0 (omega arith)
+
+pub same-place : (ps : List Part) (before : ℕ) (names : List ℕ) → before ≡ leading ps → names ≡ namesIn ps → (l : ℕ)
+    → placeOf (blocksOf ps) l 0 ≡ labelPlace before 0 names l
+same-place ps before names e f l = rw (e, f) (place-of-label ps l)
+
+-- A record's labels. ------------------------------------------------------------------------------------------------
+
+-- what these labels give, resolved among all blocks: the refusal, or their blocks
+abbrev pub Gone : List Block → ℕ → List ℕ → Goes → Type 0
+Gone all token ls (G.Done n x y) =
+    ((rest : Resolved) → resolveLabels all token ls rest ≡ rest)
+    × (length (places all ls) ≡ n) × (getD (places all ls) 0 0 ≡ x) × (getD (places all ls) 1 0 ≡ y)
+Gone all token ls (G.Refused e) = (rest : Resolved) → resolveLabels all token ls rest ≡ refused e
+
+gone-one : (all : List Block) (token l : ℕ) (p : Place) → placeOf all l 0 ≡ p
+    → Gone all token (l ∷ []) (thenFound (foundOf p) (λ x. G.Done 1 x 0) (G.Refused (missing token l)))
+unfolding resolveLabels places thenPlace thenFound
+gone-one all token l (at x) e = (λ rest. rw e, rw e, rw e, rw e)
+gone-one all token l nowhere e = λ rest. rw e
+
+gone-two : (all : List Block) (token l m : ℕ) (p q : Place) → placeOf all l 0 ≡ p → placeOf all m 0 ≡ q
+    → Gone all token (l ∷ m ∷ []) (thenFound (foundOf p) (λ x. thenFound (foundOf q) (λ y. G.Done 2 x y)
+    (G.Refused (missing token m))) (G.Refused (missing token l)))
+unfolding resolveLabels places thenPlace thenFound
+gone-two all token l m (at x) (at y) e f = (λ rest. rw (e, f), rw (e, f), rw e, rw (e, f))
+gone-two all token l m (at x) nowhere e f = λ rest. rw (e, f)
+gone-two all token l m nowhere q e f = λ rest. rw e
+
+module _ (all : List Block) (before : ℕ) (names : List ℕ)
+    (same : (l : ℕ) → placeOf all l 0 ≡ labelPlace before 0 names l) where
+  gone-by : (r : ItemRecord) (nine ten : Bool)
+      → Gone all (r .token) (pick nine (r .right ∷ []) (pick ten (r .right ∷ r .rty ∷ []) []))
+      (pick nine (oneD before names (r .token) (r .right))
+      (pick ten (twoD before names (r .token) (r .right) (r .rty)) (G.Done 0 0 0)))
+  unfolding pick oneD twoD resolveLabels places
+  gone-by r true ten =
+      gone-one all (r .token) (r .right) (labelPlace before 0 names (r .right)) (same (r .right))
+  gone-by r false true =
+      gone-two all (r .token) (r .right) (r .rty) (labelPlace before 0 names (r .right))
+      (labelPlace before 0 names (r .rty)) (same (r .right)) (same (r .rty))
+  gone-by r false false = (λ rest. refl, refl, refl, refl)
+
+  pub gone : (r : ItemRecord) → Gone all (r .token) (goesOf r) (goesD before names r)
+  unfolding goesOf goesD
+  gone r = gone-by r (eqb (r .kind) 9) (eqb (r .kind) 10)

@@ -1,0 +1,76 @@
+-- Records read one after the other: what the labels and operations from here on are, with one record more.
+use Prim.Native.Nat.{ℕ, zero, suc, _+_, _-_, _≤_, _<_}
+use mathlib.Core.Path.{_≡_, refl, sym, ap, _∙_}
+use mathlib.Core.List.{List, [], _∷_}
+use native.Mathlib.Omega.{arith}
+use borrow.Author.Tests.{eq-eqb, ne-eqb}
+use Rattle.utils.specs.Bytes.{pick}
+use Rattle.parser.specs.Blocks.{Part, name, operation}
+use Rattle.body.specs.Records.{recordAt, recordPart, goesOf, partsAt}
+use Rattle.body.specs.declared.ItemRecord.{ItemRecord}
+use Rattle.link.specs.Table.{leading}
+use Rattle.link.specs.Steps.{run}
+
+pub parts-more : (cells : List ℕ) (first count : ℕ) → 0 < count
+    → partsAt cells first count ≡ recordPart (recordAt cells first) ∷ partsAt cells (first + 1) (count - 1)
+unfolding partsAt
+parts-more cells first zero h = absurd (omega arith)
+parts-more cells first (suc count) h =
+    let e : suc count - 1 ≡ count = omega arith in
+    rw e
+
+pub parts-none : (cells : List ℕ) (first count : ℕ) → count ≡ 0 → partsAt cells first count ≡ []
+unfolding partsAt
+parts-none cells first count z = rw z
+
+pub label-part : (r : ItemRecord) → r .kind ≡ 1 → recordPart r ≡ name (r .right)
+unfolding recordPart pick
+label-part r h = rw (eq-eqb _ _ h)
+
+pub operation-part : (r : ItemRecord) → (r .kind ≡ 1 → ⊥) → recordPart r ≡ operation (r .token) (goesOf r)
+unfolding recordPart pick
+operation-part r h = rw (ne-eqb _ _ h)
+
+-- Behind i leading labels of `count` items.
+module _ (cells : List ℕ) (first count i : ℕ) (less : i < count) (r : ItemRecord)
+    (read : r ≡ recordAt cells (first + i)) where
+  here : partsAt cells (first + i) (count - i)
+      ≡ recordPart r ∷ partsAt cells (first + (i + 1)) (count - (i + 1))
+  here =
+      let e : first + (i + 1) ≡ first + i + 1 = omega arith in
+      let f : count - (i + 1) ≡ count - i - 1 = omega arith in
+      rw (e, f, read) (parts-more cells (first + i) (count - i) (omega arith))
+
+  pub leading-on : r .kind ≡ 1 → (whole : ℕ) → i + leading (partsAt cells (first + i) (count - i)) ≡ whole
+      → i + 1 + leading (partsAt cells (first + (i + 1)) (count - (i + 1))) ≡ whole
+  unfolding leading
+  leading-on k whole h =
+      let e = rw (here, label-part r k) at h in
+      omega (arith, e)
+
+  pub leading-ends : (r .kind ≡ 1 → ⊥) → (whole : ℕ) → i + leading (partsAt cells (first + i) (count - i)) ≡ whole
+      → i ≡ whole
+  unfolding leading
+  leading-ends k whole h =
+      let e = rw (here, operation-part r k) at h in
+      omega (arith, e)
+
+-- The operations from the item i on, up to the item `end`.
+module _ (cells : List ℕ) (i end : ℕ) (less : i < end) (r : ItemRecord) (read : r ≡ recordAt cells i) where
+  there : partsAt cells i (end - i) ≡ recordPart r ∷ partsAt cells (i + 1) (end - (i + 1))
+  there =
+      let f : end - (i + 1) ≡ end - i - 1 = omega arith in
+      rw (f, read) (parts-more cells i (end - i) (omega arith))
+
+  pub run-on : (r .kind ≡ 1 → ⊥) → (whole : ℕ) → i + run (partsAt cells i (end - i)) ≡ whole
+      → i + 1 + run (partsAt cells (i + 1) (end - (i + 1))) ≡ whole
+  unfolding run
+  run-on k whole h =
+      let e = rw (there, operation-part r k) at h in
+      omega (arith, e)
+
+  pub run-ends : r .kind ≡ 1 → (whole : ℕ) → i + run (partsAt cells i (end - i)) ≡ whole → i ≡ whole
+  unfolding run
+  run-ends k whole h =
+      let e = rw (there, label-part r k) at h in
+      omega (arith, e)

@@ -1,0 +1,138 @@
+// A function's items, cut into blocks.
+ghost use mathlib.Core.Path.{_≡_};
+ghost use mathlib.Core.List.{[], _∷_};
+ghost use Prim.Native.Nat.{_+_, _-_, _*_, _≤_, _<_};
+ghost use lib.ListN.{length, take};
+ghost use lib.Seq.{sets};
+ghost use Rattle.body.specs.Records.{recordAt, partsAt};
+ghost use Rattle.parser.specs.Blocks.{blocksOf};
+ghost use Rattle.parser.specs.Edges.{resolveD};
+ghost use Rattle.link.specs.Steps.{goesD, run, putGoes, addedD, addedCells, Cut, numberedBy, FivesHeld};
+use crate::Goes;
+use crate::Numbered;
+use crate::labels;
+use parser::Refusal;
+
+// Where the operations from the item `from` on end: at a label, or behind the last item.
+fn block_end(items: &[u32], from: usize, end: usize) -> usize
+    requires { ⌜ (from ≤ end) × (end * 8 ≤ length (now items)) ⌝ }
+    ensures { λ r. ⌜ (r ≡ from + run (partsAt (now (items .entry)) from (end - from))) × (r ≤ end) ⌝ }
+{
+    let mut i = from;
+    while i < end {
+        let r = body::records::record_at(items, i);
+        if r.kind == 1 {
+            return i;
+        }
+        i += 1;
+    }
+    i
+}
+
+fn put_block(blocks: &mut [u32], at: usize, from: u32, n: u32, count: u32, to: u32, other: u32)
+    requires { ⌜ at + 5 ≤ length (now blocks) ⌝ }
+    ensures { λ r. ⌜ now (blocks .exit) ≡ sets (now (blocks .entry)) at (from ∷ n ∷ count ∷ to ∷ other ∷ []) ⌝ }
+{
+    let at1 = at + 1;
+    let at2 = at + 2;
+    let at3 = at + 3;
+    let at4 = at + 4;
+    blocks[at] = from;
+    blocks[at1] = n;
+    blocks[at2] = count;
+    blocks[at3] = to;
+    blocks[at4] = other;
+}
+
+// The block of the operations from `from` to before `stop` goes to the cells from `at` on.
+fn close_block(
+    items: &[u32],
+    from: usize,
+    stop: usize,
+    labels: &[u32],
+    labelled: usize,
+    before: usize,
+    blocks: &mut [u32],
+    at: usize,
+) -> Goes
+    requires { ⌜ (from < stop) × (stop ≤ 3072) × (stop * 8 ≤ length (now items)) × (labelled ≤ 255)
+        × (labelled ≤ length (now labels)) × (at + 5 ≤ length (now blocks)) ⌝ }
+    ensures { λ r. ⌜ (r ≡ goesD before (take labelled (now (labels .entry))) (recordAt (now (items .entry)) (stop - 1)))
+        × (now (blocks .exit) ≡ putGoes (now (blocks .entry)) at from (stop - from) r) ⌝ }
+{
+    let r = body::records::record_at(items, stop - 1);
+    match labels::resolve(labels, labelled, before, r) {
+        Goes::Refused(e) => Goes::Refused(e),
+        Goes::Done(count, to, other) => {
+            put_block(blocks, at, from as u32, (stop - from) as u32, count, to, other);
+            Goes::Done(count, to, other)
+        }
+    }
+}
+
+// The block of the operations from `from` to before `stop` becomes record k. The record after it, or `empty` where there
+// are no operations.
+fn add_block(
+    items: &[u32],
+    from: usize,
+    stop: usize,
+    empty: Refusal,
+    labels: &[u32],
+    labelled: usize,
+    before: usize,
+    blocks: &mut [u32],
+    k: usize,
+) -> Numbered
+    requires { ⌜ (from ≤ stop) × (stop ≤ 3072) × (stop * 8 ≤ length (now items)) × (labelled ≤ 255)
+        × (labelled ≤ length (now labels)) × (8192 ≤ length (now blocks)) × (from < stop → k < 1024) ⌝ }
+    ensures { λ r. ⌜ r ≡ addedD before (take labelled (now (labels .entry))) (now (items .entry)) from stop empty k ⌝ }
+    ensures { λ r. ⌜ now (blocks .exit) ≡ addedCells before (take labelled (now (labels .entry))) (now (items .entry))
+        from stop (now (blocks .entry)) k ⌝ }
+{
+    if stop == from {
+        return Numbered::Refused(empty);
+    }
+    match close_block(items, from, stop, labels, labelled, before, blocks, k * 8) {
+        Goes::Refused(e) => Numbered::Refused(e),
+        Goes::Done(_, _, _) => Numbered::Done(k + 1),
+    }
+}
+
+// A function's blocks from the record `base` on, but for what enters them. How many they are, or 22 or 14.
+pub fn link_blocks(
+    items: &[u32],
+    first: usize,
+    count: usize,
+    name: usize,
+    labels: &[u32],
+    labelled: usize,
+    before: usize,
+    blocks: &mut [u32],
+    base: usize,
+) -> Numbered
+    requires { ⌜ Cut (now items) first count (now labels) labelled before (now blocks) base ⌝ }
+    ensures { λ r. ⌜ r ≡ numberedBy (blocksOf (partsAt (now (items .entry)) first count))
+        (resolveD name (blocksOf (partsAt (now (items .entry)) first count))) ⌝ }
+    ensures { λ r. ⌜ FivesHeld (blocksOf (partsAt (now (items .entry)) first count)) first base
+        (now (blocks .entry)) (now (blocks .exit)) r ⌝ }
+{
+    let end = first + count;
+    let empty = parser::refuse(22, name);
+    let mut from = first + before;
+    let mut k = base;
+    loop {
+        let stop = block_end(items, from, end);
+        match add_block(items, from, stop, empty, labels, labelled, before, blocks, k) {
+            Numbered::Refused(e) => {
+                return Numbered::Refused(e);
+            }
+            Numbered::Done(next) => {
+                k = next;
+                if stop == end {
+                    return Numbered::Done(k - base);
+                }
+                from = stop + 1;
+            }
+        }
+    }
+}

@@ -1,0 +1,105 @@
+// The labels of a function and the blocks that they name: the Rust's LabelsToBlocks.
+ghost use mathlib.Core.Path.{_≡_};
+ghost use Prim.Native.Nat.{_+_, _*_, _≤_};
+ghost use lib.ListN.{length, take};
+ghost use Rattle.body.specs.Records.{partsAt};
+ghost use Rattle.link.specs.Table.{leading, blockOf, labelPlace};
+ghost use Rattle.link.specs.Steps.{foundOf, oneD, twoD, goesD};
+ghost use Rattle.parser.specs.Edges.{missing};
+use crate::Found;
+use crate::Goes;
+use body::ItemRecord;
+use parser::Refusal;
+use pieces::Identifier;
+
+// How many labels stand before the first operation: each of them names block 0.
+pub fn leading_labels(items: &[u32], first: usize, count: usize) -> usize
+    requires { ⌜ (first + count) * 8 ≤ length (now items) ⌝ }
+    ensures { λ r. ⌜ (r ≡ leading (partsAt (now (items .entry)) first count)) × (r ≤ count) ⌝ }
+{
+    let mut i: usize = 0;
+    while i < count {
+        let r = body::records::record_at(items, first + i);
+        if r.kind != 1 {
+            return i;
+        }
+        i += 1;
+    }
+    i
+}
+
+// The block that label i opens or names.
+fn block_of(before: usize, i: usize) -> u32
+    requires { ⌜ i ≤ 255 ⌝ }
+    ensures { λ r. ⌜ r ≡ blockOf before i ⌝ }
+{
+    if i < before {
+        return 0;
+    }
+    (i + 1 - before) as u32
+}
+
+fn get(labels: &[u32], labelled: usize, before: usize, name: u32) -> Found
+    requires { ⌜ (labelled ≤ 255) × (labelled ≤ length (now labels)) ⌝ }
+    ensures { λ r. ⌜ r ≡ foundOf (labelPlace before 0 (take labelled (now (labels .entry))) name) ⌝ }
+{
+    let mut i: usize = 0;
+    while i < labelled {
+        if labels[i] == name {
+            return Found::At(block_of(before, i));
+        }
+        i += 1;
+    }
+    Found::Nowhere
+}
+
+// 14: the label names no block.
+fn unknown(token: usize, name: u32) -> Refusal
+    ensures { λ r. ⌜ r ≡ missing token name ⌝ }
+{
+    Refusal {
+        number: 14,
+        token,
+        wanted: 0,
+        found: 0,
+        name: Identifier(name),
+    }
+}
+
+fn resolve_one(labels: &[u32], labelled: usize, before: usize, token: usize, next: u32) -> Goes
+    requires { ⌜ (labelled ≤ 255) × (labelled ≤ length (now labels)) ⌝ }
+    ensures { λ r. ⌜ r ≡ oneD before (take labelled (now (labels .entry))) token next ⌝ }
+{
+    match get(labels, labelled, before, next) {
+        Found::At(to) => Goes::Done(1, to, 0),
+        Found::Nowhere => Goes::Refused(unknown(token, next)),
+    }
+}
+
+fn resolve_two(labels: &[u32], labelled: usize, before: usize, token: usize, then: u32, els: u32) -> Goes
+    requires { ⌜ (labelled ≤ 255) × (labelled ≤ length (now labels)) ⌝ }
+    ensures { λ r. ⌜ r ≡ twoD before (take labelled (now (labels .entry))) token then els ⌝ }
+{
+    match get(labels, labelled, before, then) {
+        Found::At(to) => match get(labels, labelled, before, els) {
+            Found::At(other) => Goes::Done(2, to, other),
+            Found::Nowhere => Goes::Refused(unknown(token, els)),
+        },
+        Found::Nowhere => Goes::Refused(unknown(token, then)),
+    }
+}
+
+// Where a block leads whose last operation has this record. Kind 9 is `jmp`, 10 is `br`.
+pub fn resolve(labels: &[u32], labelled: usize, before: usize, r: ItemRecord) -> Goes
+    requires { ⌜ (labelled ≤ 255) × (labelled ≤ length (now labels)) ⌝ }
+    ensures { λ res. ⌜ res ≡ goesD before (take labelled (now (labels .entry))) r ⌝ }
+{
+    let token = r.token as usize;
+    if r.kind == 9 {
+        return resolve_one(labels, labelled, before, token, r.right);
+    }
+    if r.kind == 10 {
+        return resolve_two(labels, labelled, before, token, r.right, r.rty);
+    }
+    Goes::Done(0, 0, 0)
+}
