@@ -101,7 +101,7 @@ module _ (ts : List Tok) (last : ℕ) (ends : tokenAt ts last .kind ≡ 38) wher
       let k = eqb-true (tokenAt ts at .kind) kind t in
       moves at h (λ z. eqb-false kind 38 n (rw k at z))
 
-  consume-step : {A : Type 0} (Q : A → Type 0) (fail : Refusal → A) (k : ℕ → A) (at kind : ℕ) → at ≤ last
+  pub consume-step : {A : Type 0} (Q : A → Type 0) (fail : Refusal → A) (k : ℕ → A) (at kind : ℕ) → at ≤ last
       → eqb kind 38 ≡ false → ((e : Refusal) → Q (fail e)) → (at + 1 ≤ last → Q (k (at + 1)))
       → Q (thenAt fail (consumeD ts at kind) k)
   unfolding consumeD look thenAt
@@ -109,7 +109,7 @@ module _ (ts : List Tok) (last : ℕ) (ends : tokenAt ts last .kind ≡ 38) wher
       pick-either (λ (c : Consumed). Q (thenAt fail c k)) (eqb (tokenAt ts at .kind) kind) _ _
       (λ t. let m = moved at kind h n t in rw (m .0) (g (m .1))) (λ t. f _)
 
-  named-step : {A : Type 0} (Q : A → Type 0) (fail : Refusal → A) (k : Identifier → ℕ → A) (at kind number : ℕ)
+  pub named-step : {A : Type 0} (Q : A → Type 0) (fail : Refusal → A) (k : Identifier → ℕ → A) (at kind number : ℕ)
       → at ≤ last → eqb kind 38 ≡ false → ((e : Refusal) → Q (fail e)) → ((x : Identifier) → at + 1 ≤ last → Q (k x (at + 1)))
       → Q (thenNamed fail (namedD ts at kind number) k)
   unfolding namedD thenNamed
@@ -117,7 +117,7 @@ module _ (ts : List Tok) (last : ℕ) (ends : tokenAt ts last .kind ≡ 38) wher
       pick-either (λ (c : Named). Q (thenNamed fail c k)) (eqb (tokenAt ts at .kind) kind) _ _
       (λ t. let m = moved at kind h n t in rw (m .0) (g _ (m .1))) (λ t. f _)
 
-  type-step : {A : Type 0} (Q : A → Type 0) (fail : Refusal → A) (k : Ty → ℕ → A) (at : ℕ) → at ≤ last
+  pub type-step : {A : Type 0} (Q : A → Type 0) (fail : Refusal → A) (k : Ty → ℕ → A) (at : ℕ) → at ≤ last
       → ((e : Refusal) → Q (fail e)) → ((t : Ty) → at + 1 ≤ last → Q (k t (at + 1)))
       → Q (thenType fail (typeD ts at) k)
   unfolding typeD look thenType

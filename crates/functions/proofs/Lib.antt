@@ -3,3 +3,4 @@ pub mod Stores
 pub mod Heads
 pub mod Program
 pub mod Seen
+pub mod HeaderOn
