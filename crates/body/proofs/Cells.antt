@@ -209,9 +209,10 @@ pub items-few-on : (void : Bool) (last : ℕ) (i : Item) (before n sum at next m
     → (sum + (n + length (closing void before last i)) * 4 ≤ next * 3 + more)
     × (beforeNext i ≡ 2 → sum + (n + length (closing void before last i)) * 4 + 2 ≤ next * 3 + more)
 unfolding closing beforeNext
-items-few-on void last (label w l) before n sum at next more a b p =
-    (added-few (lacksRet void before) last w (label w l) before n sum at next more (lacks-operation void before) a b p,
-    λ z. absurd (omega arith))
+items-few-on void last (label w l) before n sum at next more a b p = (
+  added-few (lacksRet void before) last w (label w l) before n sum at next more (lacks-operation void before) a b p,
+  λ z. absurd (omega arith),
+)
 items-few-on void last (plain o) before n sum at next more a b p = (omega arith, λ z. omega arith)
 items-few-on void last (call w g xs) before n sum at next more a b p = (omega arith, λ z. omega arith)
 items-few-on void last (callInto w v g xs) before n sum at next more a b p = (omega arith, λ z. omega arith)
@@ -228,9 +229,10 @@ pub blocks-few-on : (i : Item) (before n sum at next : ℕ) → sum + n * 4 ≤ 
     → (sum + (n + started before i) * 4 ≤ next + 2) × (beforeNext i ≤ 1 → sum + (n + started before i) * 4 ≤ next)
 unfolding started beforeNext
 blocks-few-on (label w l) before n sum at next a b p = (omega arith, λ z. omega arith)
-blocks-few-on (plain o) before n sum at next a b p =
-    (started-few (fresh before) before n sum at next (leb-true before 1) a b p,
-    λ z. absurd (omega (arith, leb-false (behind (plain o)) 1 (late o))))
+blocks-few-on (plain o) before n sum at next a b p = (
+  started-few (fresh before) before n sum at next (leb-true before 1) a b p,
+  λ z. absurd (omega (arith, leb-false (behind (plain o)) 1 (late o))),
+)
 blocks-few-on (call w g xs) before n sum at next a b p =
     (started-few (fresh before) before n sum at next (leb-true before 1) a b p, λ z. absurd (omega arith))
 blocks-few-on (callInto w v g xs) before n sum at next a b p =

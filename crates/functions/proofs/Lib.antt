@@ -4,4 +4,4 @@ pub mod Heads
 pub mod Program
 pub mod Seen
 pub mod HeaderOn
-pub mod Build
+pub mod Whole

@@ -1,4 +1,5 @@
 // The functions of a text: parse and parse_function of bril-lib/src/parser.rs, with Unit of ir.rs.
+mod build;
 mod header;
 mod known;
 mod rows;

@@ -30,15 +30,17 @@ abbrev μ-loop : tie.MeasureT-loop
 
 -- src/lib.rt:90:5
 loop-holds : tie.Need-loop-holds Inv-loop μ-loop
-loop-holds c = 
-    let a = c .before .before .before .before .args in
-    (4096, 0,
-    begin (tokensOf (now (a .tokens))) (a .void) (a .at) (a .first) (a .used) (now (a .items)) (now (a .arguments))
-    (now (a .labels)) (c .before .before .before .before .pre .0))
+loop-holds c =
+    let a = c .before .before .before .before .args in (
+      4096,
+      0,
+      begin (tokensOf (now (a .tokens))) (a .void) (a .at) (a .first) (a .used) (now (a .items)) (now (a .arguments))
+          (now (a .labels)) (c .before .before .before .before .pre .0),
+    )
 
 -- src/lib.rt:91:15
 turn-requires : tie.Need-turn-requires Inv-loop μ-loop
-turn-requires c κs = 
+turn-requires c κs =
     let v = c .before .before .before .loop .inv .2 in
     (ready (c .before .before .before .before .before .before .before .before .pre .1 .0 .0) (c .before .before .before .before .before .before .before .before .pre .1 .0 .1) v, omega (arith, v .long-items, c .before .before .before .before .before .before .before .before .pre .1 .1 .0), omega (arith, v .long-arguments, c .before .before .before .before .before .before .before .before .pre .1 .1 .1), omega (arith, v .long-labels, c .before .before .before .before .before .before .before .before .pre .1 .1 .2))
 
@@ -48,14 +50,14 @@ enum-known-next c = search needs
 
 -- src/lib.rt:90:5
 loop-less : tie.Need-loop-less Inv-loop μ-loop
-loop-less c = 
+loop-less c =
     let v = c .before .before .before .before .before .before .before .before .before .before .before .before .before .loop .inv .2 in
     let g = rw (c .before .next .given .1) at (c .before .before .before .before .before .before .before .before .before .turn .ensures) in
     omega (arith, g .passed .two, v .within .reached, v .within .few)
 
 -- src/lib.rt:90:5
 loop-again : tie.Need-loop-again Inv-loop μ-loop
-loop-again c = 
+loop-again c =
     let v = c .before .before .before .before .before .before .before .before .before .before .before .before .before .loop .inv .2 in
     let g = rw (c .before .next .given .1) at (c .before .before .before .before .before .before .before .before .before .turn .ensures) in
     onward (c .before .before .before .before .before .before .before .before .before .before .before .before .before .before .before .before .before .before .pre .1 .0 .0) (c .before .before .before .before .before .before .before .before .before .before .before .before .before .before .before .before .before .before .pre .1 .0 .1) (c .before .before .before .before .before .before .before .before .before .before .before .before .before .loop .inv .0) (c .before .before .before .before .before .before .before .before .before .before .before .before .before .loop .inv .1) v (c .before .before .before .before .before .before .before .before .before .turn .kept .1 .1 .1 .1 .1 .0) g
@@ -66,7 +68,7 @@ enum-known-e c = search needs
 
 -- src/lib.rt:98:28
 sub-t20 : tie.Need-sub-t20 Inv-loop μ-loop
-sub-t20 c = 
+sub-t20 c =
     let ts = tokensOf (now (c .before .before .before .before .before .before .before .before .before .before .before .before .before .before .before .before .before .before .before .args .tokens)) in
     let v = c .before .before .before .before .before .before .before .before .before .before .before .before .before .before .loop .inv .2 in
     let g = rw (c .before .before .e .given .1) at (c .before .before .before .before .before .before .before .before .before .before .turn .ensures) in
@@ -76,7 +78,7 @@ sub-t20 c =
 
 -- src/lib.rt:99:32
 sub-t21 : tie.Need-sub-t21 Inv-loop μ-loop
-sub-t21 c = 
+sub-t21 c =
     let ts = tokensOf (now (c .before .before .before .before .before .before .before .before .before .before .before .before .before .before .before .before .before .before .before .before .args .tokens)) in
     let v = c .before .before .before .before .before .before .before .before .before .before .before .before .before .before .before .loop .inv .2 in
     let g = rw (c .before .before .before .e .given .1) at (c .before .before .before .before .before .before .before .before .before .before .before .turn .ensures) in
@@ -86,28 +88,28 @@ sub-t21 c =
 
 -- src/lib.rt:96:17
 same-length : tie.Need-same-length Inv-loop μ-loop
-same-length c = 
+same-length c =
     let ts = tokensOf (now (c .before .before .before .before .before .before .before .before .before .before .before .before .before .before .before .before .before .before .before .before .args .tokens)) in
     let v = c .before .before .before .before .before .before .before .before .before .before .before .before .before .before .before .loop .inv .2 in
     omega (arith, v .long-items, c .before .before .before .before .before .before .before .before .before .before .before .turn .kept .1 .1 .1 .0)
 
 -- src/lib.rt:96:17
 same-length-2 : tie.Need-same-length-2 Inv-loop μ-loop
-same-length-2 c = 
+same-length-2 c =
     let ts = tokensOf (now (c .before .before .before .before .before .before .before .before .before .before .before .before .before .before .before .before .before .before .before .before .args .tokens)) in
     let v = c .before .before .before .before .before .before .before .before .before .before .before .before .before .before .before .loop .inv .2 in
     omega (arith, v .long-arguments, c .before .before .before .before .before .before .before .before .before .before .before .turn .kept .1 .1 .1 .1 .0)
 
 -- src/lib.rt:96:17
 same-length-3 : tie.Need-same-length-3 Inv-loop μ-loop
-same-length-3 c = 
+same-length-3 c =
     let ts = tokensOf (now (c .before .before .before .before .before .before .before .before .before .before .before .before .before .before .before .before .before .before .before .before .args .tokens)) in
     let v = c .before .before .before .before .before .before .before .before .before .before .before .before .before .before .before .loop .inv .2 in
     omega (arith, v .long-labels, c .before .before .before .before .before .before .before .before .before .before .before .turn .kept .1 .1 .1 .1 .1 .0)
 
 -- src/lib.rt:96:17
 returns : tie.Need-returns Inv-loop μ-loop
-returns c = 
+returns c =
     let ts = tokensOf (now (c .before .before .before .before .before .before .before .before .before .before .before .before .before .before .before .before .before .before .before .before .args .tokens)) in
     let v = c .before .before .before .before .before .before .before .before .before .before .before .before .before .before .before .loop .inv .2 in
     let g = rw (c .before .before .before .e .given .1) at (c .before .before .before .before .before .before .before .before .before .before .before .turn .ensures) in
@@ -122,28 +124,28 @@ enum-known-e-2 c = search needs
 
 -- src/lib.rt:104:17
 same-length-4 : tie.Need-same-length-4 Inv-loop μ-loop
-same-length-4 c = 
+same-length-4 c =
     let ts = tokensOf (now (c .before .before .before .before .before .before .before .before .before .before .before .before .before .before .before .before .before .before .args .tokens)) in
     let v = c .before .before .before .before .before .before .before .before .before .before .before .before .before .loop .inv .2 in
     omega (arith, v .long-items, c .before .before .before .before .before .before .before .before .before .turn .kept .1 .1 .1 .0)
 
 -- src/lib.rt:104:17
 same-length-5 : tie.Need-same-length-5 Inv-loop μ-loop
-same-length-5 c = 
+same-length-5 c =
     let ts = tokensOf (now (c .before .before .before .before .before .before .before .before .before .before .before .before .before .before .before .before .before .before .args .tokens)) in
     let v = c .before .before .before .before .before .before .before .before .before .before .before .before .before .loop .inv .2 in
     omega (arith, v .long-arguments, c .before .before .before .before .before .before .before .before .before .turn .kept .1 .1 .1 .1 .0)
 
 -- src/lib.rt:104:17
 same-length-6 : tie.Need-same-length-6 Inv-loop μ-loop
-same-length-6 c = 
+same-length-6 c =
     let ts = tokensOf (now (c .before .before .before .before .before .before .before .before .before .before .before .before .before .before .before .before .before .before .args .tokens)) in
     let v = c .before .before .before .before .before .before .before .before .before .before .before .before .before .loop .inv .2 in
     omega (arith, v .long-labels, c .before .before .before .before .before .before .before .before .before .turn .kept .1 .1 .1 .1 .1 .0)
 
 -- src/lib.rt:104:17
 returns-2 : tie.Need-returns-2 Inv-loop μ-loop
-returns-2 c = 
+returns-2 c =
     let ts = tokensOf (now (c .before .before .before .before .before .before .before .before .before .before .before .before .before .before .before .before .before .before .args .tokens)) in
     let v = c .before .before .before .before .before .before .before .before .before .before .before .before .before .loop .inv .2 in
     let g = rw (c .before .e2 .given .1) at (c .before .before .before .before .before .before .before .before .before .turn .ensures) in

@@ -49,7 +49,7 @@ cast-record-of c = search needs
 
 -- src/item.rt:38:86
 cast-record-of-2 : tie.Need-cast-record-of-2
-cast-record-of-2 c = 
+cast-record-of-2 c =
     let ts = tokensOf (now (c .before .before .before .before .before .before .before .before .before .before .args .tokens)) in
     let w = c .before .before .before .before .before .before .before .before .before .before .pre .0 in
     let d = called-done (callD ts (c .before .before .before .before .before .before .before .before .before .before .args .word)) (sym (c .before .callee .given .1) ∙ c .before .before .before .before .before .parse-call .ensures .0) in
@@ -66,7 +66,7 @@ put-record-requires c κs = search needs
 
 -- src/item.rt:40:31
 add-t25 : tie.Need-add-t25
-add-t25 c = 
+add-t25 c =
     let ts = tokensOf (now (c .before .before .before .before .before .before .before .before .before .before .before .before .before .before .before .args .tokens)) in
     let w = c .before .before .before .before .before .before .before .before .before .before .before .before .before .before .before .pre .0 in
     let d = called-done (callD ts (c .before .before .before .before .before .before .before .before .before .before .before .before .before .before .before .args .word)) (sym (c .before .before .before .before .before .before .callee .given .1) ∙ c .before .before .before .before .before .before .before .before .before .before .parse-call .ensures .0) in
@@ -100,12 +100,13 @@ returns-2 c = let ts = tokensOf (now (c .before .before .before .before .before 
     let w = c .before .before .before .before .before .before .before .before .before .before .before .before .before .before .before .pre .0 in
     let d = called-done (callD ts (c .before .before .before .before .before .before .before .before .before .before .before .before .before .before .before .args .word)) (sym (c .before .before .before .before .before .before .callee .given .1) ∙ c .before .before .before .before .before .before .before .before .before .before .parse-call .ensures .0) in
     let few = call-in ts (w .last) (w .ends) (c .before .before .before .before .before .before .before .before .before .before .before .before .before .before .before .args .word) (w .reached) .few in
-    rw (d .0, c .before .before .before .before .record-of .ensures, d .1, d .2)
-    (refl,
-    record {
-      items-are = rw (c .before .before .before .before .record-of .ensures) at (c .before .before .put-record .ensures);
-      arguments-are = c .before .before .before .before .before .before .before .before .before .before .parse-call .ensures .1;
-    })
+    rw (d .0, c .before .before .before .before .record-of .ensures, d .1, d .2) (
+      refl,
+      record {
+        items-are = rw (c .before .before .before .before .record-of .ensures) at (c .before .before .put-record .ensures);
+        arguments-are = c .before .before .before .before .before .before .before .before .before .before .parse-call .ensures .1;
+      },
+    )
 
 pub parse-call-item-spec : {M : Type 1} → statement M
 parse-call-item-spec =

@@ -43,7 +43,7 @@ enum-known-o c = search needs
 
 -- src/item.rt:63:17
 operation-record-requires : tie.Need-operation-record-requires
-operation-record-requires c κs = 
+operation-record-requires c κs =
     let ts = tokensOf (now (c .before .before .before .before .before .before .before .args .tokens)) in
     let w = c .before .before .before .before .before .before .before .pre .0 in
     let p = rw (← c .before .before .before .parse-instruction .ensures, c .before .o .given .1) at (instruction-in ts (w .last) (w .ends) (c .before .before .before .before .before .before .before .args .at) (w .reached)) in
@@ -59,7 +59,7 @@ enum-known-word c = search needs
 
 -- src/item.rt:67:31
 parse-call-item-requires : tie.Need-parse-call-item-requires
-parse-call-item-requires c κs = 
+parse-call-item-requires c κs =
     let ts = tokensOf (now (c .before .before .before .before .before .before .before .before .before .args .tokens)) in
     let w = c .before .before .before .before .before .before .before .before .before .pre .0 in
     let p = rw (← c .before .before .before .before .before .parse-instruction .ensures, c .before .before .before .word .given .1) at (instruction-in ts (w .last) (w .ends) (c .before .before .before .before .before .before .before .before .before .args .at) (w .reached)) in
@@ -75,7 +75,7 @@ type-cell-requires c κs = search needs
 
 -- src/item.rt:71:13
 parse-call-item-requires-2 : tie.Need-parse-call-item-requires-2
-parse-call-item-requires-2 c κs = 
+parse-call-item-requires-2 c κs =
     let ts = tokensOf (now (c .before .before .before .before .before .before .before .before .before .before .args .tokens)) in
     let w = c .before .before .before .before .before .before .before .before .before .before .pre .0 in
     let p = rw (← c .before .before .before .before .before .before .parse-instruction .ensures, c .before .before .before .before .v .given .1) at (instruction-in ts (w .last) (w .ends) (c .before .before .before .before .before .before .before .before .before .before .args .at) (w .reached)) in

@@ -57,7 +57,7 @@ same-length-2 c = search needs
 
 -- src/turns.rt:86:17
 returns : tie.Need-returns
-returns c = 
+returns c =
     let ts = tokensOf (now (c .before .before .before .before .before .before .before .before .before .before .before .before .before .before .before .before .args .tokens)) in
     let s = c .before .before .before .before .before .before .before .before .before .before .before .before .before .before .before .before .args .s in
     let parse = c .before .before .before .before .before .before .before .before .before .before .parse-item in
@@ -86,7 +86,7 @@ same-length-4 c = search needs
 
 -- src/turns.rt:72:1
 returns-2 : tie.Need-returns-2
-returns-2 c = 
+returns-2 c =
     let ts = tokensOf (now (c .before .before .before .before .before .before .before .before .before .before .before .before .before .args .tokens)) in
     let s = c .before .before .before .before .before .before .before .before .before .before .before .before .before .args .s in
     let q = read-refused (s .arguments) (itemD ts (s .at)) (sym (c .before .e .given .1) ∙ c .before .before .before .before .before .before .before .parse-item .ensures .0) in
@@ -102,7 +102,7 @@ same-length-6 c = search needs
 
 -- src/turns.rt:72:1
 returns-3 : tie.Need-returns-3
-returns-3 c = 
+returns-3 c =
     let ts = tokensOf (now (c .before .before .before .before .before .before .before .before .before .before .before .before .before .before .before .before .args .tokens)) in
     let s = c .before .before .before .before .before .before .before .before .before .before .before .before .before .before .before .before .args .s in
     let parse = c .before .before .before .before .before .before .before .before .before .before .parse-item in

@@ -55,7 +55,7 @@ record-of-requires c κs = search needs
 
 -- src/turns.rt:112:13
 put-record-requires : tie.Need-put-record-requires
-put-record-requires c κs = 
+put-record-requires c κs =
     let ts = tokensOf (now (c .before .before .before .before .before .before .before .before .before .before .before .before .before .before .before .args .tokens)) in
     let s = c .before .before .before .before .before .before .before .before .before .before .before .before .before .before .before .args .s in
     let q = sym (c .before .before .before .before .before .before .before .before .before .before .parse-label .ensures) ∙ c .before .before .before .before .before .before .before .before .label .given .1 in
@@ -67,7 +67,7 @@ put-record-requires c κs =
 
 -- src/turns.rt:113:13
 mul-labels : tie.Need-mul-labels
-mul-labels c = 
+mul-labels c =
     let ts = tokensOf (now (c .before .before .before .before .before .before .before .before .before .before .before .before .before .before .before .before .before .before .args .tokens)) in
     let s = c .before .before .before .before .before .before .before .before .before .before .before .before .before .before .before .before .before .before .args .s in
     let q = sym (c .before .before .before .before .before .before .before .before .before .before .before .before .before .parse-label .ensures) ∙ c .before .before .before .before .before .before .before .before .before .before .before .label .given .1 in
@@ -79,7 +79,7 @@ mul-labels c =
 
 -- src/turns.rt:113:13
 slice-write-labels : tie.Need-slice-write-labels
-slice-write-labels c = 
+slice-write-labels c =
     let ts = tokensOf (now (c .before .before .before .before .before .before .before .before .before .before .before .before .before .before .before .before .before .before .args .tokens)) in
     let s = c .before .before .before .before .before .before .before .before .before .before .before .before .before .before .before .before .before .before .args .s in
     let q = sym (c .before .before .before .before .before .before .before .before .before .before .before .before .before .parse-label .ensures) ∙ c .before .before .before .before .before .before .before .before .before .before .before .label .given .1 in
@@ -91,7 +91,7 @@ slice-write-labels c =
 
 -- src/turns.rt:116:24
 add-t23 : tie.Need-add-t23
-add-t23 c = 
+add-t23 c =
     let ts = tokensOf (now (c .before .before .before .before .before .before .before .before .before .before .before .before .before .before .before .before .before .before .args .tokens)) in
     let s = c .before .before .before .before .before .before .before .before .before .before .before .before .before .before .before .before .before .before .args .s in
     let q = sym (c .before .before .before .before .before .before .before .before .before .before .before .before .before .parse-label .ensures) ∙ c .before .before .before .before .before .before .before .before .before .before .before .label .given .1 in
@@ -103,7 +103,7 @@ add-t23 c =
 
 -- src/turns.rt:118:25
 add-t25 : tie.Need-add-t25
-add-t25 c = 
+add-t25 c =
     let ts = tokensOf (now (c .before .before .before .before .before .before .before .before .before .before .before .before .before .before .before .before .before .before .args .tokens)) in
     let s = c .before .before .before .before .before .before .before .before .before .before .before .before .before .before .before .before .before .before .args .s in
     let q = sym (c .before .before .before .before .before .before .before .before .before .before .before .before .before .parse-label .ensures) ∙ c .before .before .before .before .before .before .before .before .before .before .before .label .given .1 in
@@ -131,7 +131,7 @@ same-length-3 c = search needs
 
 -- src/turns.rt:101:1
 returns-2 : tie.Need-returns-2
-returns-2 c = 
+returns-2 c =
     let ts = tokensOf (now (c .before .before .before .before .before .before .before .before .before .before .before .before .before .before .before .before .before .before .args .tokens)) in
     let s = c .before .before .before .before .before .before .before .before .before .before .before .before .before .before .before .before .before .before .args .s in
     let q = sym (c .before .before .before .before .before .before .before .before .before .before .before .before .before .parse-label .ensures) ∙ c .before .before .before .before .before .before .before .before .before .before .before .label .given .1 in

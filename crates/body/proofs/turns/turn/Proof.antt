@@ -52,7 +52,7 @@ same-length c = search needs
 
 -- src/turns.rt:143:9
 returns : tie.Need-returns
-returns c = 
+returns c =
     let ts = tokensOf (now (c .before .before .before .before .before .before .before .before .before .before .before .before .args .tokens)) in
     let s = c .before .before .before .before .before .before .before .before .before .before .before .before .args .s in
     let k = rw (c .before .before .before .before .before .before .before .token-at .ensures) at (sym (c .before .before .before .before .before .before .closes-body .ensures) ∙ c .before .before .before .before .before .if1 .taken) in
@@ -76,7 +76,7 @@ same-length-3 c = search needs
 
 -- src/turns.rt:151:9
 returns-2 : tie.Need-returns-2
-returns-2 c = 
+returns-2 c =
     let ts = tokensOf (now (c .before .before .before .before .before .before .before .before .before .before .before .before .before .before .before .before .args .tokens)) in
     let s = c .before .before .before .before .before .before .before .before .before .before .before .before .before .before .before .before .args .s in
     let k = rw (c .before .before .before .before .before .before .before .before .before .before .before .token-at .ensures) at (sym (c .before .before .before .before .before .before .before .before .before .before .closes-body .ensures) ∙ c .before .before .before .before .before .before .before .before .before .if1 .left) in
@@ -99,7 +99,7 @@ same-length-5 c = search needs
 
 -- src/turns.rt:126:1
 returns-3 : tie.Need-returns-3
-returns-3 c = 
+returns-3 c =
     let ts = tokensOf (now (c .before .before .before .before .before .before .before .before .before .before .before .before .before .before .before .before .args .tokens)) in
     let s = c .before .before .before .before .before .before .before .before .before .before .before .before .before .before .before .before .args .s in
     let k = rw (c .before .before .before .before .before .before .before .before .before .before .before .token-at .ensures) at (sym (c .before .before .before .before .before .before .before .before .before .before .closes-body .ensures) ∙ c .before .before .before .before .before .before .before .before .before .if1 .left) in

@@ -131,44 +131,49 @@ module _ (ts : List Tok) (void : Bool) (named at : ℕ) (n : Counts) (items₀ i
 
     module _ (k m : ℕ) (linked : L.Done k m ≡ linkD named (partsAt items (n .items) (c .items))) (blocks preds : List ℕ)
         (kept : Linking (partsAt items (n .items) (c .items)) (n .items) (n .blocks) (n .predecessors) blocks₀ blocks preds₀ preds)
-        where
-      linked-to : (resolveD named bs ≡ fine) × (k ≡ length bs) × (m ≡ length (predecessorsIn is))
-      unfolding linkD
-      linked-to = linked-done bs (resolveD named bs) k m (rw parts at linked)
+      where
+        linked-to : (resolveD named bs ≡ fine) × (k ≡ length bs) × (m ≡ length (predecessorsIn is))
+        unfolding linkD
+        linked-to = linked-done bs (resolveD named bs) k m (rw parts at linked)
 
-      pub is-built : builtD ts void named at ≡ built is (c .next)
-      unfolding builtD thenAt
-      is-built = rw (ended .0, linked-to .0)
+        pub is-built : builtD ts void named at ≡ built is (c .next)
+        unfolding builtD thenAt
+        is-built = rw (ended .0, linked-to .0)
 
-      few-predecessors : length (predecessorsIn is) ≤ length bs * 2
-      few-predecessors =
-          let thin = rw parts at (thin-blocks items (n .items) (c .items)) in
-          omega (arith, entries-few bs bs (length bs) thin, ap length (entries-are bs 0 (edgesIn is)))
+        few-predecessors : length (predecessorsIn is) ≤ length bs * 2
+        few-predecessors =
+            let thin = rw parts at (thin-blocks items (n .items) (c .items)) in
+            omega (arith, entries-few bs bs (length bs) thin, ap length (entries-are bs 0 (edgesIn is)))
 
-      pub answered : G.Done (record {
-          next = c .next; items = c .items; arguments = c .arguments; blocks = k; predecessors = m })
-          ≡ buildRead (builtD ts void named at)
-      answered =
-          rw is-built
-          (rw (ended .1, ended .2, linked-to .1, linked-to .2, arguments-count-closed void (body .items)))
+        pub answered : G.Done (record {
+          next = c .next;
+          items = c .items;
+          arguments = c .arguments;
+          blocks = k;
+          predecessors = m;
+        })
+            ≡ buildRead (builtD ts void named at)
+        answered =
+            rw is-built
+            (rw (ended .1, ended .2, linked-to .1, linked-to .2, arguments-count-closed void (body .items)))
 
-      pub is-held : BuildHeld ts n items₀ items arguments₀ arguments blocks₀ blocks preds₀ preds (builtD ts void named at)
-      is-held =
-          rw is-built
-          (record {
-            items-are = stored .items-are;
-            arguments-are = rw (arguments-cells-closed void (body .items)) (stored .arguments-are);
-            blocks-are = rw parts at (kept .blocks-are);
-            predecessors-are = rw parts at (kept .predecessors-are);
-            room =
-                record {
-                  within = stored .on;
-                  items-few = omega (arith, bounds .items-few, room .items-few);
-                  arguments-few =
-                      omega (arith, bounds .arguments-few, room .arguments-few, arguments-count-closed void (body .items));
-                  blocks-few =
-                      omega (arith, bounds .blocks-few, behind, blocks-counted named (partsOf is) (linked-to .0));
-                  predecessors-few = omega (arith, few-predecessors, room .predecessors-few);
-                };
-            on = omega (arith, bounds .blocks-few, behind);
-          })
+        pub is-held : BuildHeld ts n items₀ items arguments₀ arguments blocks₀ blocks preds₀ preds (builtD ts void named at)
+        is-held =
+            rw is-built
+            (record {
+              items-are = stored .items-are;
+              arguments-are = rw (arguments-cells-closed void (body .items)) (stored .arguments-are);
+              blocks-are = rw parts at (kept .blocks-are);
+              predecessors-are = rw parts at (kept .predecessors-are);
+              room =
+                  record {
+                    within = stored .on;
+                    items-few = omega (arith, bounds .items-few, room .items-few);
+                    arguments-few =
+                        omega (arith, bounds .arguments-few, room .arguments-few, arguments-count-closed void (body .items));
+                    blocks-few =
+                        omega (arith, bounds .blocks-few, behind, blocks-counted named (partsOf is) (linked-to .0));
+                    predecessors-few = omega (arith, few-predecessors, room .predecessors-few);
+                  };
+              on = omega (arith, bounds .blocks-few, behind);
+            })
