@@ -5,3 +5,4 @@ pub mod Program
 pub mod Seen
 pub mod HeaderOn
 pub mod Whole
+pub mod Taken

@@ -26,9 +26,8 @@ use Rattle.functions.specs.declared.Entered.{Entered}
 use Rattle.functions.specs.declared.Entered.the-variants as E
 use Rattle.functions.specs.Known.{Known, signature, typeNumber, typesAfter, expectedType, unexpected}
 
--- The header: the name's token, the name, the formals, the result type, the function type's number.
+-- The header: the name, the formals, the result type, the function type's number.
 pub record Header : Type 0 where
-  pub token : ℕ
   pub name : Identifier
   pub formals : List Variable
   pub ret : Ty
@@ -71,7 +70,7 @@ signatureD ts known types token name at =
     thenFormals noHeader (optionalFormals ts at) (λ formals at1.
     thenType noHeader (optionalType ts at1) (λ ret at2.
     thenEntered noHeader (enteredD ts known types token name (signature ret formals) at2) (λ type next.
-    header (record { token = token; name = name; formals = formals; ret = ret; type = type }) next)))
+    header (record { name = name; formals = formals; ret = ret; type = type }) next)))
 
 -- 35 comes once the name token is read; `full`: there are 64 functions already.
 unfoldable pub headerD : List Tok → Bool → List Known → ℕ → ℕ → HeaderAt
@@ -104,8 +103,9 @@ builtD ts void name at =
     let is = closedItems void (body .items) in
     thenAt notBuilt (body .end) (λ next. resolvedItems is next (resolveD name (blocksIn is)))
 
--- A function: its header, its items, and the index behind its closing brace.
+-- A function: its name's token, its header, its items, and the index behind its closing brace.
 pub record Function : Type 0 where
+  pub token : ℕ
   pub head : Header
   pub items : List Item
   pub next : ℕ
@@ -125,7 +125,7 @@ unfoldable pub functionD : List Tok → Bool → List Known → ℕ → ℕ → 
 functionD ts full known types at =
     thenHeader noFunction (headerD ts full known types at) (λ h at1.
     thenBuilt noFunction (builtD ts (isVoid (h .ret)) at at1) (λ is next.
-    function (record { head = h; items = is; next = next })))
+    function (record { token = at; head = h; items = is; next = next })))
 
 -- All functions that were read, and where the text ended or why it was refused.
 pub record Program : Type 0 where

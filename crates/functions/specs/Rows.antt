@@ -37,8 +37,8 @@ formalsAt i = 14 + i * 45
 abbrev pub headCells : List Tok → List ℕ → Function → ℕ → ℕ → List ℕ
 headCells ts names f first base =
     let h = f .head in
-    let t = tokenAt ts (h .token) in
-    h .token ∷ h .name .0 ∷ (f .next - 1)
+    let t = tokenAt ts (f .token) in
+    f .token ∷ h .name .0 ∷ (f .next - 1)
     ∷ t .place ∷ getD names (h .name .0 * 2 + 1) 0 ∷ t .line .0
     ∷ typeCell (h .ret) ∷ h .type
     ∷ first ∷ length (f .items) ∷ base ∷ length (blocksIn (f .items))
