@@ -22,7 +22,8 @@ use Rattle.functions.specs.Functions.{Function, Program, programEnd, pro
 use Rattle.functions.specs.Functions.{FunctionAt, function, noFunction, thenFunction, functionD, functionsD}
 use Rattle.functions.specs.Rows.{knownFrom}
 use Rattle.functions.specs.Answer.{counts, countsWith, countsFrom, Room, Slices, slices, storedFunction, storedFrom}
-use Rattle.functions.specs.Answer.{Taken, withCount, Held, programRead}
+use Rattle.functions.specs.Answer.{Taken, functionRead, FunctionHeld, withCount, Held, programRead}
+use Rattle.functions.specs.declared.FunctionRead.the-variants as F
 use Rattle.functions.specs.declared.Counts.{Counts}
 use Rattle.functions.specs.declared.ProgramRead.the-variants as U
 
@@ -148,3 +149,23 @@ module _ (ts : List Tok) (names : List ℕ) (s₀ : Slices) where
               ∙ rw same at (g .stored);
           number = omega (arith, rw same at (g .number));
         }
+
+    -- the same by what `parse_function` answers
+    pub refused-read : {t : TokenAt} {e : Refusal} → t ≡ tokenAt ts at → (t .kind ≡ 38 → ⊥) → (x : FunctionAt)
+        → functionD ts (leb 64 (n .functions)) (knownFrom (s .functions) 0 (n .functions)) types at ≡ x
+        → F.Refused e ≡ functionRead types n x → (s′ : Slices)
+        → (U.Refused e ≡ programRead (programD ts)) × Held ts names (programD ts .functions) s₀ s′ (programD ts .end)
+    refused-read {e = e} q h (noFunction r) a g s′ = at-refused q h (a ∙ cc) s′
+    refused-read q h (function f) a g s′ = absurd (let z : _≡_ {A = ℕ} 0 1 = cc in omega arith)
+
+    pub read-on : {t : TokenAt} → t ≡ tokenAt ts at → (t .kind ≡ 38 → ⊥) → (x : FunctionAt)
+        → functionD ts (leb 64 (n .functions)) (knownFrom (s .functions) 0 (n .functions)) types at ≡ x
+        → (s′ : Slices) → FunctionHeld ts names n s s′ x → (next types′ : ℕ) (m : Counts)
+        → F.Done next types′ m ≡ functionRead types n x
+        → Going next types′ m s′ × (n .functions < 64) × (m .functions ≡ n .functions + 1)
+    read-on q h (function f) a s′ w next types′ m e =
+        let p : next ≡ f .next = cc in
+        let r : types′ ≡ typesAfter types (f .head .type) = cc in
+        let v : m ≡ countsWith n f = cc in
+        (rw (p, r, v) (onward q h a s′ w), w .few, ap (λ (k : Counts). k .functions) v)
+    read-on q h (noFunction r) a s′ w next types′ m e = absurd (let z : _≡_ {A = ℕ} 0 1 = cc in omega arith)

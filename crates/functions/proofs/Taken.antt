@@ -81,8 +81,12 @@ done-same : (types : ℕ) (n m : Counts) (f : Function) (types′ type items arg
     → types′ ≡ typesAfter types type → type ≡ f .head .type → items ≡ length (f .items)
     → arguments ≡ argumentsCount (f .items) → blocks ≡ length (blocksIn (f .items)) → preds ≡ length (predecessorsIn (f .items))
     → m ≡ record {
-      functions = n .functions + 1; items = n .items + items; arguments = n .arguments + arguments;
-      blocks = n .blocks + blocks; predecessors = n .predecessors + preds }
+      functions = n .functions + 1;
+      items = n .items + items;
+      arguments = n .arguments + arguments;
+      blocks = n .blocks + blocks;
+      predecessors = n .predecessors + preds;
+    }
     → F.Done (f .next) types′ m ≡ functionRead types n (function f)
 done-same types n m f types′ type items arguments blocks preds a b c d e g h = rw (a, h, b, c, d, e, g)
 
@@ -160,31 +164,33 @@ module _ (ts : List Tok) (names : List ℕ) (at types : ℕ) (n : Counts) (rows�
       pub row-fits : (n .functions < 64) × (at ≤ 4095) × (1 ≤ b .next) × (b .next ≤ 4096) × (n .items ≤ 4096)
           × (b .items ≤ 4096) × (n .blocks ≤ 4096) × (b .blocks ≤ 4096) × (h .formals ≤ 16)
       row-fits =
-          let r = body-kept .room in
-          (header-kept .2,
-          omega (arith, room .within .reached, room .within .few),
-          body-kept .on,
-          omega (arith, r .within .reached, r .within .few),
-          omega (arith, room .items-few, room .within .reached, room .within .few),
-          omega (arith, bd .items-is, r .items-few, r .within .reached, r .within .few),
-          omega (arith, room .blocks-few, room .within .reached, room .within .few),
-          omega (arith, bd .blocks-is, r .blocks-few, r .within .reached, r .within .few),
-          omega (arith, hd .formals-is, header-kept .1))
+          let r = body-kept .room in (
+            header-kept .2,
+            omega (arith, room .within .reached, room .within .few),
+            body-kept .on,
+            omega (arith, r .within .reached, r .within .few),
+            omega (arith, room .items-few, room .within .reached, room .within .few),
+            omega (arith, bd .items-is, r .items-few, r .within .reached, r .within .few),
+            omega (arith, room .blocks-few, room .within .reached, room .within .few),
+            omega (arith, bd .blocks-is, r .blocks-few, r .within .reached, r .within .few),
+            omega (arith, hd .formals-is, header-kept .1),
+          )
 
       pub counts-fit : (n .functions ≤ 4096) × (n .items ≤ 4096) × (b .items ≤ 4096) × (n .arguments ≤ 4096)
           × (b .arguments ≤ 4096) × (n .blocks ≤ 4096) × (b .blocks ≤ 4096) × (n .predecessors ≤ 4096)
           × (b .predecessors ≤ 4096)
       counts-fit =
-          let r = body-kept .room in
-          (omega (arith, header-kept .2),
-          row-fits .4,
-          row-fits .5,
-          omega (arith, room .arguments-few, room .within .reached, room .within .few),
-          omega (arith, bd .arguments-is, r .arguments-few, r .within .reached, r .within .few),
-          row-fits .6,
-          row-fits .7,
-          omega (arith, room .predecessors-few, room .blocks-few, room .within .reached, room .within .few),
-          omega (arith, bd .predecessors-is, r .predecessors-few, r .blocks-few, r .within .reached, r .within .few))
+          let r = body-kept .room in (
+            omega (arith, header-kept .2),
+            row-fits .4,
+            row-fits .5,
+            omega (arith, room .arguments-few, room .within .reached, room .within .few),
+            omega (arith, bd .arguments-is, r .arguments-few, r .within .reached, r .within .few),
+            row-fits .6,
+            row-fits .7,
+            omega (arith, room .predecessors-few, room .blocks-few, room .within .reached, room .within .few),
+            omega (arith, bd .predecessors-is, r .predecessors-few, r .blocks-few, r .within .reached, r .within .few),
+          )
 
       module _ (rows₂ : List ℕ) (put : rows₂ ≡ sets rows₁ (rowAt (n .functions))
           (at ∷ h .name .0 ∷ (b .next - 1) ∷ tokenAt ts at .place ∷ getD names (h .name .0 * 2 + 1) 0 ∷ tokenAt ts at .line .0
@@ -223,8 +229,12 @@ module _ (ts : List Tok) (names : List ℕ) (at types : ℕ) (n : Counts) (rows�
 
         pub answered : (types′ : ℕ) (m : Counts) → types′ ≡ typesAfter types (h .ty)
             → m ≡ record {
-              functions = n .functions + 1; items = n .items + b .items; arguments = n .arguments + b .arguments;
-              blocks = n .blocks + b .blocks; predecessors = n .predecessors + b .predecessors }
+              functions = n .functions + 1;
+              items = n .items + b .items;
+              arguments = n .arguments + b .arguments;
+              blocks = n .blocks + b .blocks;
+              predecessors = n .predecessors + b .predecessors;
+            }
             → F.Done (b .next) types′ m ≡ functionRead types n whole
         unfolding f
         answered types′ m p q =

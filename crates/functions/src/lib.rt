@@ -82,3 +82,112 @@ fn types_after(types: u32, ty: u32) -> u32
     }
     types
 }
+// A function from its name on, stored behind the n that are there.
+fn parse_function(
+    tokens: &[u32],
+    names: &[u32],
+    at: usize,
+    types: u32,
+    n: Counts,
+    functions: &mut [u32],
+    items: &mut [u32],
+    arguments: &mut [u32],
+    blocks: &mut [u32],
+    predecessors: &mut [u32],
+) -> FunctionRead
+    requires { ⌜ Room (tokensOf (now tokens)) at n × (n .functions ≤ 64) × (types ≤ n .functions)
+        × (2881 ≤ length (now functions)) × Long (now items) (now arguments) (now blocks) (now predecessors) ⌝ }
+    ensures { λ r. ⌜ r ≡ functionRead types n (functionD (tokensOf (now (tokens .entry))) (leb 64 (n .functions))
+        (knownFrom (now (functions .entry)) 0 (n .functions)) types at) ⌝ }
+    ensures { λ _. ⌜ FunctionHeld (tokensOf (now (tokens .entry))) (now (names .entry)) n
+        (slices (now (functions .entry)) (now (items .entry)) (now (arguments .entry)) (now (blocks .entry))
+        (now (predecessors .entry)))
+        (slices (now (functions .exit)) (now (items .exit)) (now (arguments .exit)) (now (blocks .exit))
+        (now (predecessors .exit)))
+        (functionD (tokensOf (now (tokens .entry))) (leb 64 (n .functions))
+        (knownFrom (now (functions .entry)) 0 (n .functions)) types at) ⌝ }
+{
+    match header::parse_header(tokens, at, n.functions, types, functions) {
+        HeaderRead::Refused(e) => FunctionRead::Refused(e),
+        HeaderRead::At(h) => {
+            let void = h.ret == 3;
+            match build::build(
+                tokens,
+                h.next,
+                void,
+                at,
+                n,
+                items,
+                arguments,
+                blocks,
+                predecessors,
+            ) {
+                Building::Refused(e) => FunctionRead::Refused(e),
+                Building::Done(b) => {
+                    rows::put_row(functions, tokens, names, at, n, h, b);
+                    FunctionRead::Done(b.next, types_after(types, h.ty), rows::counts_after(n, b))
+                }
+            }
+        }
+    }
+}
+
+// The functions of a text, from its first token on.
+pub fn parse(
+    tokens: &[u32],
+    names: &[u32],
+    functions: &mut [u32],
+    items: &mut [u32],
+    arguments: &mut [u32],
+    blocks: &mut [u32],
+    predecessors: &mut [u32],
+) -> ProgramRead
+    requires { ⌜ Within (tokensOf (now tokens)) 0 × (2881 ≤ length (now functions))
+        × Long (now items) (now arguments) (now blocks) (now predecessors) ⌝ }
+    ensures { λ r. ⌜ r ≡ programRead (programD (tokensOf (now (tokens .entry)))) ⌝ }
+    ensures { λ _. ⌜ Held (tokensOf (now (tokens .entry))) (now (names .entry))
+        (programD (tokensOf (now (tokens .entry))) .functions)
+        (slices (now (functions .entry)) (now (items .entry)) (now (arguments .entry)) (now (blocks .entry))
+        (now (predecessors .entry)))
+        (slices (now (functions .exit)) (now (items .exit)) (now (arguments .exit)) (now (blocks .exit))
+        (now (predecessors .exit)))
+        (programD (tokensOf (now (tokens .entry))) .end) ⌝ }
+{
+    let mut at: usize = 0;
+    let mut types: u32 = 0;
+    let mut n = Counts {
+        functions: 0,
+        items: 0,
+        arguments: 0,
+        blocks: 0,
+        predecessors: 0,
+    };
+    loop {
+        let t = lexer::token_at(tokens, at);
+        if t.kind == 38 {
+            functions[0] = n.functions as u32;
+            return ProgramRead::Done(n);
+        }
+        match parse_function(
+            tokens,
+            names,
+            at,
+            types,
+            n,
+            functions,
+            items,
+            arguments,
+            blocks,
+            predecessors,
+        ) {
+            FunctionRead::Refused(e) => {
+                return ProgramRead::Refused(e);
+            }
+            FunctionRead::Done(next, more, counts) => {
+                at = next;
+                types = more;
+                n = counts;
+            }
+        }
+    }
+}

@@ -23,7 +23,7 @@ use Rattle.link.proofs.link.Reads as link-reads
 
 -- src/build.rt:35:11
 parse-body-requires : tie.Need-parse-body-requires
-parse-body-requires c κs = 
+parse-body-requires c κs =
     let room = c .before .before .before .before .before .before .before .before .before .pre .0 in
     let long = c .before .before .before .before .before .before .before .before .before .pre .3 in
     (room .within, ((room .items-few, room .arguments-few), (long .items-long, long .arguments-long, c .before .before .before .before .before .before .before .before .before .pre .2)))
@@ -38,7 +38,7 @@ enum-known-closed c = search needs
 
 -- src/build.rt:47:19
 link-requires : tie.Need-link-requires
-link-requires c κs = 
+link-requires c κs =
     let a = c .before .before .before .before .before .before .before .before .before .before .before .before .before .before .before .before .before .before .before .before .before .before .before .args in
     let parse-body = c .before .before .before .before .before .before .before .before .before .before .before .before .before .parse-body in
     let closed = c .before .before .before .before .before .closed in
@@ -93,7 +93,7 @@ same-length-8 c = search needs
 
 -- src/build.rt:15:1
 returns-2 : tie.Need-returns-2
-returns-2 c = 
+returns-2 c =
     let a = c .before .before .before .before .before .before .before .before .before .before .before .before .before .before .before .before .before .before .before .before .before .before .before .before .before .before .before .before .before .before .before .args in
     let parse-body = c .before .before .before .before .before .before .before .before .before .before .before .before .before .before .before .before .before .before .before .before .before .parse-body in
     let closed = c .before .before .before .before .before .before .before .before .before .before .before .before .before .closed in
@@ -124,21 +124,22 @@ same-length-13 c = search needs
 
 -- src/build.rt:15:1
 returns-3 : tie.Need-returns-3
-returns-3 c = 
+returns-3 c =
     let a = c .before .before .before .before .before .before .before .before .before .before .before .before .before .before .before .before .before .before .before .before .before .before .before .before .before .before .before .before .before .before .before .args in
     let parse-body = c .before .before .before .before .before .before .before .before .before .before .before .before .before .before .before .before .before .before .before .before .before .parse-body in
     let closed = c .before .before .before .before .before .before .before .before .before .before .before .before .before .closed in
     let link = c .before .before .before .before .before .before .before .link in
     let count = c .before .count in
-    let kept = subst (LinkHeld _ _ _ _ _ _ _ _) (count .given .1) (link .ensures .1) in
-    (answered (tokensOf (now (a .tokens))) (a .void) (a .name) (a .at) (a .n) (now (a .items)) _ (now (a .arguments)) _ _
-    (closed .given .0 .0) (sym (closed .given .1) ∙ parse-body .ensures .0) (parse-body .ensures .1) (c .before .before .before .before .before .before .before .before .before .before .before .before .before .before .before .before .before .before .before .before .before .before .before .before .before .before .before .before .before .before .before .pre .0) (c .before .before .before .before .before .before .before .before .before .before .before .before .before .before .before .before .before .before .before .before .before .before .before .before .before .before .before .before .before .before .before .pre .1)
-    (now (a .blocks)) (now (a .predecessors)) (c .before .before .before .before .before .before .before .before .before .before .before .before .before .before .before .before .before .before .before .before .before .before .before .before .before .before .before .before .before .before .before .pre .3) (omega (arith, c .before .before .before .before .before .before .before .before .before .before .before .before .before .before .before .before .before .before .before .before .before .before .before .before .before .before .before .before .before .before .before .pre .2, parse-body .kept .1 .1 .1 .1 .1 .1 .1 .0))
-    _ _ (sym (count .given .1) ∙ link .ensures .0) _ _ kept,
-    is-held (tokensOf (now (a .tokens))) (a .void) (a .name) (a .at) (a .n) (now (a .items)) _ (now (a .arguments)) _ _
-    (closed .given .0 .0) (sym (closed .given .1) ∙ parse-body .ensures .0) (parse-body .ensures .1) (c .before .before .before .before .before .before .before .before .before .before .before .before .before .before .before .before .before .before .before .before .before .before .before .before .before .before .before .before .before .before .before .pre .0) (c .before .before .before .before .before .before .before .before .before .before .before .before .before .before .before .before .before .before .before .before .before .before .before .before .before .before .before .before .before .before .before .pre .1)
-    (now (a .blocks)) (now (a .predecessors)) (c .before .before .before .before .before .before .before .before .before .before .before .before .before .before .before .before .before .before .before .before .before .before .before .before .before .before .before .before .before .before .before .pre .3) (omega (arith, c .before .before .before .before .before .before .before .before .before .before .before .before .before .before .before .before .before .before .before .before .before .before .before .before .before .before .before .before .before .before .before .pre .2, parse-body .kept .1 .1 .1 .1 .1 .1 .1 .0))
-    _ _ (sym (count .given .1) ∙ link .ensures .0) _ _ kept)
+    let kept = subst (LinkHeld _ _ _ _ _ _ _ _) (count .given .1) (link .ensures .1) in (
+      answered (tokensOf (now (a .tokens))) (a .void) (a .name) (a .at) (a .n) (now (a .items)) _ (now (a .arguments)) _ _
+          (closed .given .0 .0) (sym (closed .given .1) ∙ parse-body .ensures .0) (parse-body .ensures .1) (c .before .before .before .before .before .before .before .before .before .before .before .before .before .before .before .before .before .before .before .before .before .before .before .before .before .before .before .before .before .before .before .pre .0) (c .before .before .before .before .before .before .before .before .before .before .before .before .before .before .before .before .before .before .before .before .before .before .before .before .before .before .before .before .before .before .before .pre .1)
+          (now (a .blocks)) (now (a .predecessors)) (c .before .before .before .before .before .before .before .before .before .before .before .before .before .before .before .before .before .before .before .before .before .before .before .before .before .before .before .before .before .before .before .pre .3) (omega (arith, c .before .before .before .before .before .before .before .before .before .before .before .before .before .before .before .before .before .before .before .before .before .before .before .before .before .before .before .before .before .before .before .pre .2, parse-body .kept .1 .1 .1 .1 .1 .1 .1 .0))
+          _ _ (sym (count .given .1) ∙ link .ensures .0) _ _ kept,
+      is-held (tokensOf (now (a .tokens))) (a .void) (a .name) (a .at) (a .n) (now (a .items)) _ (now (a .arguments)) _ _
+          (closed .given .0 .0) (sym (closed .given .1) ∙ parse-body .ensures .0) (parse-body .ensures .1) (c .before .before .before .before .before .before .before .before .before .before .before .before .before .before .before .before .before .before .before .before .before .before .before .before .before .before .before .before .before .before .before .pre .0) (c .before .before .before .before .before .before .before .before .before .before .before .before .before .before .before .before .before .before .before .before .before .before .before .before .before .before .before .before .before .before .before .pre .1)
+          (now (a .blocks)) (now (a .predecessors)) (c .before .before .before .before .before .before .before .before .before .before .before .before .before .before .before .before .before .before .before .before .before .before .before .before .before .before .before .before .before .before .before .pre .3) (omega (arith, c .before .before .before .before .before .before .before .before .before .before .before .before .before .before .before .before .before .before .before .before .before .before .before .before .before .before .before .before .before .before .before .pre .2, parse-body .kept .1 .1 .1 .1 .1 .1 .1 .0))
+          _ _ (sym (count .given .1) ∙ link .ensures .0) _ _ kept,
+    )
 
 pub build-with-spec : {M : Type 1} → statement M
 build-with-spec =
