@@ -1,23 +1,23 @@
 -- What one item adds to the cells, the counts and the blocks of those behind it.
-use Prim.Native.Nat.{ℕ, suc, _+_, _*_, _≤_}
-use mathlib.Core.Path.{_≡_, refl, sym, ap, _∙_}
+use Prim.Native.Nat.{ℕ, _+_, _*_, _≤_}
+use mathlib.Core.Path.{_≡_, refl, sym, _∙_}
 use mathlib.Core.Bool.{Bool, true, false}
 use mathlib.Core.List.{List, [], _∷_, _++_, append-assoc}
 use native.Mathlib.Omega.{arith}
 use native.Mathlib.Nat.{add-zero, zero-add}
 use borrow.Author.Tests.{eqb-true, leb-true, leb-false}
-use lib.Dec.{eqb, leb}
-use lib.ListN.{length, take, length-append}
+use lib.Dec.{leb}
+use lib.ListN.{length, length-append}
 use lib.Seq.{sets}
 use Rattle.utils.specs.Bytes.{pick}
 use Rattle.utils.proofs.Runs.{sets-append}
 use Rattle.parser.specs.Runs.{variablesCells}
-use Rattle.parser.specs.Body.{Item, label, plain, call, callInto, operationToken, targets, terminates, argumentsIn}
+use Rattle.parser.specs.Body.{Item, label, plain, call, callInto, terminates, argumentsIn}
 use Rattle.parser.specs.Body.{behind, labelsOf, ret, lacksRet, closedFrom}
-use Rattle.parser.specs.Blocks.{Part, partOf, partsOf}
+use Rattle.parser.specs.Blocks.{partsOf}
 use Rattle.parser.specs.declared.Variable.{Variable}
 use Rattle.parser.specs.declared.Operation.{Operation}
-use Rattle.body.specs.Records.{recordOf, recordCells, itemsCells, argumentsCells, argumentsCount}
+use Rattle.body.specs.Records.{recordOf, itemsCells, argumentsCells, argumentsCount}
 use Rattle.body.specs.Room.{filled}
 use Rattle.body.specs.Turns.{added, closing, beforeNext, lastNext, Taken}
 use Rattle.body.specs.declared.Going.{Going}
@@ -209,9 +209,10 @@ pub items-few-on : (void : Bool) (last : ℕ) (i : Item) (before n sum at next m
     → (sum + (n + length (closing void before last i)) * 4 ≤ next * 3 + more)
     × (beforeNext i ≡ 2 → sum + (n + length (closing void before last i)) * 4 + 2 ≤ next * 3 + more)
 unfolding closing beforeNext
-items-few-on void last (label w l) before n sum at next more a b p =
-    (added-few (lacksRet void before) last w (label w l) before n sum at next more (lacks-operation void before) a b p,
-    λ z. absurd (omega arith))
+items-few-on void last (label w l) before n sum at next more a b p = (
+  added-few (lacksRet void before) last w (label w l) before n sum at next more (lacks-operation void before) a b p,
+  λ z. absurd (omega arith),
+)
 items-few-on void last (plain o) before n sum at next more a b p = (omega arith, λ z. omega arith)
 items-few-on void last (call w g xs) before n sum at next more a b p = (omega arith, λ z. omega arith)
 items-few-on void last (callInto w v g xs) before n sum at next more a b p = (omega arith, λ z. omega arith)
@@ -228,9 +229,10 @@ pub blocks-few-on : (i : Item) (before n sum at next : ℕ) → sum + n * 4 ≤ 
     → (sum + (n + started before i) * 4 ≤ next + 2) × (beforeNext i ≤ 1 → sum + (n + started before i) * 4 ≤ next)
 unfolding started beforeNext
 blocks-few-on (label w l) before n sum at next a b p = (omega arith, λ z. omega arith)
-blocks-few-on (plain o) before n sum at next a b p =
-    (started-few (fresh before) before n sum at next (leb-true before 1) a b p,
-    λ z. absurd (omega (arith, leb-false (behind (plain o)) 1 (late o))))
+blocks-few-on (plain o) before n sum at next a b p = (
+  started-few (fresh before) before n sum at next (leb-true before 1) a b p,
+  λ z. absurd (omega (arith, leb-false (behind (plain o)) 1 (late o))),
+)
 blocks-few-on (call w g xs) before n sum at next a b p =
     (started-few (fresh before) before n sum at next (leb-true before 1) a b p, λ z. absurd (omega arith))
 blocks-few-on (callInto w v g xs) before n sum at next a b p =

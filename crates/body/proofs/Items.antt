@@ -1,17 +1,18 @@
 -- From what the calls gave to an item: its record, its run of arguments, and what stands behind it.
-use Prim.Native.Nat.{ℕ, suc, _+_, _*_, _≤_, _<_}
-use mathlib.Core.Path.{_≡_, refl, sym, ap, _∙_}
-use mathlib.Core.Bool.{Bool, true, false}
-use mathlib.Core.List.{List, [], _∷_, _++_}
+use Prim.Native.Nat.{ℕ, _+_}
+use mathlib.Core.Path.{_≡_, refl, _∙_}
+use mathlib.Core.Bool.{Bool}
+use mathlib.Core.List.{List, [], _∷_}
 use native.Mathlib.Omega.{arith}
 use borrow.Author.Tests.{eq-eqb, ne-eqb}
+use lib.Dec.{eqb}
 use lib.ListN.{length}
 use Rattle.pieces.specs.declared.Identifier.{Identifier}
 use Rattle.utils.specs.Bytes.{pick}
-use Rattle.lexer.specs.Decoded.{Tok, tokenAt}
+use Rattle.lexer.specs.Decoded.{Tok}
 use Rattle.parser.specs.Step.{refusal, thenAt}
 use Rattle.parser.specs.Runs.{Calling, variablesCells, calledOf}
-use Rattle.parser.specs.Body.{Item, label, plain, call, callInto, operationToken, itemToken, argumentsIn, terminates}
+use Rattle.parser.specs.Body.{Item, label, plain, call, callInto, operationToken, itemToken, argumentsIn}
 use Rattle.parser.specs.Body.{ItemAt, item, refused, thenItem, calledItem, itemD, Body, bodyStop, behind, labelsOf}
 use Rattle.parser.specs.declared.Refusal.{Refusal}
 use Rattle.parser.specs.declared.Operation.{Operation}
@@ -22,13 +23,12 @@ use Rattle.parser.specs.declared.Consumed.the-variants as C
 use Rattle.parser.specs.declared.Called.the-variants as L
 use Rattle.body.specs.Records.{operationRecord, recordOf, itemsCells}
 use Rattle.body.specs.Room.{Within}
-use Rattle.body.specs.Turns.{itemRead, Put, ItemHeld, callRecord, callRead, CallHeld, behindKind, closing, beforeNext}
-use Rattle.body.specs.Turns.{lastNext, Passed, Taken, itemThen, ItemTaken}
+use Rattle.body.specs.Turns.{itemRead, Put, ItemHeld, callRecord, callRead, CallHeld, lateRefusal, behindKind, closing, beforeNext}
+use Rattle.body.specs.Turns.{lastNext, itemThen, ItemTaken}
 use Rattle.body.specs.declared.ItemRecord.{ItemRecord}
-use Rattle.body.specs.declared.ItemRead.{ItemRead}
 use Rattle.body.specs.declared.ItemRead.the-variants as I
 use Rattle.body.specs.declared.Going.{Going}
-use Rattle.body.proofs.Progress.{Operates, ItemOn, ItemIn, item-in}
+use Rattle.body.proofs.Progress.{Operates, ItemOn, item-in}
 
 -- Calls. ------------------------------------------------------------------------------------------------------------
 
@@ -130,7 +130,7 @@ operation-behind (O.RetValue w x) = refl
 operation-behind (O.Print w x) = refl
 operation-behind (O.Nop w) = refl
 
-pub record-token : (used : ℕ) (i : Item) → recordOf used i .token ≡ itemToken i
+record-token : (used : ℕ) (i : Item) → recordOf used i .token ≡ itemToken i
 unfolding recordOf
 record-token used (label w l) = refl
 record-token used (plain o) = operation-token o
@@ -161,10 +161,17 @@ module _ (ts : List Tok) (before at : ℕ) where
   unfolding itemThen thenItem
   item-refused e q k = rw q
 
-  pub item-late : (i : Item) (next : ℕ) → itemD ts at ≡ item i next → before ≡ 3 → (k : Item → ℕ → Body)
-      → itemThen ts before at k ≡ bodyStop (refusal 12 (itemToken i) 0)
-  unfolding itemThen thenItem pick
-  item-late i next q h k = rw (q, eq-eqb before 3 h)
+  late : (used : ℕ) (d : ItemAt) → before ≡ 3 → (k : Item → ℕ → Body)
+      → thenItem bodyStop d (λ i at1. pick (eqb before 3) (bodyStop (refusal 12 (itemToken i) 0)) (k i at1))
+      ≡ bodyStop (lateRefusal (itemRead used d))
+  unfolding thenItem itemRead pick
+  late used (item i next) h k = rw (eq-eqb before 3 h, record-token used i)
+  late used (refused e) h k = refl
+
+  pub item-late : (used : ℕ) → before ≡ 3 → (k : Item → ℕ → Body)
+      → itemThen ts before at k ≡ bodyStop (lateRefusal (itemRead used (itemD ts at)))
+  unfolding itemThen
+  item-late used h k = late used (itemD ts at) h k
 
   item-goes : (i : Item) (next : ℕ) → itemD ts at ≡ item i next → (before ≡ 3 → ⊥) → (k : Item → ℕ → Body)
       → itemThen ts before at k ≡ k i next

@@ -1,26 +1,23 @@
 -- Why the body's loop is right: what is left to read, read from here, gives the whole body; the cells are those of what
 -- was read. One lemma for each way a turn can end.
-use Prim.Native.Nat.{ℕ, zero, suc, _+_, _-_, _*_, _≤_, _<_}
+use Prim.Native.Nat.{ℕ, zero, suc, _+_, _-_, _*_, _≤_}
 use mathlib.Core.Path.{_≡_, refl, sym, ap, _∙_}
 use mathlib.Core.Bool.{Bool, true}
-use mathlib.Core.List.{List, [], _∷_, _++_, append-nil}
+use mathlib.Core.List.{List, _++_, append-nil}
 use native.Mathlib.Omega.{arith}
 use native.Mathlib.Nat.{zero-add}
 use lib.ListN.{length, take}
 use lib.Seq.{sets, length-sets, length-take-le}
 use Rattle.lexer.specs.Decoded.{Tok}
 use Rattle.parser.specs.Step.{thenAt}
-use Rattle.parser.specs.Runs.{variablesCells}
-use Rattle.parser.specs.Body.{Item, Body, bodyD, bodyThen, bodyEnd, bodyStop, labelsOf, lacksRet, closedFrom, closedItems}
-use Rattle.parser.specs.Body.{argumentsIn}
+use Rattle.parser.specs.Body.{Body, bodyStop, labelsOf, lacksRet, closedFrom, closedItems}
 use Rattle.parser.specs.Blocks.{partsOf}
 use Rattle.parser.specs.declared.Refusal.{Refusal}
-use Rattle.parser.specs.declared.Consumed.{Consumed}
 use Rattle.parser.specs.declared.Consumed.the-variants as C
 use Rattle.body.specs.Records.{itemsCells, argumentsCells, argumentsCount}
-use Rattle.body.specs.Room.{Within, Bounds, filled}
+use Rattle.body.specs.Room.{Within, filled}
 use Rattle.body.specs.Answer.{functionBody, bodyRead, Stored, Held}
-use Rattle.body.specs.Turns.{added, closing, beforeNext, Ready, Taken, bodyFrom, Gone, Ended}
+use Rattle.body.specs.Turns.{added, closing, Ready, bodyFrom, Gone, Ended}
 use Rattle.body.specs.declared.BodyRead.the-variants as B
 use Rattle.body.specs.declared.Closed.{Closed}
 use Rattle.body.specs.declared.Going.{Going}
@@ -109,7 +106,6 @@ refused-read ts void at first used whole e items₀ items arguments₀ arguments
 
 module _ {ts : List Tok} {void : Bool} {at first used : ℕ} {whole : Body} {items₀ arguments₀ labels₀ : List ℕ}
     (first-few : first * 4 ≤ at * 3) (used-few : used * 19 ≤ at * 16) where
-
   module _ {s : Going} {items arguments labels : List ℕ} where
     pub ready : {room blocks : ℕ}
         → Reading ts void at first used whole items₀ arguments₀ labels₀ s items arguments labels room blocks → Ready ts s
@@ -143,29 +139,31 @@ module _ {ts : List Tok} {void : Bool} {at first used : ℕ} {whole : Body} {ite
         items-few-on void (s .last) i (s .before) (s .items) (at * 3) (s .at) (s′ .at) (first * 4) (v .items-few)
         (v .items-spared) (g .passed .two) in
         let begun =
-        blocks-few-on i (s .before) blocks at (s .at) (s′ .at) (v .blocks-few) (v .blocks-spared) (g .passed .two) in
-        (room, blocks + started (s .before) i,
-        record {
-          within = g .passed .within;
-          long-items = rw (t .items-are, length-sets) (v .long-items);
-          long-arguments = rw (t .arguments-are, length-sets) (v .long-arguments);
-          long-labels = k ∙ v .long-labels;
-          fuel = omega (arith, v .fuel, g .passed .two);
-          ends = rw go at (v .ends);
-          items-rest = items-on t is ∙ rw go at (v .items-rest);
-          arguments-rest = arguments-on t is ∙ rw go at (v .arguments-rest);
-          labels-rest =
-              labels-on i is (take (s .labels) labels) (take (s′ .labels) labels′) (g .labels-are) ∙ rw go at (v .labels-rest);
-          items-count = items-count-on t is ∙ rw go at (v .items-count);
-          arguments-count = arguments-count-on t is ∙ rw go at (v .arguments-count);
-          blocks-count = omega (arith, blocks-on t is, rw go at (v .blocks-count));
-          items-few = rw (t .items-next) (few .0);
-          items-spared = λ z. rw (t .items-next) (few .1 (sym (t .before-next) ∙ z));
-          arguments-few = omega (arith, v .arguments-few, t .arguments-next, g .passed .arguments-few);
-          labels-few = g .labels-few;
-          blocks-few = begun .0;
-          blocks-spared = λ z. begun .1 (rw (t .before-next) at z);
-        })
+        blocks-few-on i (s .before) blocks at (s .at) (s′ .at) (v .blocks-few) (v .blocks-spared) (g .passed .two) in (
+          room,
+          blocks + started (s .before) i,
+          record {
+            within = g .passed .within;
+            long-items = rw (t .items-are, length-sets) (v .long-items);
+            long-arguments = rw (t .arguments-are, length-sets) (v .long-arguments);
+            long-labels = k ∙ v .long-labels;
+            fuel = omega (arith, v .fuel, g .passed .two);
+            ends = rw go at (v .ends);
+            items-rest = items-on t is ∙ rw go at (v .items-rest);
+            arguments-rest = arguments-on t is ∙ rw go at (v .arguments-rest);
+            labels-rest =
+                labels-on i is (take (s .labels) labels) (take (s′ .labels) labels′) (g .labels-are) ∙ rw go at (v .labels-rest);
+            items-count = items-count-on t is ∙ rw go at (v .items-count);
+            arguments-count = arguments-count-on t is ∙ rw go at (v .arguments-count);
+            blocks-count = omega (arith, blocks-on t is, rw go at (v .blocks-count));
+            items-few = rw (t .items-next) (few .0);
+            items-spared = λ z. rw (t .items-next) (few .1 (sym (t .before-next) ∙ z));
+            arguments-few = omega (arith, v .arguments-few, t .arguments-next, g .passed .arguments-few);
+            labels-few = g .labels-few;
+            blocks-few = begun .0;
+            blocks-spared = λ z. begun .1 (rw (t .before-next) at z);
+          },
+        )
 
     -- a refusal
     pub stop : (room blocks : ℕ) (e : Refusal)
@@ -199,18 +197,22 @@ module _ {ts : List Tok} {void : Bool} {at first used : ℕ} {whole : Body} {ite
         rw go at (v .blocks-count) in
         let few =
         ending-few lacks (s .last) (s .before) (s .items) (at * 3) (s .at) (e .next) (first * 4)
-        (lacks-operation void (s .before)) (v .items-few) (v .items-spared) (g .one) in
-        (sym (rw go at (v .ends)), omega (arith, g .items-next), omega (arith, g .arguments-next), l ∙ sym (g .labels-next),
-        record {
-          items-are = g .items-are ∙ rw go at (v .items-rest);
-          arguments-are = g .arguments-are ∙ rw go at (v .arguments-rest);
-          labels-are = rw (l, g .labels-are) ls;
-          few-labels = omega (arith, v .labels-few);
-          on = g .within;
-          bounds =
-              record {
-                items-few = omega (arith, few, n);
-                arguments-few = omega (arith, v .arguments-few, g .one);
-                blocks-few = omega (arith, b, ending-filled void (s .before) (s .last), v .blocks-few, g .one);
-              };
-        })
+        (lacks-operation void (s .before)) (v .items-few) (v .items-spared) (g .one) in (
+          sym (rw go at (v .ends)),
+          omega (arith, g .items-next),
+          omega (arith, g .arguments-next),
+          l ∙ sym (g .labels-next),
+          record {
+            items-are = g .items-are ∙ rw go at (v .items-rest);
+            arguments-are = g .arguments-are ∙ rw go at (v .arguments-rest);
+            labels-are = rw (l, g .labels-are) ls;
+            few-labels = omega (arith, v .labels-few);
+            on = g .within;
+            bounds =
+                record {
+                  items-few = omega (arith, few, n);
+                  arguments-few = omega (arith, v .arguments-few, g .one);
+                  blocks-few = omega (arith, b, ending-filled void (s .before) (s .last), v .blocks-few, g .one);
+                };
+          },
+        )

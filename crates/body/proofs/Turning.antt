@@ -1,8 +1,8 @@
 -- One turn: by the token at hand a label, an operation or the closing brace, as `bodyD` takes it.
-use Prim.Native.Nat.{ℕ, suc, _+_, _*_, _≤_, _<_}
+use Prim.Native.Nat.{ℕ, _+_, _*_, _≤_, _<_}
 use mathlib.Core.Path.{_≡_, refl, sym, ap, _∙_}
 use mathlib.Core.Bool.{Bool, true, false}
-use mathlib.Core.List.{List, [], _∷_, _++_, append-nil}
+use mathlib.Core.List.{List, [], _∷_, append-nil}
 use native.Mathlib.Omega.{arith}
 use native.Mathlib.Nat.{add-zero}
 use native.Mathlib.Numerals.{add-one}
@@ -15,18 +15,15 @@ use Rattle.utils.proofs.Runs.{sets-append}
 use Rattle.pieces.proofs.Progress.{pick-either}
 use Rattle.pieces.specs.declared.Identifier.{Identifier}
 use Rattle.lexer.specs.Decoded.{Tok, tokenAt}
-use Rattle.lexer.specs.declared.TokenAt.{TokenAt}
 use Rattle.parser.specs.Step.{opened}
 use Rattle.parser.specs.Runs.{variablesCells}
 use Rattle.parser.specs.Labels.{labelledD}
-use Rattle.parser.specs.Body.{Item, label, bodyD, bodyEnd, bodyStop, closes, behind, labelsOf, lacksRet}
-use Rattle.parser.specs.declared.Refusal.{Refusal}
-use Rattle.parser.specs.declared.Consumed.the-variants as C
+use Rattle.parser.specs.Body.{label, bodyD, closes, behind, labelsOf, lacksRet}
 use Rattle.parser.specs.declared.Named.the-variants as N
 use Rattle.body.specs.Records.{itemRecord, recordOf, recordCells, itemsCells, argumentsCount}
 use Rattle.body.specs.Room.{Within}
-use Rattle.body.specs.Turns.{added, closing, beforeNext, lastNext, Ready, Taken, itemThen, ItemTaken, ItemTurned}
-use Rattle.body.specs.Turns.{LabelTaken, LabelTurned, bodyFrom, Gone, Ended, Turned}
+use Rattle.body.specs.Turns.{added, closing, beforeNext, lastNext, itemThen, ItemTurned}
+use Rattle.body.specs.Turns.{LabelTaken, LabelTurned, Ended, Turned}
 use Rattle.body.specs.declared.Closed.{Closed}
 use Rattle.body.specs.declared.Going.{Going}
 use Rattle.body.specs.declared.Turn.{Turn}

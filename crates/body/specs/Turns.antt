@@ -62,6 +62,11 @@ abbrev pub CallHeld : ℕ → ℕ → ItemRecord → List ℕ → List ℕ → L
 CallHeld n used r run items₀ items arguments₀ arguments (C.At next) = Put n used r run items₀ items arguments₀ arguments
 CallHeld n used r run items₀ items arguments₀ arguments (C.Refused e) = Unit
 
+-- behind a terminator: its own refusal, or 12 with the operation's token
+abbrev pub lateRefusal : ItemRead → Refusal
+lateRefusal (I.Done r used next) = refusal 12 (r .token) 0
+lateRefusal (I.Refused e) = e
+
 -- what stands behind an operation, by its record's kind
 unfoldable pub behindKind : ℕ → ℕ
 behindKind kind = pick (leb 9 kind) afterTerminator afterOperation

@@ -8,8 +8,8 @@ ghost use Rattle.parser.specs.Body.{operationToken};
 ghost use Rattle.body.specs.Records.{itemRecord, operationRecord, recordCells, recordAt};
 use crate::ItemRecord;
 use parser::Operation;
-use parser::runs::type_cell;
 use parser::Variable;
+use parser::runs::type_cell;
 
 // Stores a record behind n others.
 pub(crate) fn put_record(items: &mut [u32], n: usize, r: ItemRecord)
