@@ -23,7 +23,8 @@ use Rattle.parser.specs.declared.Consumed.the-variants as C
 use Rattle.parser.specs.declared.Called.the-variants as L
 use Rattle.body.specs.Records.{operationRecord, recordOf, itemsCells}
 use Rattle.body.specs.Room.{Within}
-use Rattle.body.specs.Turns.{itemRead, Put, ItemHeld, callRecord, callRead, CallHeld, lateRefusal, behindKind, closing, beforeNext}
+use Rattle.body.specs.Turns.{itemRead, Put, ItemHeld, callRecord, callRead, CallHeld, lateRefusal}
+use Rattle.body.specs.Turns.{behindKind, closing, beforeNext}
 use Rattle.body.specs.Turns.{lastNext, itemThen, ItemTaken}
 use Rattle.body.specs.declared.ItemRecord.{ItemRecord}
 use Rattle.body.specs.declared.ItemRead.the-variants as I
@@ -63,7 +64,8 @@ called-item n used i (C.At next) items₀ items arguments₀ arguments h = (refl
 called-item n used i (C.Refused e) items₀ items arguments₀ arguments h = (refl, tt)
 
 pub call-item : (w n used : ℕ) (c : Calling) (items₀ items arguments₀ arguments : List ℕ)
-    → CallHeld n used (callRecord 5 w 0 0 used c) (variablesCells (c .arguments .list)) items₀ items arguments₀ arguments
+    → CallHeld n used (callRecord 5 w 0 0 used c)
+    (variablesCells (c .arguments .list)) items₀ items arguments₀ arguments
     (c .arguments .end)
     → (callRead 5 w 0 0 used c ≡ itemRead used (calledItem c (λ g xs. call w g xs)))
     × ItemHeld n used items₀ items arguments₀ arguments (calledItem c (λ g xs. call w g xs))
@@ -80,7 +82,8 @@ pub call-into-item : (w n used : ℕ) (v : Variable) (t : ℕ) (c : Calling) (it
 unfolding callRead calledItem
 call-into-item w n used v t c items₀ items arguments₀ arguments q h =
     rw q
-    (called-item n used (callInto w v (c .callee) (c .arguments .list)) (c .arguments .end) items₀ items arguments₀ arguments
+    (called-item n used (callInto w v (c .callee) (c .arguments .list))
+    (c .arguments .end) items₀ items arguments₀ arguments
     (rw q at h))
 
 -- What an answer says. ----------------------------------------------------------------------------------------------
@@ -90,7 +93,8 @@ unfolding itemRead
 read-refused used (item i next) h = absurd (let z : _≡_ {A = ℕ} 0 1 = cc in omega arith)
 read-refused used (refused r) h = cc
 
-pub record Read (n used next then : ℕ) (r : ItemRecord) (d : ItemAt) (items₀ items arguments₀ arguments : List ℕ) : Type 0 where
+pub record Read (n used next then : ℕ) (r : ItemRecord) (d : ItemAt)
+    (items₀ items arguments₀ arguments : List ℕ) : Type 0 where
   pub read : Item
   pub is : d ≡ item read next
   pub record-is : r ≡ recordOf used read
@@ -101,8 +105,10 @@ pub read-done : (n used : ℕ) (d : ItemAt) {r : ItemRecord} {then next : ℕ} (
     → I.Done r then next ≡ itemRead used d → ItemHeld n used items₀ items arguments₀ arguments d
     → Read n used next then r d items₀ items arguments₀ arguments
 unfolding itemRead
-read-done n used (item i at) items₀ items arguments₀ arguments h k = record { read = i; is = cc; record-is = cc; then-is = cc; put = k }
-read-done n used (refused r) items₀ items arguments₀ arguments h k = absurd (let z : _≡_ {A = ℕ} 0 1 = cc in omega arith)
+read-done n used (item i at) items₀ items arguments₀ arguments h k = record
+    { read = i; is = cc; record-is = cc; then-is = cc; put = k }
+read-done n used (refused r) items₀ items arguments₀ arguments h k = absurd
+    (let z : _≡_ {A = ℕ} 0 1 = cc in omega arith)
 
 -- What a record says of its operation. ------------------------------------------------------------------------------
 
@@ -150,14 +156,16 @@ unfolding recordOf behindKind beforeNext behind labelsOf closing lastNext pick
 operated void used before last (label w l) h = absurd h
 operated void used before last (plain o) h =
     record { kind = operation-behind o; same = refl; none = refl; one = refl; token = operation-token o }
-operated void used before last (call w g xs) h = record { kind = refl; same = refl; none = refl; one = refl; token = refl }
+operated void used before last (call w g xs) h = record
+    { kind = refl; same = refl; none = refl; one = refl; token = refl }
 operated void used before last (callInto w v g xs) h =
     record { kind = refl; same = refl; none = refl; one = refl; token = refl }
 
 -- One turn with an operation. ---------------------------------------------------------------------------------------
 
 module _ (ts : List Tok) (before at : ℕ) where
-  pub item-refused : (e : Refusal) → itemD ts at ≡ refused e → (k : Item → ℕ → Body) → itemThen ts before at k ≡ bodyStop e
+  pub item-refused : (e : Refusal) → itemD ts at ≡ refused e → (k : Item → ℕ → Body) → itemThen ts before at k
+      ≡ bodyStop e
   unfolding itemThen thenItem
   item-refused e q k = rw q
 
@@ -182,7 +190,8 @@ pub item-taken : (ts : List Tok) (void : Bool) (s s′ : Going) (i : Item) (item
     → Within ts (s .at) → itemD ts (s .at) ≡ item i (s′ .at) → (s .before ≡ 3 → ⊥)
     → s′ .items ≡ s .items + 1 → s′ .arguments ≡ s .arguments + length (argumentsIn i) → s′ .labels ≡ s .labels
     → s′ .before ≡ behindKind (recordOf (s .arguments) i .kind) → s′ .last ≡ recordOf (s .arguments) i .token
-    → Put (s .items) (s .arguments) (recordOf (s .arguments) i) (variablesCells (argumentsIn i)) items₀ items arguments₀ arguments
+    → Put (s .items) (s .arguments) (recordOf (s .arguments) i)
+    (variablesCells (argumentsIn i)) items₀ items arguments₀ arguments
     → ItemTaken ts void s s′ items₀ items arguments₀ arguments
 unfolding itemsCells
 item-taken ts void s s′ i items₀ items arguments₀ arguments w q late n used labels before last p =

@@ -127,7 +127,8 @@ itemThen ts before at k =
     thenItem bodyStop (itemD ts at) (λ i at1.
     pick (eqb before afterTerminator) (bodyStop (refusal 12 (itemToken i) 0)) (k i at1))
 
-pub record ItemTaken (ts : List Tok) (void : Bool) (s s′ : Going) (items₀ items arguments₀ arguments : List ℕ) : Type 0 where
+pub record ItemTaken (ts : List Tok) (void : Bool) (s s′ : Going)
+    (items₀ items arguments₀ arguments : List ℕ) : Type 0 where
   pub read : Item
   pub goes : (k : Item → ℕ → Body) → itemThen ts (s .before) (s .at) k ≡ k read (s′ .at)
   pub before-same : beforeNext read ≡ behind read
@@ -172,7 +173,8 @@ pub record Gone (ts : List Tok) (void : Bool) (s s′ : Going) (items₀ items a
   pub passed : Passed ts (s .at) (s′ .at) read
   pub taken : Taken void read s s′ items₀ items arguments₀ arguments
 
-pub record Ended (ts : List Tok) (void : Bool) (s : Going) (e : Closed) (items₀ items arguments₀ arguments labels₀ labels : List ℕ)
+pub record Ended (ts : List Tok) (void : Bool) (s : Going) (e : Closed)
+    (items₀ items arguments₀ arguments labels₀ labels : List ℕ)
     : Type 0 where
   pub goes : (room : ℕ) → bodyFrom ts (suc room) s labels₀ ≡ bodyEnd (C.At (e .next))
   pub one : s .at + 1 ≤ e .next
@@ -180,7 +182,8 @@ pub record Ended (ts : List Tok) (void : Bool) (s : Going) (e : Closed) (items�
   pub items-next : e .items ≡ s .items + length (added (lacksRet void (s .before)) (s .last))
   pub arguments-next : e .arguments ≡ s .arguments
   pub labels-next : e .labels ≡ s .labels
-  pub items-are : items ≡ sets items₀ (s .items * 8) (itemsCells (s .arguments) (added (lacksRet void (s .before)) (s .last)))
+  pub items-are : items ≡ sets items₀ (s .items * 8)
+      (itemsCells (s .arguments) (added (lacksRet void (s .before)) (s .last)))
   pub arguments-are : arguments ≡ arguments₀
   pub labels-are : labels ≡ labels₀
 

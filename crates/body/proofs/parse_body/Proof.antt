@@ -33,8 +33,13 @@ turn-requires : tie.Need-turn-requires Inv-loop μ-loop
 turn-requires c κs =
     let loop = c .before .before .before .loop in
     let pre = c .before .before .before .before .before .before .before .before .pre in
-    let v = loop .inv .2 in
-    (ready (pre .1 .0 .0) (pre .1 .0 .1) v, omega (arith, v .long-items, pre .1 .1 .0), omega (arith, v .long-arguments, pre .1 .1 .1), omega (arith, v .long-labels, pre .1 .1 .2))
+    let v = loop .inv .2 in (
+      ready (pre .1 .0 .0) (pre .1 .0 .1) v,
+      omega (arith, v .long-items, pre .1 .1 .0),
+      omega
+          (arith, v .long-arguments, pre .1 .1 .1),
+      omega (arith, v .long-labels, pre .1 .1 .2),
+    )
 
 enum-known-next : tie.Need-enum-known-next Inv-loop μ-loop
 enum-known-next c = search needs
@@ -131,7 +136,8 @@ returns c =
     let f =
     finish (pre .1 .0 .0) (pre .1 .0 .1) (loop .inv .0) (loop .inv .1) v (pre .1 .1 .2) g in
     closed-read ts (a .void) (a .at) (a .first) (a .used) (functionBody ts (a .at)) (e .given .0 .0)
-    (now (a .items)) (turn .last .1 .1 .1 .0) (now (a .arguments)) (turn .last .1 .1 .1 .1 .0) (turn .last .1 .1 .1 .1 .1 .0) f
+    (now (a .items)) (turn .last .1 .1 .1 .0) (now (a .arguments)) (turn .last .1 .1 .1 .1 .0)
+    (turn .last .1 .1 .1 .1 .1 .0) f
 
 enum-known-e-2 : tie.Need-enum-known-e-2 Inv-loop μ-loop
 enum-known-e-2 c = search needs
@@ -174,7 +180,8 @@ returns-2 c =
     let g = rw (e2 .given .1) at (turn .ensures) in
     let f = stop (pre .1 .0 .0) (pre .1 .0 .1) (loop .inv .0) (loop .inv .1) (e2 .given .0 .0) v g in
     refused-read ts (a .void) (a .at) (a .first) (a .used) (functionBody ts (a .at)) (e2 .given .0 .0)
-    (now (a .items)) (turn .last .1 .1 .1 .0) (now (a .arguments)) (turn .last .1 .1 .1 .1 .0) (turn .last .1 .1 .1 .1 .1 .0) f
+    (now (a .items)) (turn .last .1 .1 .1 .0) (now (a .arguments)) (turn .last .1 .1 .1 .1 .0)
+    (turn .last .1 .1 .1 .1 .1 .0) f
 
 pub parse-body-spec : {M : Type 1} → statement M
 parse-body-spec =

@@ -31,7 +31,8 @@ operation-record-requires c κs =
     let o = c .before .o in
     let ts = tokensOf (now (a .tokens)) in
     let w = pre .0 in
-    let p = rw (← parse-instruction .ensures, o .given .1) at (instruction-in ts (w .last) (w .ends) (a .at) (w .reached)) in
+    let p = rw (← parse-instruction .ensures, o .given .1) at
+    (instruction-in ts (w .last) (w .ends) (a .at) (w .reached)) in
     omega (arith, p .2, w .few)
 
 put-record-requires : tie.Need-put-record-requires
@@ -49,7 +50,8 @@ parse-call-item-requires c κs =
     let word = c .before .before .before .word in
     let ts = tokensOf (now (a .tokens)) in
     let w = pre .0 in
-    let p = rw (← parse-instruction .ensures, word .given .1) at (instruction-in ts (w .last) (w .ends) (a .at) (w .reached)) in
+    let p = rw (← parse-instruction .ensures, word .given .1) at
+    (instruction-in ts (w .last) (w .ends) (a .at) (w .reached)) in
     (record { last = w .last; ends = w .ends; reached = p .1; few = w .few }, pre .1, pre .2, pre .3)
 
 enum-known-v : tie.Need-enum-known-v
@@ -67,7 +69,8 @@ parse-call-item-requires-2 c κs =
     let v = c .before .before .before .before .v in
     let ts = tokensOf (now (a .tokens)) in
     let w = pre .0 in
-    let p = rw (← parse-instruction .ensures, v .given .1) at (instruction-in ts (w .last) (w .ends) (a .at) (w .reached)) in
+    let p = rw (← parse-instruction .ensures, v .given .1) at
+    (instruction-in ts (w .last) (w .ends) (a .at) (w .reached)) in
     (record { last = w .last; ends = w .ends; reached = p .1; few = w .few }, pre .1, pre .2, pre .3)
 
 returns : tie.Need-returns
@@ -107,7 +110,8 @@ returns-3 c =
     let ts = tokensOf (now (a .tokens)) in
     let word = word-known .given .0 .0 in
     let call = parse-call-item in
-    let h = call-item word (a .n) (a .used) (callD ts word) (now (a .items)) (call .last .1 .1 .1 .1 .1 .0) (now (a .arguments)) (call .last .1 .1 .1 .1 .1 .1 .1 .0) (call .ensures .1) in
+    let h = call-item word (a .n) (a .used) (callD ts word) (now (a .items)) (call .last .1 .1 .1 .1 .1 .0)
+    (now (a .arguments)) (call .last .1 .1 .1 .1 .1 .1 .1 .0) (call .ensures .1) in
     rw (← parse-instruction .ensures, word-known .given .1, call .ensures .0) (h .0, h .1)
 
 same-length-4 : tie.Need-same-length-4
@@ -131,8 +135,10 @@ returns-4 c =
     let call = parse-call-item2 in
     let t = type-cell .result in
     let c′ = callD ts word in
-    let q : callRecord 6 word (v .id .0) t (a .used) c′ ≡ recordOf (a .used) (callInto word v (c′ .callee) (c′ .arguments .list)) = rw (type-cell .ensures) in
-    let h = call-into-item word (a .n) (a .used) v t c′ (now (a .items)) (call .last .1 .1 .1 .1 .1 .0) (now (a .arguments)) (call .last .1 .1 .1 .1 .1 .1 .1 .0) q (call .ensures .1) in
+    let q : callRecord 6 word (v .id .0) t (a .used) c′ ≡ recordOf (a .used)
+    (callInto word v (c′ .callee) (c′ .arguments .list)) = rw (type-cell .ensures) in
+    let h = call-into-item word (a .n) (a .used) v t c′ (now (a .items)) (call .last .1 .1 .1 .1 .1 .0)
+    (now (a .arguments)) (call .last .1 .1 .1 .1 .1 .1 .1 .0) q (call .ensures .1) in
     rw (← parse-instruction .ensures, v-known .given .1, call .ensures .0) (h .0, h .1)
 
 pub parse-item-spec : {M : Type 1} → statement M

@@ -97,7 +97,8 @@ returns-3 c =
       before = behind-kind .result;
       last = read .given .0 .0 .token;
     }) (d .read) (now (a .items)) (parse .last .1 .1 .0) (now (a .arguments)) (parse .last .1 .1 .1 .1 .0)
-    (pre .0 .within) (d .is) (if1 .left) refl (d .then-is) refl (rw (← d .record-is) (behind-kind .ensures)) (rw (← d .record-is) refl) (d .put)
+    (pre .0 .within) (d .is) (if1 .left) refl (d .then-is) refl (rw (← d .record-is) (behind-kind .ensures))
+    (rw (← d .record-is) refl) (d .put)
 
 pub item-turn-spec : {M : Type 1} → statement M
 item-turn-spec =

@@ -150,7 +150,8 @@ returns-2 c =
     let l = label .given .0 .0 in
     let next = label .given .0 .1 .0 in
     label-taken ts (a .void) s l next (now (a .labels)) (pre .0 .within) few q (add-ret .result)
-    (now (a .items)) (add-ret .last .0) (put-record .last .0) (pre .2) (rw (lacks-ret .ensures) at (add-ret .ensures .0))
+    (now (a .items)) (add-ret .last .0) (put-record .last .0) (pre .2)
+    (rw (lacks-ret .ensures) at (add-ret .ensures .0))
     (rw (lacks-ret .ensures) at (add-ret .ensures .1)) (rw (record-of .ensures) at (put-record .ensures))
 
 pub label-turn-spec : {M : Type 1} → statement M
