@@ -1,10 +1,11 @@
 -- Behind a terminator by `item-late`; else by what was read, one item more (`item-taken`).
 use Prim.Native.Nat.{_+_}
-use mathlib.Core.Path.{refl, sym, _∙_}
+use mathlib.Core.Path.{refl, sym, ap, _∙_}
 use denote.Ref.{now}
 use borrow.Author.Needs.{needs}
 use Rattle.lexer.specs.Decoded.{tokensOf}
-use Rattle.parser.specs.Body.{itemD}
+use Rattle.parser.specs.Body.{itemD, bodyStop}
+use Rattle.body.specs.Turns.{lateRefusal}
 use Rattle.body.proofs.Items.{read-refused, read-done, item-refused, item-late, item-taken}
 use Rattle.body.proofs.turns.item_turn.Statement.{statement}
 use Rattle.body.proofs.turns.item_turn.Tie as tie
@@ -31,7 +32,9 @@ returns c =
     let ts = tokensOf (now (a .tokens)) in
     let s = a .s in
     let parse = parse-item in
-    λ k. rw (refuse .ensures, parse .ensures .0) (item-late ts (s .before) (s .at) (s .arguments) (if1 .taken) k)
+    λ k.
+    item-late ts (s .before) (s .at) (s .arguments) (if1 .taken) k
+    ∙ ap bodyStop (sym (refuse .ensures ∙ ap lateRefusal (parse .ensures .0)))
 
 enum-known-read : tie.Need-enum-known-read
 enum-known-read c = search needs
