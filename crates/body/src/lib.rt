@@ -76,7 +76,8 @@ pub fn parse_body(
     requires { ⌜ (24576 ≤ length (now items)) × (6928 ≤ length (now arguments)) × (255 ≤ length (now labels)) ⌝ }
     ensures { λ r. ⌜ r ≡ bodyRead void (functionBody (tokensOf (now (tokens .entry))) at) ⌝ }
     ensures { λ _. ⌜ Held (tokensOf (now (tokens .entry))) void
-        (functionBody (tokensOf (now (tokens .entry))) at .items) at first used (now (items .entry)) (now (items .exit)) (now (arguments .entry)) (now (arguments .exit))
+        (functionBody (tokensOf (now (tokens .entry))) at .items) at first used
+        (now (items .entry)) (now (items .exit)) (now (arguments .entry)) (now (arguments .exit))
         (now (labels .exit)) (functionBody (tokensOf (now (tokens .entry))) at .end) ⌝ }
 {
     let mut s = Going {
