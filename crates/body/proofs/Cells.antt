@@ -1,23 +1,23 @@
 -- What one item adds to the cells, the counts and the blocks of those behind it.
-use Prim.Native.Nat.{ℕ, suc, _+_, _*_, _≤_}
-use mathlib.Core.Path.{_≡_, refl, sym, ap, _∙_}
+use Prim.Native.Nat.{ℕ, _+_, _*_, _≤_}
+use mathlib.Core.Path.{_≡_, refl, sym, _∙_}
 use mathlib.Core.Bool.{Bool, true, false}
 use mathlib.Core.List.{List, [], _∷_, _++_, append-assoc}
 use native.Mathlib.Omega.{arith}
 use native.Mathlib.Nat.{add-zero, zero-add}
 use borrow.Author.Tests.{eqb-true, leb-true, leb-false}
-use lib.Dec.{eqb, leb}
-use lib.ListN.{length, take, length-append}
+use lib.Dec.{leb}
+use lib.ListN.{length, length-append}
 use lib.Seq.{sets}
 use Rattle.utils.specs.Bytes.{pick}
 use Rattle.utils.proofs.Runs.{sets-append}
 use Rattle.parser.specs.Runs.{variablesCells}
-use Rattle.parser.specs.Body.{Item, label, plain, call, callInto, operationToken, targets, terminates, argumentsIn}
+use Rattle.parser.specs.Body.{Item, label, plain, call, callInto, terminates, argumentsIn}
 use Rattle.parser.specs.Body.{behind, labelsOf, ret, lacksRet, closedFrom}
-use Rattle.parser.specs.Blocks.{Part, partOf, partsOf}
+use Rattle.parser.specs.Blocks.{partsOf}
 use Rattle.parser.specs.declared.Variable.{Variable}
 use Rattle.parser.specs.declared.Operation.{Operation}
-use Rattle.body.specs.Records.{recordOf, recordCells, itemsCells, argumentsCells, argumentsCount}
+use Rattle.body.specs.Records.{recordOf, itemsCells, argumentsCells, argumentsCount}
 use Rattle.body.specs.Room.{filled}
 use Rattle.body.specs.Turns.{added, closing, beforeNext, lastNext, Taken}
 use Rattle.body.specs.declared.Going.{Going}
@@ -47,31 +47,31 @@ unfolding itemsCells recordOf added pick
 added-cells true last used = refl
 added-cells false last used = refl
 
-added-front : (t : Bool) (last w : ℕ) (i : Item) (more : List Item)
+added-front : (t : Bool) (last : ℕ) (i : Item) (more : List Item)
     → pick t (ret last ∷ i ∷ more) (i ∷ more) ≡ (added t last ++ (i ∷ [])) ++ more
 unfolding added pick
-added-front true last w i more = refl
-added-front false last w i more = refl
+added-front true last i more = refl
+added-front false last i more = refl
 
 pub closed-cons : (void : Bool) (before last : ℕ) (i : Item) (is : List Item)
     → closedFrom void before last (i ∷ is)
     ≡ closing void before last i ++ closedFrom void (beforeNext i) (lastNext last i) is
 unfolding closedFrom closing beforeNext lastNext
 closed-cons void before last (label w l) is =
-    added-front (lacksRet void before) last w (label w l) (closedFrom void 1 last is)
+    added-front (lacksRet void before) last (label w l) (closedFrom void 1 last is)
 closed-cons void before last (plain o) is = refl
 closed-cons void before last (call w g xs) is = refl
 closed-cons void before last (callInto w v g xs) is = refl
 
-added-count : (t : Bool) (last w : ℕ) (is : List Item) → argumentsCount is ≡ 0 → argumentsCount (added t last ++ is) ≡ 0
+added-count : (t : Bool) (last : ℕ) (is : List Item) → argumentsCount is ≡ 0 → argumentsCount (added t last ++ is) ≡ 0
 unfolding argumentsCount added pick
-added-count true last w is e = omega arith
-added-count false last w is e = e
+added-count true last is e = omega arith
+added-count false last is e = e
 
 pub closing-count : (void : Bool) (before last : ℕ) (i : Item)
     → argumentsCount (closing void before last i) ≡ length (argumentsIn i)
 unfolding closing argumentsCount
-closing-count void before last (label w l) = added-count (lacksRet void before) last w (label w l ∷ []) refl
+closing-count void before last (label w l) = added-count (lacksRet void before) last (label w l ∷ []) refl
 closing-count void before last (plain o) = refl
 closing-count void before last (call w g xs) = add-zero (length xs)
 closing-count void before last (callInto w v g xs) = add-zero (length xs)
@@ -83,7 +83,7 @@ labels-cons (plain o) is = refl
 labels-cons (call w g xs) is = refl
 labels-cons (callInto w v g xs) is = refl
 
--- Blocks with an operation: one more where an operation stands behind a label or the brace. -------------------------------
+-- Blocks with an operation: one more where an operation stands behind a label or the brace. ---------------------------
 
 abbrev pub fresh : ℕ → Bool
 fresh before = leb before 1
@@ -99,11 +99,11 @@ unfolding lacksRet pick
 lacks-operation true before h = eqb-true before 2 h
 lacks-operation false before h = absurd (let z : _≡_ {A = ℕ} 0 1 = cc in omega arith)
 
-added-filled : (t : Bool) (before last w : ℕ) (is : List Item) → (t ≡ true → before ≡ 2) → (b : Bool)
+added-filled : (t : Bool) (before last : ℕ) (is : List Item) → (t ≡ true → before ≡ 2)
     → filled (fresh before) (partsOf (added t last ++ is)) ≡ filled (pick t false (fresh before)) (partsOf is)
 unfolding filled partsOf added pick
-added-filled true before last w is h b = let e = h refl in rw e (zero-add (filled false (partsOf is)))
-added-filled false before last w is h b = refl
+added-filled true before last is h = let e = h refl in rw e (zero-add (filled false (partsOf is)))
+added-filled false before last is h = refl
 
 behind-late : (t : Bool) → leb (pick t 3 2) 1 ≡ false
 unfolding pick
@@ -115,11 +115,12 @@ unfolding behind
 late o = behind-late (terminates o)
 
 closing-filled : (void : Bool) (before last : ℕ) (i : Item) (is : List Item)
-    → filled (fresh before) (partsOf (closing void before last i ++ is)) ≡ started before i + filled (fresh (beforeNext i)) (partsOf is)
+    → filled (fresh before) (partsOf (closing void before last i ++ is))
+    ≡ started before i + filled (fresh (beforeNext i)) (partsOf is)
 unfolding closing started beforeNext filled partsOf
 closing-filled void before last (label w l) is =
     rw (append-assoc (added (lacksRet void before) last) (label w l ∷ []) is)
-    (added-filled (lacksRet void before) before last w (label w l ∷ is) (lacks-operation void before) true
+    (added-filled (lacksRet void before) before last (label w l ∷ is) (lacks-operation void before)
     ∙ sym (zero-add (filled true (partsOf is))))
 closing-filled void before last (plain o) is = rw (late o)
 closing-filled void before last (call w g xs) is = refl
@@ -152,7 +153,8 @@ module _ {void : Bool} {i : Item} {s s′ : Going} {items₀ items arguments₀ 
       let u : s′ .arguments ≡ s .arguments + argumentsCount xs =
       omega (arith, t .arguments-next, closing-count void (s .before) (s .last) i) in
       rw (closed-on, items-append (s .arguments) xs ys, t .items-are, n, u)
-      (sym (sets-append (itemsCells (s .arguments) xs) (itemsCells (s .arguments + argumentsCount xs) ys) items₀ (s .items * 8)))
+      (sym (sets-append (itemsCells (s .arguments) xs) (itemsCells (s .arguments + argumentsCount xs) ys) items₀
+      (s .items * 8)))
 
   pub arguments-on : sets arguments (s′ .arguments * 2) (argumentsCells is)
       ≡ sets arguments₀ (s .arguments * 2) (argumentsCells (i ∷ is))
@@ -177,7 +179,8 @@ module _ {void : Bool} {i : Item} {s s′ : Going} {items₀ items arguments₀ 
   unfolding argumentsCount
   arguments-count-on = omega (arith, t .arguments-next)
 
-  pub blocks-on : started (s .before) i + filled (fresh (s′ .before)) (partsOf (closedFrom void (s′ .before) (s′ .last) is))
+  pub blocks-on : started (s .before) i + filled (fresh (s′ .before))
+      (partsOf (closedFrom void (s′ .before) (s′ .last) is))
       ≡ filled (fresh (s .before)) (partsOf (closedFrom void (s .before) (s .last) (i ∷ is)))
   blocks-on =
       rw (closed-on, t .before-next, t .last-next)
@@ -189,12 +192,12 @@ labels-on i is ls ls′ e = rw (e, labels-cons i is, append-assoc ls (labelsOf (
 
 -- Bounds. -----------------------------------------------------------------------------------------------------------
 
-added-few : (t : Bool) (last w : ℕ) (l : Item) (before n sum at next more : ℕ) → (t ≡ true → before ≡ 2)
+added-few : (t : Bool) (last : ℕ) (l : Item) (before n sum at next more : ℕ) → (t ≡ true → before ≡ 2)
     → sum + n * 4 ≤ at * 3 + more → (before ≡ 2 → sum + n * 4 + 2 ≤ at * 3 + more) → at + 2 ≤ next
     → sum + (n + length (added t last ++ (l ∷ []))) * 4 ≤ next * 3 + more
 unfolding added pick
-added-few true last w l before n sum at next more h a b p = omega (arith, b (h refl))
-added-few false last w l before n sum at next more h a b p = omega arith
+added-few true last l before n sum at next more h a b p = omega (arith, b (h refl))
+added-few false last l before n sum at next more h a b p = omega arith
 
 pub ending-few : (t : Bool) (last before n sum at next more : ℕ) → (t ≡ true → before ≡ 2)
     → sum + n * 4 ≤ at * 3 + more → (before ≡ 2 → sum + n * 4 + 2 ≤ at * 3 + more) → at + 1 ≤ next
@@ -210,7 +213,7 @@ pub items-few-on : (void : Bool) (last : ℕ) (i : Item) (before n sum at next m
     × (beforeNext i ≡ 2 → sum + (n + length (closing void before last i)) * 4 + 2 ≤ next * 3 + more)
 unfolding closing beforeNext
 items-few-on void last (label w l) before n sum at next more a b p = (
-  added-few (lacksRet void before) last w (label w l) before n sum at next more (lacks-operation void before) a b p,
+  added-few (lacksRet void before) last (label w l) before n sum at next more (lacks-operation void before) a b p,
   λ z. absurd (omega arith),
 )
 items-few-on void last (plain o) before n sum at next more a b p = (omega arith, λ z. omega arith)

@@ -1,17 +1,18 @@
 -- From what the calls gave to an item: its record, its run of arguments, and what stands behind it.
-use Prim.Native.Nat.{ℕ, suc, _+_, _*_, _≤_, _<_}
-use mathlib.Core.Path.{_≡_, refl, sym, ap, _∙_}
-use mathlib.Core.Bool.{Bool, true, false}
-use mathlib.Core.List.{List, [], _∷_, _++_}
+use Prim.Native.Nat.{ℕ, _+_}
+use mathlib.Core.Path.{_≡_, refl, _∙_}
+use mathlib.Core.Bool.{Bool}
+use mathlib.Core.List.{List, [], _∷_}
 use native.Mathlib.Omega.{arith}
 use borrow.Author.Tests.{eq-eqb, ne-eqb}
+use lib.Dec.{eqb}
 use lib.ListN.{length}
 use Rattle.pieces.specs.declared.Identifier.{Identifier}
 use Rattle.utils.specs.Bytes.{pick}
-use Rattle.lexer.specs.Decoded.{Tok, tokenAt}
+use Rattle.lexer.specs.Decoded.{Tok}
 use Rattle.parser.specs.Step.{refusal, thenAt}
 use Rattle.parser.specs.Runs.{Calling, variablesCells, calledOf}
-use Rattle.parser.specs.Body.{Item, label, plain, call, callInto, operationToken, itemToken, argumentsIn, terminates}
+use Rattle.parser.specs.Body.{Item, label, plain, call, callInto, operationToken, itemToken, argumentsIn}
 use Rattle.parser.specs.Body.{ItemAt, item, refused, thenItem, calledItem, itemD, Body, bodyStop, behind, labelsOf}
 use Rattle.parser.specs.declared.Refusal.{Refusal}
 use Rattle.parser.specs.declared.Operation.{Operation}
@@ -22,13 +23,13 @@ use Rattle.parser.specs.declared.Consumed.the-variants as C
 use Rattle.parser.specs.declared.Called.the-variants as L
 use Rattle.body.specs.Records.{operationRecord, recordOf, itemsCells}
 use Rattle.body.specs.Room.{Within}
-use Rattle.body.specs.Turns.{itemRead, Put, ItemHeld, callRecord, callRead, CallHeld, behindKind, closing, beforeNext}
-use Rattle.body.specs.Turns.{lastNext, Passed, Taken, itemThen, ItemTaken}
+use Rattle.body.specs.Turns.{itemRead, Put, ItemHeld, callRecord, callRead, CallHeld, lateRefusal}
+use Rattle.body.specs.Turns.{behindKind, closing, beforeNext}
+use Rattle.body.specs.Turns.{lastNext, itemThen, ItemTaken}
 use Rattle.body.specs.declared.ItemRecord.{ItemRecord}
-use Rattle.body.specs.declared.ItemRead.{ItemRead}
 use Rattle.body.specs.declared.ItemRead.the-variants as I
 use Rattle.body.specs.declared.Going.{Going}
-use Rattle.body.proofs.Progress.{Operates, ItemOn, ItemIn, item-in}
+use Rattle.body.proofs.Progress.{Operates, ItemOn, item-in}
 
 -- Calls. ------------------------------------------------------------------------------------------------------------
 
@@ -63,7 +64,8 @@ called-item n used i (C.At next) items₀ items arguments₀ arguments h = (refl
 called-item n used i (C.Refused e) items₀ items arguments₀ arguments h = (refl, tt)
 
 pub call-item : (w n used : ℕ) (c : Calling) (items₀ items arguments₀ arguments : List ℕ)
-    → CallHeld n used (callRecord 5 w 0 0 used c) (variablesCells (c .arguments .list)) items₀ items arguments₀ arguments
+    → CallHeld n used (callRecord 5 w 0 0 used c)
+    (variablesCells (c .arguments .list)) items₀ items arguments₀ arguments
     (c .arguments .end)
     → (callRead 5 w 0 0 used c ≡ itemRead used (calledItem c (λ g xs. call w g xs)))
     × ItemHeld n used items₀ items arguments₀ arguments (calledItem c (λ g xs. call w g xs))
@@ -80,7 +82,8 @@ pub call-into-item : (w n used : ℕ) (v : Variable) (t : ℕ) (c : Calling) (it
 unfolding callRead calledItem
 call-into-item w n used v t c items₀ items arguments₀ arguments q h =
     rw q
-    (called-item n used (callInto w v (c .callee) (c .arguments .list)) (c .arguments .end) items₀ items arguments₀ arguments
+    (called-item n used (callInto w v (c .callee) (c .arguments .list))
+    (c .arguments .end) items₀ items arguments₀ arguments
     (rw q at h))
 
 -- What an answer says. ----------------------------------------------------------------------------------------------
@@ -90,7 +93,8 @@ unfolding itemRead
 read-refused used (item i next) h = absurd (let z : _≡_ {A = ℕ} 0 1 = cc in omega arith)
 read-refused used (refused r) h = cc
 
-pub record Read (n used next then : ℕ) (r : ItemRecord) (d : ItemAt) (items₀ items arguments₀ arguments : List ℕ) : Type 0 where
+pub record Read (n used next then : ℕ) (r : ItemRecord) (d : ItemAt)
+    (items₀ items arguments₀ arguments : List ℕ) : Type 0 where
   pub read : Item
   pub is : d ≡ item read next
   pub record-is : r ≡ recordOf used read
@@ -101,8 +105,10 @@ pub read-done : (n used : ℕ) (d : ItemAt) {r : ItemRecord} {then next : ℕ} (
     → I.Done r then next ≡ itemRead used d → ItemHeld n used items₀ items arguments₀ arguments d
     → Read n used next then r d items₀ items arguments₀ arguments
 unfolding itemRead
-read-done n used (item i at) items₀ items arguments₀ arguments h k = record { read = i; is = cc; record-is = cc; then-is = cc; put = k }
-read-done n used (refused r) items₀ items arguments₀ arguments h k = absurd (let z : _≡_ {A = ℕ} 0 1 = cc in omega arith)
+read-done n used (item i at) items₀ items arguments₀ arguments h k = record
+    { read = i; is = cc; record-is = cc; then-is = cc; put = k }
+read-done n used (refused r) items₀ items arguments₀ arguments h k = absurd
+    (let z : _≡_ {A = ℕ} 0 1 = cc in omega arith)
 
 -- What a record says of its operation. ------------------------------------------------------------------------------
 
@@ -130,7 +136,7 @@ operation-behind (O.RetValue w x) = refl
 operation-behind (O.Print w x) = refl
 operation-behind (O.Nop w) = refl
 
-pub record-token : (used : ℕ) (i : Item) → recordOf used i .token ≡ itemToken i
+record-token : (used : ℕ) (i : Item) → recordOf used i .token ≡ itemToken i
 unfolding recordOf
 record-token used (label w l) = refl
 record-token used (plain o) = operation-token o
@@ -150,21 +156,30 @@ unfolding recordOf behindKind beforeNext behind labelsOf closing lastNext pick
 operated void used before last (label w l) h = absurd h
 operated void used before last (plain o) h =
     record { kind = operation-behind o; same = refl; none = refl; one = refl; token = operation-token o }
-operated void used before last (call w g xs) h = record { kind = refl; same = refl; none = refl; one = refl; token = refl }
+operated void used before last (call w g xs) h = record
+    { kind = refl; same = refl; none = refl; one = refl; token = refl }
 operated void used before last (callInto w v g xs) h =
     record { kind = refl; same = refl; none = refl; one = refl; token = refl }
 
 -- One turn with an operation. ---------------------------------------------------------------------------------------
 
 module _ (ts : List Tok) (before at : ℕ) where
-  pub item-refused : (e : Refusal) → itemD ts at ≡ refused e → (k : Item → ℕ → Body) → itemThen ts before at k ≡ bodyStop e
+  pub item-refused : (e : Refusal) → itemD ts at ≡ refused e → (k : Item → ℕ → Body) → itemThen ts before at k
+      ≡ bodyStop e
   unfolding itemThen thenItem
   item-refused e q k = rw q
 
-  pub item-late : (i : Item) (next : ℕ) → itemD ts at ≡ item i next → before ≡ 3 → (k : Item → ℕ → Body)
-      → itemThen ts before at k ≡ bodyStop (refusal 12 (itemToken i) 0)
-  unfolding itemThen thenItem pick
-  item-late i next q h k = rw (q, eq-eqb before 3 h)
+  late : (used : ℕ) (d : ItemAt) → before ≡ 3 → (k : Item → ℕ → Body)
+      → thenItem bodyStop d (λ i at1. pick (eqb before 3) (bodyStop (refusal 12 (itemToken i) 0)) (k i at1))
+      ≡ bodyStop (lateRefusal (itemRead used d))
+  unfolding thenItem itemRead pick
+  late used (item i next) h k = rw (eq-eqb before 3 h, record-token used i)
+  late used (refused e) h k = refl
+
+  pub item-late : (used : ℕ) → before ≡ 3 → (k : Item → ℕ → Body)
+      → itemThen ts before at k ≡ bodyStop (lateRefusal (itemRead used (itemD ts at)))
+  unfolding itemThen
+  item-late used h k = late used (itemD ts at) h k
 
   item-goes : (i : Item) (next : ℕ) → itemD ts at ≡ item i next → (before ≡ 3 → ⊥) → (k : Item → ℕ → Body)
       → itemThen ts before at k ≡ k i next
@@ -175,7 +190,8 @@ pub item-taken : (ts : List Tok) (void : Bool) (s s′ : Going) (i : Item) (item
     → Within ts (s .at) → itemD ts (s .at) ≡ item i (s′ .at) → (s .before ≡ 3 → ⊥)
     → s′ .items ≡ s .items + 1 → s′ .arguments ≡ s .arguments + length (argumentsIn i) → s′ .labels ≡ s .labels
     → s′ .before ≡ behindKind (recordOf (s .arguments) i .kind) → s′ .last ≡ recordOf (s .arguments) i .token
-    → Put (s .items) (s .arguments) (recordOf (s .arguments) i) (variablesCells (argumentsIn i)) items₀ items arguments₀ arguments
+    → Put (s .items) (s .arguments) (recordOf (s .arguments) i)
+    (variablesCells (argumentsIn i)) items₀ items arguments₀ arguments
     → ItemTaken ts void s s′ items₀ items arguments₀ arguments
 unfolding itemsCells
 item-taken ts void s s′ i items₀ items arguments₀ arguments w q late n used labels before last p =

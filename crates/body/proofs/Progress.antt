@@ -1,9 +1,9 @@
--- Progress: every step of the grammar takes a token and stays before the end token, so an item takes two tokens or more,
+-- Progress: every step of the grammar takes a token and stays before the end token, so an item takes two tokens or more
 -- and a call three besides its arguments. One lemma for each step helper, then one for each definition.
 use Prim.Native.Nat.{ℕ, zero, suc, _+_, _*_, _≤_, _<_}
 use mathlib.Core.Path.{_≡_, refl}
-use mathlib.Core.Bool.{Bool, true, false}
-use mathlib.Core.List.{List, [], _∷_}
+use mathlib.Core.Bool.{true, false}
+use mathlib.Core.List.{List}
 use mathlib.Core.Logic.{⊎-elim}
 use native.Mathlib.Omega.{arith}
 use native.Mathlib.Nat.{eq-or-lt-of-le}
@@ -16,7 +16,8 @@ use Rattle.pieces.specs.declared.Identifier.{Identifier}
 use Rattle.lexer.specs.Decoded.{Tok, tokenAt}
 use Rattle.lexer.specs.declared.TokenAt.{TokenAt}
 use Rattle.parser.specs.Step.{look, thenAt, thenNamed, thenType, thenDefined}
-use Rattle.parser.specs.Grammar.{consumeD, namedD, typeD, printD, retD, jumpD, branchD, nopD, definedD, isConstant, constD}
+use Rattle.parser.specs.Grammar.{consumeD, namedD, typeD, printD, retD, jumpD, branchD, nopD, definedD}
+use Rattle.parser.specs.Grammar.{isConstant, constD}
 use Rattle.parser.specs.Grammar.{unaryD, binaryD, isUnary, isBinary, valueD, definitionD, instructionD}
 use Rattle.parser.specs.Runs.{Variables, Calling, argumentsD, callD}
 use Rattle.parser.specs.Labels.{has, labelledD}
@@ -110,7 +111,8 @@ module _ (ts : List Tok) (last : ℕ) (ends : tokenAt ts last .kind ≡ 38) wher
       (λ t. let m = moved at kind h n t in rw (m .0) (g (m .1))) (λ t. f _)
 
   pub named-step : {A : Type 0} (Q : A → Type 0) (fail : Refusal → A) (k : Identifier → ℕ → A) (at kind number : ℕ)
-      → at ≤ last → eqb kind 38 ≡ false → ((e : Refusal) → Q (fail e)) → ((x : Identifier) → at + 1 ≤ last → Q (k x (at + 1)))
+      → at ≤ last → eqb kind 38 ≡ false → ((e : Refusal) → Q (fail e)) →
+      ((x : Identifier) → at + 1 ≤ last → Q (k x (at + 1)))
       → Q (thenNamed fail (namedD ts at kind number) k)
   unfolding namedD thenNamed
   named-step Q fail k at kind number h n f g =
@@ -266,7 +268,11 @@ module _ (ts : List Tok) (last : ℕ) (ends : tokenAt ts last .kind ≡ 38) wher
       named-step (ArgumentsIn at (suc room) last) _ _ at 1 6 h refl (λ e. record { few = omega arith; on = tt })
       (λ x g.
       let more = arguments-in room (at + 1) g in
-      record { few = omega (arith, more .few); on = run-longer at (length (argumentsD ts room (at + 1) .list)) last (argumentsD ts room (at + 1) .end) (more .on) }))
+      record {
+        few = omega (arith, more .few);
+        on = run-longer at (length (argumentsD ts room (at + 1) .list)) last
+            (argumentsD ts room (at + 1) .end) (more .on);
+      }))
 
   pub call-in : (word : ℕ) → word ≤ last → ArgumentsIn (word + 2) 16 last (callD ts word .arguments)
   unfolding callD
@@ -306,11 +312,13 @@ module _ (ts : List Tok) (last : ℕ) (ends : tokenAt ts last .kind ≡ 38) wher
       }
   parsed-in at (P.Call w) h =
       let c = call-in w (h .1) in
-      called-in at w (call w (callD ts w .callee) (callD ts w .arguments .list)) (callD ts w .arguments .end) (h .0) (h .1) tt
+      called-in at w (call w (callD ts w .callee) (callD ts w .arguments .list)) (callD ts w .arguments .end) (h .0)
+      (h .1) tt
       (c .few) (c .on)
   parsed-in at (P.CallInto v w) h =
       let c = call-in w (h .1) in
-      called-in at w (callInto w v (callD ts w .callee) (callD ts w .arguments .list)) (callD ts w .arguments .end) (h .0)
+      called-in at w (callInto w v (callD ts w .callee) (callD ts w .arguments .list)) (callD ts w .arguments .end)
+      (h .0)
       (h .1) tt (c .few) (c .on)
   parsed-in at (P.Refused e) h = tt
 

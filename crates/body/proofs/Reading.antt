@@ -1,30 +1,28 @@
 -- Why the body's loop is right: what is left to read, read from here, gives the whole body; the cells are those of what
 -- was read. One lemma for each way a turn can end.
-use Prim.Native.Nat.{ℕ, zero, suc, _+_, _-_, _*_, _≤_, _<_}
+use Prim.Native.Nat.{ℕ, zero, suc, _+_, _-_, _*_, _≤_}
 use mathlib.Core.Path.{_≡_, refl, sym, ap, _∙_}
 use mathlib.Core.Bool.{Bool, true}
-use mathlib.Core.List.{List, [], _∷_, _++_, append-nil}
+use mathlib.Core.List.{List, _++_, append-nil}
 use native.Mathlib.Omega.{arith}
 use native.Mathlib.Nat.{zero-add}
 use lib.ListN.{length, take}
 use lib.Seq.{sets, length-sets, length-take-le}
 use Rattle.lexer.specs.Decoded.{Tok}
 use Rattle.parser.specs.Step.{thenAt}
-use Rattle.parser.specs.Runs.{variablesCells}
-use Rattle.parser.specs.Body.{Item, Body, bodyD, bodyThen, bodyEnd, bodyStop, labelsOf, lacksRet, closedFrom, closedItems}
-use Rattle.parser.specs.Body.{argumentsIn}
+use Rattle.parser.specs.Body.{Body, bodyStop, labelsOf, lacksRet, closedFrom, closedItems}
 use Rattle.parser.specs.Blocks.{partsOf}
 use Rattle.parser.specs.declared.Refusal.{Refusal}
-use Rattle.parser.specs.declared.Consumed.{Consumed}
 use Rattle.parser.specs.declared.Consumed.the-variants as C
 use Rattle.body.specs.Records.{itemsCells, argumentsCells, argumentsCount}
-use Rattle.body.specs.Room.{Within, Bounds, filled}
+use Rattle.body.specs.Room.{Within, filled}
 use Rattle.body.specs.Answer.{functionBody, bodyRead, Stored, Held}
-use Rattle.body.specs.Turns.{added, closing, beforeNext, Ready, Taken, bodyFrom, Gone, Ended}
+use Rattle.body.specs.Turns.{added, closing, Ready, bodyFrom, Gone, Ended}
 use Rattle.body.specs.declared.BodyRead.the-variants as B
 use Rattle.body.specs.declared.Closed.{Closed}
 use Rattle.body.specs.declared.Going.{Going}
-use Rattle.body.proofs.Cells.{fresh, started, items-on, arguments-on, items-count-on, arguments-count-on, blocks-on}
+use Rattle.body.proofs.Cells.{fresh, started, items-on, arguments-on, items-count-on, arguments-count-on}
+use Rattle.body.proofs.Cells.{blocks-on}
 use Rattle.body.proofs.Cells.{labels-on, items-few-on, blocks-few-on, ending-filled, ending-few, lacks-operation}
 
 -- the loop's state, with the room that is left and the blocks begun so far
@@ -60,7 +58,8 @@ abbrev pub beginning : ℕ → ℕ → ℕ → Going
 beginning at first used = record { at = at; items = first; arguments = used; labels = 0; before = 0; last = 0 }
 
 pub begin : (ts : List Tok) (void : Bool) (at first used : ℕ) (items arguments labels : List ℕ) → Within ts at
-    → Reading ts void at first used (functionBody ts at) items arguments labels (beginning at first used) items arguments labels
+    → Reading ts void at first used (functionBody ts at) items arguments labels
+    (beginning at first used) items arguments labels
     4096 0
 begin ts void at first used items arguments labels w =
     record {
@@ -111,7 +110,8 @@ module _ {ts : List Tok} {void : Bool} {at first used : ℕ} {whole : Body} {ite
     (first-few : first * 4 ≤ at * 3) (used-few : used * 19 ≤ at * 16) where
   module _ {s : Going} {items arguments labels : List ℕ} where
     pub ready : {room blocks : ℕ}
-        → Reading ts void at first used whole items₀ arguments₀ labels₀ s items arguments labels room blocks → Ready ts s
+        → Reading ts void at first used whole items₀ arguments₀ labels₀ s items arguments labels room blocks
+        → Ready ts s
     ready v =
         record {
           within = v .within;
@@ -155,7 +155,8 @@ module _ {ts : List Tok} {void : Bool} {at first used : ℕ} {whole : Body} {ite
             items-rest = items-on t is ∙ rw go at (v .items-rest);
             arguments-rest = arguments-on t is ∙ rw go at (v .arguments-rest);
             labels-rest =
-                labels-on i is (take (s .labels) labels) (take (s′ .labels) labels′) (g .labels-are) ∙ rw go at (v .labels-rest);
+                labels-on i is (take (s .labels) labels) (take (s′ .labels) labels′) (g .labels-are) ∙ rw go at
+                (v .labels-rest);
             items-count = items-count-on t is ∙ rw go at (v .items-count);
             arguments-count = arguments-count-on t is ∙ rw go at (v .arguments-count);
             blocks-count = omega (arith, blocks-on t is, rw go at (v .blocks-count));

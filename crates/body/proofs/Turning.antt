@@ -1,8 +1,8 @@
 -- One turn: by the token at hand a label, an operation or the closing brace, as `bodyD` takes it.
-use Prim.Native.Nat.{ℕ, suc, _+_, _*_, _≤_, _<_}
+use Prim.Native.Nat.{ℕ, _+_, _*_, _≤_, _<_}
 use mathlib.Core.Path.{_≡_, refl, sym, ap, _∙_}
 use mathlib.Core.Bool.{Bool, true, false}
-use mathlib.Core.List.{List, [], _∷_, _++_, append-nil}
+use mathlib.Core.List.{List, [], _∷_, append-nil}
 use native.Mathlib.Omega.{arith}
 use native.Mathlib.Nat.{add-zero}
 use native.Mathlib.Numerals.{add-one}
@@ -15,18 +15,15 @@ use Rattle.utils.proofs.Runs.{sets-append}
 use Rattle.pieces.proofs.Progress.{pick-either}
 use Rattle.pieces.specs.declared.Identifier.{Identifier}
 use Rattle.lexer.specs.Decoded.{Tok, tokenAt}
-use Rattle.lexer.specs.declared.TokenAt.{TokenAt}
 use Rattle.parser.specs.Step.{opened}
 use Rattle.parser.specs.Runs.{variablesCells}
 use Rattle.parser.specs.Labels.{labelledD}
-use Rattle.parser.specs.Body.{Item, label, bodyD, bodyEnd, bodyStop, closes, behind, labelsOf, lacksRet}
-use Rattle.parser.specs.declared.Refusal.{Refusal}
-use Rattle.parser.specs.declared.Consumed.the-variants as C
+use Rattle.parser.specs.Body.{label, bodyD, bodyThen, closes, behind, labelsOf, lacksRet}
 use Rattle.parser.specs.declared.Named.the-variants as N
 use Rattle.body.specs.Records.{itemRecord, recordOf, recordCells, itemsCells, argumentsCount}
 use Rattle.body.specs.Room.{Within}
-use Rattle.body.specs.Turns.{added, closing, beforeNext, lastNext, Ready, Taken, itemThen, ItemTaken, ItemTurned}
-use Rattle.body.specs.Turns.{LabelTaken, LabelTurned, bodyFrom, Gone, Ended, Turned}
+use Rattle.body.specs.Turns.{added, closing, beforeNext, lastNext, itemThen, ItemTurned}
+use Rattle.body.specs.Turns.{LabelTaken, LabelTurned, Ended, Turned}
 use Rattle.body.specs.declared.Closed.{Closed}
 use Rattle.body.specs.declared.Going.{Going}
 use Rattle.body.specs.declared.Turn.{Turn}
@@ -46,7 +43,8 @@ unfolding added pick argumentsCount
 added-none true last = refl
 added-none false last = refl
 
-module _ (ts : List Tok) (void : Bool) (s : Going) (l : Identifier) (next : ℕ) (labels₀ : List ℕ) (w : Within ts (s .at))
+module _ (ts : List Tok) (void : Bool) (s : Going) (l : Identifier) (next : ℕ) (labels₀ : List ℕ)
+    (w : Within ts (s .at))
     (few : s .labels ≤ length labels₀) (q : labelledD ts (take (s .labels) labels₀) (s .at) ≡ N.At l next) where
   labelled : (s .at + 2 ≤ next) × (next ≤ w .last) × (s .labels < 255)
   labelled =
@@ -91,9 +89,17 @@ module _ (ts : List Tok) (void : Bool) (s : Going) (l : Identifier) (next : ℕ)
               before-next = refl;
               last-next = refl;
               items-are =
-                  rw (g, f, added-cells t (s .last) (s .arguments), m, items-append (s .arguments) xs (label (s .at) l ∷ []))
+                  rw (
+                    g,
+                    f,
+                    added-cells t (s .last) (s .arguments),
+                    m,
+                    items-append (s .arguments) xs
+                        (label (s .at) l ∷ []),
+                  )
                   (sym
-                  (sets-append (itemsCells (s .arguments) xs) (recordCells (itemRecord 1 (s .at) 0 0 0 0 (l .0) 0)) items₀
+                  (sets-append (itemsCells (s .arguments) xs)
+                  (recordCells (itemRecord 1 (s .at) 0 0 0 0 (l .0) 0)) items₀
                   (s .items * 8)));
               arguments-are = refl;
             };
@@ -126,7 +132,8 @@ body-ended ts void s e items₀ items arguments labels w h next n used count f =
       items-next = n;
       arguments-next = used;
       labels-next = count;
-      items-are = f ∙ ap (sets items₀ (s .items * 8)) (added-cells (lacksRet void (s .before)) (s .last) (s .arguments));
+      items-are = f ∙ ap (sets items₀ (s .items * 8))
+          (added-cells (lacksRet void (s .before)) (s .last) (s .arguments));
       arguments-are = refl;
       labels-are = refl;
     }
@@ -172,7 +179,7 @@ module _ (ts : List Tok) (void : Bool) (s : Going) (items₀ items labels₀ : L
         read = h .read;
         goes = λ room.
             rw (goes-on, k)
-            (h .goes (λ i at1. record { items = i ∷ bodyD ts room (take (s .labels) labels₀) (behind i) at1 .items; end = bodyD ts room (take (s .labels) labels₀) (behind i) at1 .end })
+            (h .goes (λ i at1. bodyThen i (bodyD ts room (take (s .labels) labels₀) (behind i) at1))
             ∙ rw (h .labels-next, t .before-next, h .before-same));
         labels-next = rw (h .no-label, add-zero) (h .labels-next);
         labels-few = rw (h .labels-next) few;

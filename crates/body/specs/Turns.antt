@@ -62,6 +62,11 @@ abbrev pub CallHeld : ℕ → ℕ → ItemRecord → List ℕ → List ℕ → L
 CallHeld n used r run items₀ items arguments₀ arguments (C.At next) = Put n used r run items₀ items arguments₀ arguments
 CallHeld n used r run items₀ items arguments₀ arguments (C.Refused e) = Unit
 
+-- behind a terminator: its own refusal, or 12 with the operation's token
+abbrev pub lateRefusal : ItemRead → Refusal
+lateRefusal (I.Done r used next) = refusal 12 (r .token) 0
+lateRefusal (I.Refused e) = e
+
 -- what stands behind an operation, by its record's kind
 unfoldable pub behindKind : ℕ → ℕ
 behindKind kind = pick (leb 9 kind) afterTerminator afterOperation
@@ -122,7 +127,8 @@ itemThen ts before at k =
     thenItem bodyStop (itemD ts at) (λ i at1.
     pick (eqb before afterTerminator) (bodyStop (refusal 12 (itemToken i) 0)) (k i at1))
 
-pub record ItemTaken (ts : List Tok) (void : Bool) (s s′ : Going) (items₀ items arguments₀ arguments : List ℕ) : Type 0 where
+pub record ItemTaken (ts : List Tok) (void : Bool) (s s′ : Going)
+    (items₀ items arguments₀ arguments : List ℕ) : Type 0 where
   pub read : Item
   pub goes : (k : Item → ℕ → Body) → itemThen ts (s .before) (s .at) k ≡ k read (s′ .at)
   pub before-same : beforeNext read ≡ behind read
@@ -167,7 +173,8 @@ pub record Gone (ts : List Tok) (void : Bool) (s s′ : Going) (items₀ items a
   pub passed : Passed ts (s .at) (s′ .at) read
   pub taken : Taken void read s s′ items₀ items arguments₀ arguments
 
-pub record Ended (ts : List Tok) (void : Bool) (s : Going) (e : Closed) (items₀ items arguments₀ arguments labels₀ labels : List ℕ)
+pub record Ended (ts : List Tok) (void : Bool) (s : Going) (e : Closed)
+    (items₀ items arguments₀ arguments labels₀ labels : List ℕ)
     : Type 0 where
   pub goes : (room : ℕ) → bodyFrom ts (suc room) s labels₀ ≡ bodyEnd (C.At (e .next))
   pub one : s .at + 1 ≤ e .next
@@ -175,7 +182,8 @@ pub record Ended (ts : List Tok) (void : Bool) (s : Going) (e : Closed) (items�
   pub items-next : e .items ≡ s .items + length (added (lacksRet void (s .before)) (s .last))
   pub arguments-next : e .arguments ≡ s .arguments
   pub labels-next : e .labels ≡ s .labels
-  pub items-are : items ≡ sets items₀ (s .items * 8) (itemsCells (s .arguments) (added (lacksRet void (s .before)) (s .last)))
+  pub items-are : items ≡ sets items₀ (s .items * 8)
+      (itemsCells (s .arguments) (added (lacksRet void (s .before)) (s .last)))
   pub arguments-are : arguments ≡ arguments₀
   pub labels-are : labels ≡ labels₀
 

@@ -42,8 +42,8 @@ pub enum ItemRead {
     Refused(Refusal),
 }
 
-// The loop's state: the next token, the next free item and argument, how many labels there are, what stands before (0 the
-// body's brace, 1 a label, 2 an operation, 3 a terminator), and the last operation's token.
+// The loop's state: the next token, the next free item and argument, how many labels there are, what stands before
+// (0 the body's brace, 1 a label, 2 an operation, 3 a terminator), and the last operation's token.
 pub struct Going {
     pub at: usize,
     pub items: usize,
@@ -75,8 +75,9 @@ pub fn parse_body(
     requires { ⌜ (first * 4 ≤ at * 3) × (used * 19 ≤ at * 16) ⌝ }
     requires { ⌜ (24576 ≤ length (now items)) × (6928 ≤ length (now arguments)) × (255 ≤ length (now labels)) ⌝ }
     ensures { λ r. ⌜ r ≡ bodyRead void (functionBody (tokensOf (now (tokens .entry))) at) ⌝ }
-    ensures { λ _. ⌜ Held (tokensOf (now (tokens .entry))) void (functionBody (tokensOf (now (tokens .entry))) at .items)
-        at first used (now (items .entry)) (now (items .exit)) (now (arguments .entry)) (now (arguments .exit))
+    ensures { λ _. ⌜ Held (tokensOf (now (tokens .entry))) void
+        (functionBody (tokensOf (now (tokens .entry))) at .items) at first used
+        (now (items .entry)) (now (items .exit)) (now (arguments .entry)) (now (arguments .exit))
         (now (labels .exit)) (functionBody (tokensOf (now (tokens .entry))) at .end) ⌝ }
 {
     let mut s = Going {

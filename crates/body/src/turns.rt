@@ -6,7 +6,7 @@ ghost use lib.Seq.{sets};
 ghost use Rattle.lexer.specs.Decoded.{tokensOf};
 ghost use Rattle.parser.specs.Body.{closes, lacksRet};
 ghost use Rattle.body.specs.Records.{itemsCells};
-ghost use Rattle.body.specs.Turns.{behindKind, added, Ready, ItemTurned, LabelTurned, Turned};
+ghost use Rattle.body.specs.Turns.{lateRefusal, behindKind, added, Ready, ItemTurned, LabelTurned, Turned};
 use crate::Closed;
 use crate::Going;
 use crate::ItemRead;
@@ -15,6 +15,7 @@ use crate::Turn;
 use crate::item;
 use crate::records;
 use parser::Named;
+use parser::Refusal;
 
 // Right behind a label an operation has to stand.
 fn closes_body(before: u32, kind: u32) -> bool
@@ -68,7 +69,16 @@ fn add_ret(items: &mut [u32], n: usize, lacks: bool, last: u32) -> usize
     n
 }
 
-// 12 comes once the operation is parsed.
+// Why an operation behind a terminator is refused: for a reason of its own, or with 12 once it is parsed.
+fn refuse(read: ItemRead) -> Refusal
+    ensures { λ r. ⌜ r ≡ lateRefusal read ⌝ }
+{
+    match read {
+        ItemRead::Refused(e) => e,
+        ItemRead::Done(r, _, _) => parser::refuse(12, r.token as usize),
+    }
+}
+
 fn item_turn(tokens: &[u32], s: Going, items: &mut [u32], arguments: &mut [u32]) -> Turn
     requires { ⌜ Ready (tokensOf (now tokens)) s × (24576 ≤ length (now items)) × (6928 ≤ length (now arguments)) ⌝ }
     ensures { λ r. ⌜ ItemTurned (tokensOf (now (tokens .entry))) s (now (items .entry)) (now (items .exit))
@@ -77,23 +87,20 @@ fn item_turn(tokens: &[u32], s: Going, items: &mut [u32], arguments: &mut [u32])
     let at = s.at;
     let n = s.items;
     let used = s.arguments;
-    let before = s.before;
-    match item::parse_item(tokens, at, items, n, arguments, used) {
+    let read = item::parse_item(tokens, at, items, n, arguments, used);
+    if s.before == 3 {
+        return Turn::Refused(refuse(read));
+    }
+    match read {
         ItemRead::Refused(e) => Turn::Refused(e),
-        ItemRead::Done(r, then, next) => {
-            let token = r.token as usize;
-            if before == 3 {
-                return Turn::Refused(parser::refuse(12, token));
-            }
-            Turn::On(Going {
-                at: next,
-                items: n + 1,
-                arguments: then,
-                labels: s.labels,
-                before: behind_kind(r.kind),
-                last: r.token,
-            })
-        }
+        ItemRead::Done(r, then, next) => Turn::On(Going {
+            at: next,
+            items: n + 1,
+            arguments: then,
+            labels: s.labels,
+            before: behind_kind(r.kind),
+            last: r.token,
+        }),
     }
 }
 

@@ -1,35 +1,21 @@
-use borrow.Author.Needs.{needs}
-use borrow.Author.Tests.{lt-ltb, le-ltb, le-leb, lt-leb, eq-eqb, ne-eqb}
-use native.Mathlib.Omega.{arith}
-use native.Mathlib.Numerals.{add-one}
-use Prim.Native.Nat.{ℕ, suc, _+_, _-_, _*_, _≤_, _<_}
-use mathlib.Core.Path.{_≡_, refl, sym, ap, _∙_}
-use mathlib.Core.Logic.{⊎-elim}
-use mathlib.Core.List.{List, [], _∷_, _++_}
-use mathlib.Core.Bool.{Bool, true, false}
-use lib.ListN.{length, drop, take, getD}
-use lib.Seq.{drop-cons}
-use denote.Ref.{now}
+-- The kinds from 9 on are the terminators.
+use borrow.Author.Tests.{le-leb, lt-leb}
 use Rattle.utils.specs.Bytes.{pick}
-use Rattle.parser.specs.Body.{closes, lacksRet, ret}
-use Rattle.body.specs.Records.{operationRecord, recordOf, itemsCells}
-use Rattle.body.specs.Turns.{behindKind, added}
-use native.Mathlib.Numerals.{towards-suc}
-use lib.ListN.{length-set}
+use Rattle.body.specs.Turns.{behindKind}
 use Rattle.body.proofs.turns.behind_kind.Statement.{statement}
 use Rattle.body.proofs.turns.behind_kind.Tie as tie
-use Rattle.body.proofs.turns.behind_kind.Reads as reads
-use Rattle.body.proofs.turns.behind_kind.Lts as lts
 
--- src/turns.rt:43:9
 returns : tie.Need-returns
 unfolding behindKind pick
-returns c = rw (le-leb _ _ (c .if1 .taken))
+returns c =
+    let if1 = c .if1 in
+    rw (le-leb _ _ (if1 .taken))
 
--- src/turns.rt:39:1
 returns-2 : tie.Need-returns-2
 unfolding behindKind pick
-returns-2 c = rw (lt-leb _ _ (c .if1 .left))
+returns-2 c =
+    let if1 = c .if1 in
+    rw (lt-leb _ _ (if1 .left))
 
 pub behind-kind-spec : {M : Type 1} → statement M
 behind-kind-spec = tie.close (tie.spec returns returns-2)

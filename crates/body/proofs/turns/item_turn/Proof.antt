@@ -1,140 +1,120 @@
-use borrow.Author.Tests.{lt-ltb, le-ltb, le-leb, lt-leb, eq-eqb, ne-eqb}
-use native.Mathlib.Omega.{arith}
-use native.Mathlib.Numerals.{add-one}
-use Prim.Native.Nat.{ℕ, suc, _+_, _-_, _*_, _≤_, _<_}
-use mathlib.Core.Path.{_≡_, refl, sym, ap, _∙_}
-use mathlib.Core.Logic.{⊎-elim}
-use mathlib.Core.List.{List, [], _∷_, _++_}
-use mathlib.Core.Bool.{Bool, true, false}
-use lib.ListN.{length, drop, take, getD}
-use lib.Seq.{drop-cons}
+-- Behind a terminator by `item-late`; else by what was read, one item more (`item-taken`).
+use Prim.Native.Nat.{_+_}
+use mathlib.Core.Path.{refl, sym, ap, _∙_}
 use denote.Ref.{now}
 use borrow.Author.Needs.{needs}
-use Rattle.lexer.specs.Decoded.{tokensOf, tokenAt}
-use Rattle.parser.specs.Labels.{labelledD}
-use Rattle.parser.specs.Body.{itemD, lacksRet, closes, bodyD}
-use Rattle.parser.specs.Step.{opened}
-use Rattle.parser.specs.declared.Named.the-variants as N
-use Rattle.body.specs.Records.{recordOf, itemsCells}
-use Rattle.body.specs.Turns.{itemThen, added}
-use Rattle.body.proofs.Items.{read-refused, read-done, record-token, item-refused, item-late, item-taken}
-use Rattle.body.proofs.Turning.{added-short, label-room, label-taken, label-turned, item-turned}
+use Rattle.lexer.specs.Decoded.{tokensOf}
+use Rattle.parser.specs.Body.{itemD, bodyStop}
+use Rattle.body.specs.Turns.{lateRefusal}
+use Rattle.body.proofs.Items.{read-refused, read-done, item-refused, item-late, item-taken}
 use Rattle.body.proofs.turns.item_turn.Statement.{statement}
 use Rattle.body.proofs.turns.item_turn.Tie as tie
-use Rattle.body.proofs.turns.item_turn.Reads as reads
-use Rattle.body.proofs.turns.item_turn.Lts as lts
-use Rattle.body.proofs.item.parse_item.Reads as parse-item-reads
-use Rattle.body.proofs.turns.behind_kind.Reads as behind-kind-reads
-use Rattle.parser.proofs.refuse.Reads as refuse-reads
 
--- src/turns.rt:81:11
 parse-item-requires : tie.Need-parse-item-requires
 parse-item-requires c κs = search needs
 
--- src/turns.rt:82:27
-enum-known-e : tie.Need-enum-known-e
-enum-known-e c = search needs
-
--- src/turns.rt:83:24
-enum-known-r : tie.Need-enum-known-r
-enum-known-r c = search needs
-
--- src/turns.rt:84:25
-cast-token : tie.Need-cast-token
-cast-token c = search needs
-
--- src/turns.rt:86:38
 refuse-requires : tie.Need-refuse-requires
 refuse-requires c κs = search needs
 
--- src/turns.rt:86:17
 same-length : tie.Need-same-length
 same-length c = search needs
 
--- src/turns.rt:86:17
 same-length-2 : tie.Need-same-length-2
 same-length-2 c = search needs
 
--- src/turns.rt:86:17
 returns : tie.Need-returns
 returns c =
-    let ts = tokensOf (now (c .before .before .before .before .before .before .before .before .before .before .before .before .before .before .before .before .args .tokens)) in
-    let s = c .before .before .before .before .before .before .before .before .before .before .before .before .before .before .before .before .args .s in
-    let parse = c .before .before .before .before .before .before .before .before .before .before .parse-item in
-    let d =
-    read-done (s .items) (s .arguments) (itemD ts (s .at)) (now (c .before .before .before .before .before .before .before .before .before .before .before .before .before .before .before .before .args .items)) (parse .last .1 .1 .0) (now (c .before .before .before .before .before .before .before .before .before .before .before .before .before .before .before .before .args .arguments))
-    (parse .last .1 .1 .1 .1 .0) (sym (c .before .before .before .before .r .given .1) ∙ parse .ensures .0) (parse .ensures .1) in
+    let back8 = c .before .before .before .before .before .before .before .before in
+    let a = back8 .before .before .before .before .before .args in
+    let parse-item = c .before .before .before .before .before .before .before .parse-item in
+    let refuse = c .refuse in
+    let if1 = c .before .if1 in
+    let ts = tokensOf (now (a .tokens)) in
+    let s = a .s in
+    let parse = parse-item in
     λ k.
-    rw (c .refuse .ensures, d .record-is, record-token (s .arguments) (d .read))
-    (item-late ts (s .before) (s .at) (d .read) (c .before .before .before .before .r .given .0 .1 .1 .0) (d .is) (c .before .if1 .taken) k)
+    item-late ts (s .before) (s .at) (s .arguments) (if1 .taken) k
+    ∙ ap bodyStop (sym (refuse .ensures ∙ ap lateRefusal (parse .ensures .0)))
 
--- src/turns.rt:90:24
-add-t22 : tie.Need-add-t22
-add-t22 c = search needs
+enum-known-read : tie.Need-enum-known-read
+enum-known-read c = search needs
 
--- src/turns.rt:93:25
+enum-known-read-2 : tie.Need-enum-known-read-2
+enum-known-read-2 c = search needs
+
+add-t20 : tie.Need-add-t20
+add-t20 c = search needs
+
 behind-kind-requires : tie.Need-behind-kind-requires
 behind-kind-requires c κs = search needs
 
--- src/turns.rt:72:1
 same-length-3 : tie.Need-same-length-3
 same-length-3 c = search needs
 
--- src/turns.rt:72:1
 same-length-4 : tie.Need-same-length-4
 same-length-4 c = search needs
 
--- src/turns.rt:72:1
 returns-2 : tie.Need-returns-2
 returns-2 c =
-    let ts = tokensOf (now (c .before .before .before .before .before .before .before .before .before .before .before .before .before .args .tokens)) in
-    let s = c .before .before .before .before .before .before .before .before .before .before .before .before .before .args .s in
-    let q = read-refused (s .arguments) (itemD ts (s .at)) (sym (c .before .e .given .1) ∙ c .before .before .before .before .before .before .before .parse-item .ensures .0) in
-    item-refused ts (s .before) (s .at) (c .before .e .given .0 .0) q
+    let back8 = c .before .before .before .before .before .before .before .before in
+    let a = back8 .before .before .before .before .before .before .before .args in
+    let parse-item = back8 .before .parse-item in
+    let read = c .before .read in
+    let ts = tokensOf (now (a .tokens)) in
+    let s = a .s in
+    let parse = parse-item in
+    let q = read-refused (s .arguments) (itemD ts (s .at)) (sym (read .given .1) ∙ parse .ensures .0) in
+    item-refused ts (s .before) (s .at) (read .given .0 .0) q
 
--- src/turns.rt:72:1
 same-length-5 : tie.Need-same-length-5
 same-length-5 c = search needs
 
--- src/turns.rt:72:1
 same-length-6 : tie.Need-same-length-6
 same-length-6 c = search needs
 
--- src/turns.rt:72:1
 returns-3 : tie.Need-returns-3
 returns-3 c =
-    let ts = tokensOf (now (c .before .before .before .before .before .before .before .before .before .before .before .before .before .before .before .before .args .tokens)) in
-    let s = c .before .before .before .before .before .before .before .before .before .before .before .before .before .before .before .before .args .s in
-    let parse = c .before .before .before .before .before .before .before .before .before .before .parse-item in
+    let back8 = c .before .before .before .before .before .before .before .before in
+    let back16 = back8 .before .before .before .before .before .before .before .before in
+    let a = back16 .args in
+    let parse-item = back8 .before .before .parse-item in
+    let read2 = c .before .before .read2 in
+    let behind-kind = c .behind-kind in
+    let pre = back16 .pre in
+    let if1 = c .before .before .before .before .if1 in
+    let ts = tokensOf (now (a .tokens)) in
+    let s = a .s in
+    let parse = parse-item in
+    let read = read2 in
+    let next = read .given .0 .1 .1 .0 in
     let d =
-    read-done (s .items) (s .arguments) (itemD ts (s .at)) (now (c .before .before .before .before .before .before .before .before .before .before .before .before .before .before .before .before .args .items)) (parse .last .1 .1 .0) (now (c .before .before .before .before .before .before .before .before .before .before .before .before .before .before .before .before .args .arguments))
-    (parse .last .1 .1 .1 .1 .0) (sym (c .before .before .before .before .r .given .1) ∙ parse .ensures .0) (parse .ensures .1) in
-    let next = c .before .before .before .before .r .given .0 .1 .1 .0 in
+    read-done (s .items) (s .arguments) (itemD ts (s .at)) (now (a .items)) (parse .last .1 .1 .0) (now (a .arguments))
+    (parse .last .1 .1 .1 .1 .0) (sym (read .given .1) ∙ parse .ensures .0) (parse .ensures .1) in
     λ void.
     item-taken ts void s
     (record {
       at = next;
       items = s .items + 1;
-      arguments = c .before .before .before .before .r .given .0 .1 .0;
+      arguments = read .given .0 .1 .0;
       labels = s .labels;
-      before = c .behind-kind .result;
-      last = c .before .before .before .before .r .given .0 .0 .token;
-    }) (d .read) (now (c .before .before .before .before .before .before .before .before .before .before .before .before .before .before .before .before .args .items)) (parse .last .1 .1 .0) (now (c .before .before .before .before .before .before .before .before .before .before .before .before .before .before .before .before .args .arguments)) (parse .last .1 .1 .1 .1 .0)
-    (c .before .before .before .before .before .before .before .before .before .before .before .before .before .before .before .before .pre .0 .within) (d .is) (c .before .if1 .left) refl (d .then-is) refl (rw (← d .record-is) (c .behind-kind .ensures)) (rw (← d .record-is) refl) (d .put)
+      before = behind-kind .result;
+      last = read .given .0 .0 .token;
+    }) (d .read) (now (a .items)) (parse .last .1 .1 .0) (now (a .arguments)) (parse .last .1 .1 .1 .1 .0)
+    (pre .0 .within) (d .is) (if1 .left) refl (d .then-is) refl (rw (← d .record-is) (behind-kind .ensures))
+    (rw (← d .record-is) refl) (d .put)
 
 pub item-turn-spec : {M : Type 1} → statement M
 item-turn-spec =
     tie.close
     (tie.spec
     parse-item-requires
-    enum-known-e
-    enum-known-r
-    cast-token
     refuse-requires
     same-length
     same-length-2
     returns
-    add-t22
+    enum-known-read
+    enum-known-read-2
+    add-t20
     behind-kind-requires
     same-length-3
     same-length-4

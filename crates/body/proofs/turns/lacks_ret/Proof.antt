@@ -1,35 +1,20 @@
-use borrow.Author.Needs.{needs}
-use borrow.Author.Tests.{lt-ltb, le-ltb, le-leb, lt-leb, eq-eqb, ne-eqb}
-use native.Mathlib.Omega.{arith}
-use native.Mathlib.Numerals.{add-one}
-use Prim.Native.Nat.{ℕ, suc, _+_, _-_, _*_, _≤_, _<_}
-use mathlib.Core.Path.{_≡_, refl, sym, ap, _∙_}
-use mathlib.Core.Logic.{⊎-elim}
-use mathlib.Core.List.{List, [], _∷_, _++_}
-use mathlib.Core.Bool.{Bool, true, false}
-use lib.ListN.{length, drop, take, getD}
-use lib.Seq.{drop-cons}
-use denote.Ref.{now}
+-- The tests of the definition.
 use Rattle.utils.specs.Bytes.{pick}
-use Rattle.parser.specs.Body.{closes, lacksRet, ret}
-use Rattle.body.specs.Records.{operationRecord, recordOf, itemsCells}
-use Rattle.body.specs.Turns.{behindKind, added}
-use native.Mathlib.Numerals.{towards-suc}
-use lib.ListN.{length-set}
+use Rattle.parser.specs.Body.{lacksRet}
 use Rattle.body.proofs.turns.lacks_ret.Statement.{statement}
 use Rattle.body.proofs.turns.lacks_ret.Tie as tie
-use Rattle.body.proofs.turns.lacks_ret.Reads as reads
-use Rattle.body.proofs.turns.lacks_ret.Lts as lts
 
--- src/turns.rt:34:9
 returns : tie.Need-returns
 unfolding lacksRet pick
-returns c = rw (c .if1 .taken)
+returns c =
+    let if1 = c .if1 in
+    rw (if1 .taken)
 
--- src/turns.rt:30:1
 returns-2 : tie.Need-returns-2
 unfolding lacksRet pick
-returns-2 c = rw (c .if1 .left)
+returns-2 c =
+    let if1 = c .if1 in
+    rw (if1 .left)
 
 pub lacks-ret-spec : {M : Type 1} → statement M
 lacks-ret-spec = tie.close (tie.spec returns returns-2)
