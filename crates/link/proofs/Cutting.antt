@@ -174,7 +174,7 @@ module _ (items : List ℕ) (all : List Block) (named first end base : ℕ) (cel
         rw (l, f, o, g .1, g .2, g .3) in
         let m : (k + 1) * 8 ≡ k * 8 + 8 = omega arith in
         let s : putFives all first (sets cells (k * 8) (fiveOf first block (places all (block .goes)))) (k * 8 + 8) more
-            ≡ putFives all first cells₀ (base * 8) all = left-is .stored in
+        ≡ putFives all first cells₀ (base * 8) all = left-is .stored in
         record {
           above = omega (arith, left-is .above);
           long = length-sets cells (k * 8) (from ∷ (stop - from) ∷ c ∷ x ∷ y ∷ []) ∙ left-is .long;
@@ -252,7 +252,7 @@ module _ (items : List ℕ) (all : List Block) (named first end base : ℕ) (cel
       rw (v, w) at (beyond-at items (end - from) from (run here) refl) in
       let rest : more ≡ restOf items first end (stop + 1) (opened here) =
       rw b at (others-more here (from - first) (stop + 1 - first)
-          (omega (arith, ends, on, parts-length items from (end - from))) u) in
+      (omega (arith, ends, on, parts-length items from (end - from))) u) in
       let f = rw b at (filled-beyond here (omega (arith, ends, d .1))) in
       record {
         labels = opened here;

@@ -81,8 +81,8 @@ goes-back all bs first b l i t h =
     let s = places all (b .goes) in
     let five = fiveOf first b s in
     let at : (n : ℕ) → n < 5
-        → getD (putFives all first (sets l i five) (i + 8) bs) (i + n) 0 ≡ getD five n 0 =
-        λ n less. fives-before all bs first (sets l i five) (i + 8) (i + n) (omega arith) ∙ sets-at five l i n less h in
+    → getD (putFives all first (sets l i five) (i + 8) bs) (i + n) 0 ≡ getD five n 0 =
+    λ n less. fives-before all bs first (sets l i five) (i + 8) (i + n) (omega arith) ∙ sets-at five l i n less h in
     rw (at 2 (omega arith), at 3 (omega arith), at 4 (omega arith)) (pair-is s (omega (arith, places-few all (b .goes))))
 
 pub links-back : (all bs : List Block) (first base : ℕ) (l : List ℕ) → Thin bs → (base + length bs) * 8 ≤ length l
@@ -131,7 +131,7 @@ records-whole all links first (b ∷ bs) j used l i =
     ∙ eight l (blockCells first (used + n) (j + 1) links (successors all bs) bs) i (first + b .first) (b .operations)
     (length s) (getD s 0 0) (getD s 1 0) used n (markOf j n)
     ∙ ap (λ (m : ℕ). sets l i ((first + b .first) ∷ b .operations ∷ length s ∷ getD s 0 0 ∷ getD s 1 0 ∷ used ∷ n ∷ m
-        ∷ blockCells first (used + n) (j + 1) links (successors all bs) bs)) (sym (mark-is j links))
+    ∷ blockCells first (used + n) (j + 1) links (successors all bs) bs)) (sym (mark-is j links))
 
 pub entries-are : (bs : List Block) (j : ℕ) (links : List (List ℕ))
     → entriesFrom j links (length bs) ≡ predecessorCells j links bs

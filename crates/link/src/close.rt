@@ -64,7 +64,15 @@ fn close_block(
     match labels::resolve(labels, labelled, before, r) {
         Goes::Refused(e) => Goes::Refused(e),
         Goes::Done(count, to, other) => {
-            put_block(blocks, at, from as u32, (stop - from) as u32, count, to, other);
+            put_block(
+                blocks,
+                at,
+                from as u32,
+                (stop - from) as u32,
+                count,
+                to,
+                other,
+            );
             Goes::Done(count, to, other)
         }
     }
@@ -122,7 +130,17 @@ pub fn link_blocks(
     let mut k = base;
     loop {
         let stop = block_end(items, from, end);
-        match add_block(items, from, stop, empty, labels, labelled, before, blocks, k) {
+        match add_block(
+            items,
+            from,
+            stop,
+            empty,
+            labels,
+            labelled,
+            before,
+            blocks,
+            k,
+        ) {
             Numbered::Refused(e) => {
                 return Numbered::Refused(e);
             }

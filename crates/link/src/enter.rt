@@ -37,7 +37,7 @@ fn enter_from(blocks: &[u32], at: usize, k: u32, j: u32, sources: &mut [u32], us
         × (used + length (entering j k (goesAt (now blocks) at) []) ≤ length (now sources)) ⌝ }
     ensures { λ r. ⌜ (r ≡ used + length (entering j k (goesAt (now (blocks .entry)) at) []))
         × (now (sources .exit)
-            ≡ sets (now (sources .entry)) used (entering j k (goesAt (now (blocks .entry)) at) [])) ⌝ }
+        ≡ sets (now (sources .entry)) used (entering j k (goesAt (now (blocks .entry)) at) [])) ⌝ }
 {
     let count = blocks[at + 2];
     let first = enters(count, 0, blocks[at + 3], j);
@@ -55,12 +55,19 @@ fn next_source(n: u32, rest: u32) -> u32
 }
 
 // The sources of the edges that enter block j, from the place `used` on. The place after them.
-fn enter_edges(blocks: &[u32], base: usize, n: u32, j: u32, sources: &mut [u32], used: usize) -> usize
+fn enter_edges(
+    blocks: &[u32],
+    base: usize,
+    n: u32,
+    j: u32,
+    sources: &mut [u32],
+    used: usize,
+) -> usize
     requires { ⌜ ((base + n) * 8 ≤ length (now blocks))
         × (used + length (predecessors j 0 (linksAt (now blocks) base n)) ≤ length (now sources)) ⌝ }
     ensures { λ r. ⌜ (r ≡ used + length (predecessors j 0 (linksAt (now (blocks .entry)) base n)))
         × (now (sources .exit)
-            ≡ sets (now (sources .entry)) used (predecessors j 0 (linksAt (now (blocks .entry)) base n))) ⌝ }
+        ≡ sets (now (sources .entry)) used (predecessors j 0 (linksAt (now (blocks .entry)) base n))) ⌝ }
 {
     let mut here = used;
     let mut rest = n;

@@ -76,7 +76,14 @@ fn resolve_one(labels: &[u32], labelled: usize, before: usize, token: usize, nex
     }
 }
 
-fn resolve_two(labels: &[u32], labelled: usize, before: usize, token: usize, then: u32, els: u32) -> Goes
+fn resolve_two(
+    labels: &[u32],
+    labelled: usize,
+    before: usize,
+    token: usize,
+    then: u32,
+    els: u32,
+) -> Goes
     requires { ⌜ (labelled ≤ 255) × (labelled ≤ length (now labels)) ⌝ }
     ensures { λ r. ⌜ r ≡ twoD before (take labelled (now (labels .entry))) token then els ⌝ }
 {

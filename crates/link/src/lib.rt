@@ -54,7 +54,17 @@ pub fn link(
         (now (blocks .exit)) (now (predecessors .entry)) (now (predecessors .exit)) r ⌝ }
 {
     let before = labels::leading_labels(items, first, count);
-    match close::link_blocks(items, first, count, name, labels, labelled, before, blocks, base) {
+    match close::link_blocks(
+        items,
+        first,
+        count,
+        name,
+        labels,
+        labelled,
+        before,
+        blocks,
+        base,
+    ) {
         Numbered::Refused(e) => Linked::Refused(e),
         Numbered::Done(n) => {
             let next = enter::enter_all(blocks, base, n as u32, predecessors, used);

@@ -31,16 +31,16 @@ leading-labels-requires c κs = c .before .before .before .before .pre .items-th
 -- src/lib.rt:57:11
 link-blocks-requires : tie.Need-link-blocks-requires
 link-blocks-requires c κs = record {
-      items-there = c .before .before .before .before .before .before .pre .items-there;
-      few-items = c .before .before .before .before .before .before .pre .few-items;
-      few-labels = c .before .before .before .before .before .before .pre .few-labels;
-      labels-there = c .before .before .before .before .before .before .pre .labels-there;
-      labels-are = c .before .before .before .before .before .before .pre .labels-are;
-      before-are = c .before .leading-labels .ensures .0;
-      before-few = c .before .leading-labels .ensures .1;
-      few-blocks = c .before .before .before .before .before .before .pre .few-blocks;
-      blocks-there = c .before .before .before .before .before .before .pre .blocks-there;
-    }
+  items-there = c .before .before .before .before .before .before .pre .items-there;
+  few-items = c .before .before .before .before .before .before .pre .few-items;
+  few-labels = c .before .before .before .before .before .before .pre .few-labels;
+  labels-there = c .before .before .before .before .before .before .pre .labels-there;
+  labels-are = c .before .before .before .before .before .before .pre .labels-are;
+  before-are = c .before .leading-labels .ensures .0;
+  before-few = c .before .leading-labels .ensures .1;
+  few-blocks = c .before .before .before .before .before .before .pre .few-blocks;
+  blocks-there = c .before .before .before .before .before .before .pre .blocks-there;
+}
 
 -- src/lib.rt:58:27
 enum-known-e : tie.Need-enum-known-e
@@ -52,7 +52,7 @@ enum-known-n c = search needs
 
 -- src/lib.rt:60:55
 cast-enter-all : tie.Need-cast-enter-all
-cast-enter-all c = 
+cast-enter-all c =
     let a = c .before .before .before .before .before .before .before .before .before .before .before .before .before .args in
     let items = now (a .items) in
     let ps = partsAt items (a .first) (a .count) in
@@ -68,7 +68,7 @@ cast-enter-all c =
 
 -- src/lib.rt:60:17
 enter-all-requires : tie.Need-enter-all-requires
-enter-all-requires c κs = 
+enter-all-requires c κs =
     let a = c .before .before .before .before .before .before .before .before .before .before .before .before .before .before .args in
     let items = now (a .items) in
     let ps = partsAt items (a .first) (a .count) in
@@ -80,9 +80,12 @@ enter-all-requires c κs =
     (c .before .before .before .before .before .before .before .link-blocks .ensures .1) in
     let few = fits items (a .first) (a .count) (a .name) (a .base) (a .used) (now (a .blocks)) cells n done fives (c .before .before .before .before .before .before .before .before .before .before .before .before .before .before .pre .few-blocks)
     (c .before .before .before .before .before .before .before .before .before .before .before .before .before .before .pre .blocks-there) (c .before .before .before .before .before .before .before .before .before .before .before .before .before .before .pre .few-before) in
-    let long = c .before .before .before .before .before .before .before .link-blocks .kept .1 .1 .1 .1 .1 .1 .1 .0 in
-    (omega (arith, long, few, c .before .before .before .before .before .before .before .before .before .before .before .before .before .before .pre .blocks-there), entries-fit items (a .first) (a .count) (a .name) (a .base) (a .used) (now (a .blocks)) cells n done fives (c .before .before .before .before .before .before .before .before .before .before .before .before .before .before .pre .few-blocks)
-    (c .before .before .before .before .before .before .before .before .before .before .before .before .before .before .pre .blocks-there) (c .before .before .before .before .before .before .before .before .before .before .before .before .before .before .pre .few-before), c .before .before .before .before .before .before .before .before .before .before .before .before .before .before .pre .predecessors-there)
+    let long = c .before .before .before .before .before .before .before .link-blocks .kept .1 .1 .1 .1 .1 .1 .1 .0 in (
+      omega (arith, long, few, c .before .before .before .before .before .before .before .before .before .before .before .before .before .before .pre .blocks-there),
+      entries-fit items (a .first) (a .count) (a .name) (a .base) (a .used) (now (a .blocks)) cells n done fives (c .before .before .before .before .before .before .before .before .before .before .before .before .before .before .pre .few-blocks)
+          (c .before .before .before .before .before .before .before .before .before .before .before .before .before .before .pre .blocks-there) (c .before .before .before .before .before .before .before .before .before .before .before .before .before .before .pre .few-before),
+      c .before .before .before .before .before .before .before .before .before .before .before .before .before .before .pre .predecessors-there,
+    )
 
 -- src/lib.rt:61:29
 sub-t24 : tie.Need-sub-t24
@@ -94,7 +97,7 @@ same-length c = search needs
 
 -- src/lib.rt:39:1
 returns : tie.Need-returns
-returns c = 
+returns c =
     let a = c .before .before .before .before .before .before .before .before .before .before .before .before .args in
     let ps = partsAt (now (a .items)) (a .first) (a .count) in
     (link-refused ps (a .name) (c .before .e .given .0 .0) (sym (c .before .e .given .1) ∙ c .before .before .before .before .before .link-blocks .ensures .0), tt)
@@ -109,7 +112,7 @@ same-length-3 c = search needs
 
 -- src/lib.rt:39:1
 returns-2 : tie.Need-returns-2
-returns-2 c = 
+returns-2 c =
     let a = c .before .before .before .before .before .before .before .before .before .before .before .before .before .before .before .before .before .before .before .args in
     let items = now (a .items) in
     let ps = partsAt items (a .first) (a .count) in
@@ -118,12 +121,11 @@ returns-2 c =
     let done = sym (c .before .before .before .before .before .before .before .before .n .given .1) ∙ c .before .before .before .before .before .before .before .before .before .before .before .before .link-blocks .ensures .0 in
     let fives : FivesHeld (blocksOf ps) (a .first) (a .base) (now (a .blocks)) cells (N.Done n) =
     subst (λ (x : Numbered). FivesHeld (blocksOf ps) (a .first) (a .base) (now (a .blocks)) cells x) (c .before .before .before .before .before .before .before .before .n .given .1)
-    (c .before .before .before .before .before .before .before .before .before .before .before .before .link-blocks .ensures .1) in
-    (
+    (c .before .before .before .before .before .before .before .before .before .before .before .before .link-blocks .ensures .1) in (
       link-done items (a .first) (a .count) (a .name) (a .base) (a .used) (now (a .blocks)) cells n done fives (c .before .before .before .before .before .before .before .before .before .before .before .before .before .before .before .before .before .before .before .pre .few-blocks)
-    (c .before .before .before .before .before .before .before .before .before .before .before .before .before .before .before .before .before .before .before .pre .blocks-there) (c .before .before .before .before .before .before .before .before .before .before .before .before .before .before .before .before .before .before .before .pre .few-before) (c .before .before .before .before .enter-all .result) (c .before .before .before .before .enter-all .ensures .0),
+          (c .before .before .before .before .before .before .before .before .before .before .before .before .before .before .before .before .before .before .before .pre .blocks-there) (c .before .before .before .before .before .before .before .before .before .before .before .before .before .before .before .before .before .before .before .pre .few-before) (c .before .before .before .before .enter-all .result) (c .before .before .before .before .enter-all .ensures .0),
       link-held items (a .first) (a .count) (a .name) (a .base) (a .used) (now (a .blocks)) cells n done fives (c .before .before .before .before .before .before .before .before .before .before .before .before .before .before .before .before .before .before .before .pre .few-blocks)
-    (c .before .before .before .before .before .before .before .before .before .before .before .before .before .before .before .before .before .before .before .pre .blocks-there) (c .before .before .before .before .before .before .before .before .before .before .before .before .before .before .before .before .before .before .before .pre .few-before) (c .before .before .before .before .enter-all .last .0) (now (a .predecessors)) (c .before .before .before .before .enter-all .last .1 .1 .1 .0) (c .before .before .before .before .enter-all .ensures .1 .0)
+          (c .before .before .before .before .before .before .before .before .before .before .before .before .before .before .before .before .before .before .before .pre .blocks-there) (c .before .before .before .before .before .before .before .before .before .before .before .before .before .before .before .before .before .before .before .pre .few-before) (c .before .before .before .before .enter-all .last .0) (now (a .predecessors)) (c .before .before .before .before .enter-all .last .1 .1 .1 .0) (c .before .before .before .before .enter-all .ensures .1 .0)
           (c .before .before .before .before .enter-all .ensures .1 .1),
     )
 

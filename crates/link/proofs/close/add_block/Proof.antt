@@ -25,13 +25,13 @@ returns c = rw (eq-eqb _ _ (c .if1 .taken)) (refl, refl)
 
 -- src/close.rt:95:76
 mul-close-block : tie.Need-mul-close-block
-mul-close-block c = 
+mul-close-block c =
     let few = c .before .before .before .before .before .pre .6 (omega arith) in
     omega arith
 
 -- src/close.rt:95:11
 close-block-requires : tie.Need-close-block-requires
-close-block-requires c κs = 
+close-block-requires c κs =
     let few = c .before .before .before .before .before .pre .6 (omega arith) in
     (omega arith, omega arith, omega arith, omega arith, omega arith, omega arith)
 
@@ -45,7 +45,7 @@ enum-told c = search needs
 
 -- src/close.rt:97:47
 add-t17 : tie.Need-add-t17
-add-t17 c = 
+add-t17 c =
     let few = c .before .before .before .before .before .before .before .before .before .before .pre .6 (omega arith) in
     omega arith
 

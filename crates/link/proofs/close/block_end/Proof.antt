@@ -37,7 +37,7 @@ record-at-requires c κs = search needs
 
 -- src/close.rt:26:13
 returns : tie.Need-returns Inv-loop μ-loop
-returns c = 
+returns c =
     let s = now (c .before .before .before .before .before .before .args .items) in
     let end = c .before .before .before .before .before .before .args .end in
     let i = c .before .before .before .before .loop .i in
@@ -53,7 +53,7 @@ loop-less c = omega arith
 
 -- src/close.rt:23:5
 loop-again : tie.Need-loop-again Inv-loop μ-loop
-loop-again c = 
+loop-again c =
     let s = now (c .before .before .before .before .before .before .args .items) in
     let end = c .before .before .before .before .before .before .args .end in
     let i = c .before .before .before .before .loop .i in
@@ -65,7 +65,6 @@ unfolding run
 returns-2 c = let s = now (c .before .before .before .args .items) in
     let end = c .before .before .before .args .end in
     let i = c .before .loop .i in
-
     let none = parts-none s i (end - i) (omega arith) in
     let e = rw none at (c .before .loop .inv .1) in
     (omega arith, omega arith)

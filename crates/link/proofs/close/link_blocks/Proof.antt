@@ -46,7 +46,7 @@ add-from c = omega (arith, c .before .before .before .before .pre .few-items, c 
 
 -- src/close.rt:123:5
 loop-holds : tie.Need-loop-holds Inv-loop μ-loop
-loop-holds c = 
+loop-holds c =
     let a = c .before .before .before .before .args in
     cut-start (now (a .items)) (a .first) (a .count) (a .before) (a .base) (a .name) (now (a .blocks)) (c .before .before .before .before .pre .before-are)
     (c .before .before .before .before .pre .before-few) (c .before .before .before .before .pre .few-blocks)
@@ -57,7 +57,7 @@ block-end-requires c κs = (c .loop .inv .high, c .before .before .before .befor
 
 -- src/close.rt:125:15
 add-block-requires : tie.Need-add-block-requires Inv-loop μ-loop
-add-block-requires c κs = 
+add-block-requires c κs =
     let a = c .before .before .before .before .before .before .before .args in
     let items = now (a .items) in
     let ps = partsAt items (a .first) (a .count) in
@@ -67,16 +67,15 @@ add-block-requires c κs =
     let names = take (a .labelled) (now (a .labels)) in
     let same = same-place ps (a .before) names (c .before .before .before .before .before .before .before .pre .before-are) (c .before .before .before .before .before .before .before .pre .labels-are) in
     let stop = c .before .block-end .result in
-    let ends = c .before .block-end .ensures .0 in
-    (
+    let ends = c .before .block-end .ensures .0 in (
       omega (arith, ends),
       omega (arith, c .before .block-end .ensures .1, c .before .before .before .before .before .before .before .pre .few-items),
       omega (arith, c .before .block-end .ensures .1, c .before .before .before .before .before .before .before .pre .items-there),
       c .before .before .before .before .before .before .before .pre .few-labels,
       c .before .before .before .before .before .before .before .pre .labels-there,
       omega (arith, loop .inv .left .long, c .before .before .before .before .before .before .before .pre .blocks-there),
-      cut-room  items all (a .name) (a .first) end (a .base) (now (a .blocks)) (loop .blocks) (loop .from) (loop .k) (loop .inv)
-    stop ends (a .before) names same ,
+      cut-room items all (a .name) (a .first) end (a .base) (now (a .blocks)) (loop .blocks) (loop .from) (loop .k) (loop .inv)
+          stop ends (a .before) names same,
     )
 
 -- src/close.rt:126:31
@@ -89,7 +88,7 @@ same-length c = omega (arith, c .before .before .before .before .before .before 
 
 -- src/close.rt:127:17
 returns : tie.Need-returns Inv-loop μ-loop
-returns c = 
+returns c =
     let a = c .before .before .before .before .before .before .before .before .before .before .before .before .before .args in
     let items = now (a .items) in
     let ps = partsAt items (a .first) (a .count) in
@@ -100,12 +99,11 @@ returns c =
     let same = same-place ps (a .before) names (c .before .before .before .before .before .before .before .before .before .before .before .before .before .pre .before-are) (c .before .before .before .before .before .before .before .before .before .before .before .before .before .pre .labels-are) in
     let stop = c .before .before .before .before .before .before .before .block-end .result in
     let ends = c .before .before .before .before .before .before .before .block-end .ensures .0 in
-
     let e = c .before .e .given .0 .0 in
     let is = added-is (a .before) names items (loop .from) stop (loop .k) (c .before .before .before .before .before .before .before .before .before .refuse .result) (refusal 22 (a .name) 0)
     (c .before .before .before .before .before .add-block .result) (N.Refused e) (c .before .before .before .before .before .before .before .before .before .refuse .ensures) (c .before .before .before .before .before .add-block .ensures .0) (c .before .e .given .1) in
-    let r = turn-refused  items all (a .name) (a .first) end (a .base) (now (a .blocks)) (loop .blocks) (loop .from) (loop .k) (loop .inv)
-    stop ends (a .before) names same  e is in
+    let r = turn-refused items all (a .name) (a .first) end (a .base) (now (a .blocks)) (loop .blocks) (loop .from) (loop .k) (loop .inv)
+    stop ends (a .before) names same e is in
     rw r (refl, tt)
 
 -- src/close.rt:129:28
@@ -114,7 +112,7 @@ enum-known-next c = search needs
 
 -- src/close.rt:132:43
 sub-t21 : tie.Need-sub-t21 Inv-loop μ-loop
-sub-t21 c = 
+sub-t21 c =
     let a = c .before .before .before .before .before .before .before .before .before .before .before .before .before .before .args in
     let items = now (a .items) in
     let ps = partsAt items (a .first) (a .count) in
@@ -128,9 +126,8 @@ sub-t21 c =
     let next = c .before .before .next .given .0 .0 in
     let is = added-is (a .before) names items (loop .from) stop (loop .k) (c .before .before .before .before .before .before .before .before .before .before .refuse .result) (refusal 22 (a .name) 0)
     (c .before .before .before .before .before .before .add-block .result) (N.Done next) (c .before .before .before .before .before .before .before .before .before .before .refuse .ensures) (c .before .before .before .before .before .before .add-block .ensures .0) (c .before .before .next .given .1) in
-
-    let d = turn-done  items all (a .name) (a .first) end (a .base) (now (a .blocks)) (loop .blocks) (loop .from) (loop .k) (loop .inv)
-    stop ends (a .before) names same  next is in
+    let d = turn-done items all (a .name) (a .first) end (a .base) (now (a .blocks)) (loop .blocks) (loop .from) (loop .k) (loop .inv)
+    stop ends (a .before) names same next is in
     omega (arith, d .0, d .2 .above)
 
 -- src/close.rt:132:21
@@ -139,7 +136,7 @@ same-length-2 c = omega (arith, c .before .before .before .before .before .befor
 
 -- src/close.rt:132:21
 returns-2 : tie.Need-returns-2 Inv-loop μ-loop
-returns-2 c = 
+returns-2 c =
     let a = c .before .before .before .before .before .before .before .before .before .before .before .before .before .before .args in
     let items = now (a .items) in
     let ps = partsAt items (a .first) (a .count) in
@@ -153,9 +150,8 @@ returns-2 c =
     let next = c .before .before .next .given .0 .0 in
     let is = added-is (a .before) names items (loop .from) stop (loop .k) (c .before .before .before .before .before .before .before .before .before .before .refuse .result) (refusal 22 (a .name) 0)
     (c .before .before .before .before .before .before .add-block .result) (N.Done next) (c .before .before .before .before .before .before .before .before .before .before .refuse .ensures) (c .before .before .before .before .before .before .add-block .ensures .0) (c .before .before .next .given .1) in
-
-    cut-end  items all (a .name) (a .first) end (a .base) (now (a .blocks)) (loop .blocks) (loop .from) (loop .k) (loop .inv)
-    stop ends (a .before) names same  next (c .before .before .before .before .before .before .add-block .last .1 .1 .1 .1 .1 .1 .1 .0) is (c .before .before .before .before .before .before .add-block .ensures .1) (c .if1 .taken)
+    cut-end items all (a .name) (a .first) end (a .base) (now (a .blocks)) (loop .blocks) (loop .from) (loop .k) (loop .inv)
+    stop ends (a .before) names same next (c .before .before .before .before .before .before .add-block .last .1 .1 .1 .1 .1 .1 .1 .0) is (c .before .before .before .before .before .before .add-block .ensures .1) (c .if1 .taken)
 
 -- src/close.rt:134:24
 add-from-2 : tie.Need-add-from-2 Inv-loop μ-loop
@@ -163,7 +159,7 @@ add-from-2 c = omega (arith, c .before .before .before .before .before .before .
 
 -- src/close.rt:123:5
 loop-less : tie.Need-loop-less Inv-loop μ-loop
-loop-less c = 
+loop-less c =
     let a = c .before .before .before .before .before .before .before .before .before .before .before .before .before .before .args in
     let items = now (a .items) in
     let ps = partsAt items (a .first) (a .count) in
@@ -174,12 +170,11 @@ loop-less c =
     let same = same-place ps (a .before) names (c .before .before .before .before .before .before .before .before .before .before .before .before .before .before .pre .before-are) (c .before .before .before .before .before .before .before .before .before .before .before .before .before .before .pre .labels-are) in
     let stop = c .before .before .before .before .before .before .before .before .block-end .result in
     let ends = c .before .before .before .before .before .before .before .before .block-end .ensures .0 in
-
     omega (arith, ends, c .before .before .before .before .before .before .before .before .block-end .ensures .1, c .if1 .left)
 
 -- src/close.rt:123:5
 loop-again : tie.Need-loop-again Inv-loop μ-loop
-loop-again c = 
+loop-again c =
     let a = c .before .before .before .before .before .before .before .before .before .before .before .before .before .before .args in
     let items = now (a .items) in
     let ps = partsAt items (a .first) (a .count) in
@@ -193,9 +188,8 @@ loop-again c =
     let next = c .before .before .next .given .0 .0 in
     let is = added-is (a .before) names items (loop .from) stop (loop .k) (c .before .before .before .before .before .before .before .before .before .before .refuse .result) (refusal 22 (a .name) 0)
     (c .before .before .before .before .before .before .add-block .result) (N.Done next) (c .before .before .before .before .before .before .before .before .before .before .refuse .ensures) (c .before .before .before .before .before .before .add-block .ensures .0) (c .before .before .next .given .1) in
-
-    cut-on  items all (a .name) (a .first) end (a .base) (now (a .blocks)) (loop .blocks) (loop .from) (loop .k) (loop .inv)
-    stop ends (a .before) names same  next (c .before .before .before .before .before .before .add-block .last .1 .1 .1 .1 .1 .1 .1 .0) is (c .before .before .before .before .before .before .add-block .ensures .1)
+    cut-on items all (a .name) (a .first) end (a .base) (now (a .blocks)) (loop .blocks) (loop .from) (loop .k) (loop .inv)
+    stop ends (a .before) names same next (c .before .before .before .before .before .before .add-block .last .1 .1 .1 .1 .1 .1 .1 .0) is (c .before .before .before .before .before .before .add-block .ensures .1)
     (omega (arith, c .before .before .before .before .before .before .before .before .block-end .ensures .1, c .if1 .left))
 
 pub link-blocks-spec : {M : Type 1} → statement M

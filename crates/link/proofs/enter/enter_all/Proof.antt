@@ -36,7 +36,7 @@ abbrev μ-loop : tie.MeasureT-loop
 
 -- src/enter.rt:114:5
 loop-holds : tie.Need-loop-holds Inv-loop μ-loop
-loop-holds c = 
+loop-holds c =
     let a = c .before .before .args in
     let all = linksAt (now (a .blocks)) (a .base) (a .n) in
     (omega arith, refl, refl, rw sub-zero (entered-none (entriesFrom 0 all (a .n)) (a .used) (now (a .sources))), rw (add-zero, sub-zero))
@@ -59,7 +59,7 @@ add-at-2 c = search needs
 
 -- src/enter.rt:116:13
 enter-edges-requires : tie.Need-enter-edges-requires Inv-loop μ-loop
-enter-edges-requires c κs = 
+enter-edges-requires c κs =
     let a = c .before .before .before .before .before .before .args in
     let loop = c .before .before .before .loop in
     let j = loop .j in
@@ -71,7 +71,7 @@ enter-edges-requires c κs =
 
 -- src/enter.rt:117:42
 sub-put-entries : tie.Need-sub-put-entries Inv-loop μ-loop
-sub-put-entries c = 
+sub-put-entries c =
     let a = c .before .before .before .before .before .before .before .before .before .before .args in
     let loop = c .before .before .before .before .before .before .before .loop in
     let j = loop .j in
@@ -84,7 +84,7 @@ sub-put-entries c =
 
 -- src/enter.rt:117:9
 put-entries-requires : tie.Need-put-entries-requires Inv-loop μ-loop
-put-entries-requires c κs = 
+put-entries-requires c κs =
     let a = c .before .before .before .before .before .before .before .before .before .before .args in
     let loop = c .before .before .before .before .before .before .before .loop in
     let j = loop .j in
@@ -105,7 +105,7 @@ loop-less c = omega arith
 
 -- src/enter.rt:114:5
 loop-again : tie.Need-loop-again Inv-loop μ-loop
-loop-again c = 
+loop-again c =
     let a = c .before .before .before .before .before .before .before .before .before .before .before .before .before .args in
     let loop = c .before .before .before .before .before .before .before .before .before .before .loop in
     let j = loop .j in
@@ -114,12 +114,10 @@ loop-again c =
     let inv = loop .inv in
     let e = rw (more, length-append) at (inv .3 .count) in
     let es = rw (inv .2) at (c .before .before .before .before .before .before .enter-edges .ensures) in
-
     let m = (a .base + j) * 8 + 5 in
     let next = c .before .before .before .before .before .before .enter-edges .result in
     let put = c .before .before .put-entries .ensures in
-    let three = threeOf j (loop .here) (next - loop .here) in
-    (
+    let three = threeOf j (loop .here) (next - loop .here) in (
       omega arith,
       ap length put ∙ length-sets (loop .blocks) m three ∙ inv .1,
       ap (λ (b : List ℕ). linksAt b (a .base) (a .n)) put ∙ links-kept (loop .blocks) (a .base + j) m (a .base) (a .n) (loop .here) (next - loop .here) (markOf j (next - loop .here)) refl ∙ inv .2,
@@ -137,7 +135,7 @@ same-length-2 c = omega (arith, c .before .loop .inv .3 .long)
 
 -- src/enter.rt:103:1
 returns : tie.Need-returns Inv-loop μ-loop
-returns c = 
+returns c =
     let a = c .before .before .before .before .args in
     let loop = c .before .loop in
     let all = linksAt (now (a .blocks)) (a .base) (a .n) in

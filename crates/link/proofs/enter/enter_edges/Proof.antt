@@ -33,7 +33,7 @@ abbrev μ-loop : tie.MeasureT-loop
 
 -- src/enter.rt:67:5
 loop-holds : tie.Need-loop-holds Inv-loop μ-loop
-loop-holds c = 
+loop-holds c =
     let a = c .before .before .args in
     (0, omega arith, rw add-zero (entered-none (predecessors (a .j) 0 (linksAt (now (a .blocks)) (a .base) (a .n))) (a .used) (now (a .sources))))
 
@@ -55,7 +55,7 @@ mul-at c = search needs
 
 -- src/enter.rt:70:9
 enter-from-requires : tie.Need-enter-from-requires Inv-loop μ-loop
-enter-from-requires c κs = 
+enter-from-requires c κs =
     let a = c .before .before .before .before .before .before .args in
     let cells = now (a .blocks) in
     let k = c .before .next-source .result in
@@ -63,7 +63,6 @@ enter-from-requires c κs =
     let same : loop .inv .0 ≡ k = omega arith in
     let more = predecessors-more cells (a .base) (a .j) k (loop .rest) (c .before .before .loop-test .taken) in
     let inv = rw same at (loop .inv .2) in
-
     let e = rw (more, length-append) at (inv .count) in
     (omega arith, omega (arith, e, inv .long, c .before .before .before .before .before .before .pre .1))
 
@@ -77,7 +76,7 @@ loop-less c = omega arith
 
 -- src/enter.rt:67:5
 loop-again : tie.Need-loop-again Inv-loop μ-loop
-loop-again c = 
+loop-again c =
     let a = c .before .before .before .before .before .before .before .before .before .args in
     let cells = now (a .blocks) in
     let k = c .before .before .before .before .next-source .result in
@@ -85,7 +84,6 @@ loop-again c =
     let same : loop .inv .0 ≡ k = omega arith in
     let more = predecessors-more cells (a .base) (a .j) k (loop .rest) (c .before .before .before .before .before .loop-test .taken) in
     let inv = rw same at (loop .inv .2) in
-
     (k + 1, omega arith, entered-more (entering (a .j) k (goesAt cells ((a .base + k) * 8)) []) (predecessors (a .j) (k + 1) (linksAt cells (a .base + (k + 1)) (loop .rest - 1))) (c .before .before .enter-from .result) (c .before .before .enter-from .last .1 .1 .1 .1 .0) inv more (c .before .before .enter-from .ensures))
 
 -- src/enter.rt:58:1
@@ -94,7 +92,7 @@ same-length c = omega (arith, c .before .loop .inv .2 .long)
 
 -- src/enter.rt:58:1
 returns : tie.Need-returns Inv-loop μ-loop
-returns c = 
+returns c =
     let a = c .before .before .before .before .args in
     let cells = now (a .blocks) in
     let loop = c .before .loop in

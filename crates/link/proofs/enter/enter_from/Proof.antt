@@ -64,7 +64,7 @@ enters-requires-2 c κs = search needs
 
 -- src/enter.rt:45:9
 put-source-requires : tie.Need-put-source-requires
-put-source-requires c κs = 
+put-source-requires c κs =
     let a = c .before .before .before .before .before .before .before .before .args in
     let cells = now (a .blocks) in
     let s = now (a .sources) in
@@ -73,7 +73,7 @@ put-source-requires c κs =
 
 -- src/enter.rt:46:5
 put-source-requires-2 : tie.Need-put-source-requires-2
-put-source-requires-2 c κs = 
+put-source-requires-2 c κs =
     let a = c .before .before .before .before .before .before .before .before .before .before .before .before .args in
     let cells = now (a .blocks) in
     let s = now (a .sources) in
@@ -86,7 +86,7 @@ same-length c = search needs
 
 -- src/enter.rt:35:1
 returns : tie.Need-returns
-returns c = 
+returns c =
     let a = c .before .before .before .before .before .before .before .before .before .before .before .before .before .before .before .args in
     let cells = now (a .blocks) in
     let s = now (a .sources) in

@@ -42,7 +42,7 @@ record-at-requires c κs = search needs
 
 -- src/labels.rt:24:13
 returns : tie.Need-returns Inv-loop μ-loop
-returns c = 
+returns c =
     let s = now (c .before .before .before .before .before .before .args .items) in
     let first = c .before .before .before .before .before .before .args .first in
     let count = c .before .before .before .before .before .before .args .count in
@@ -59,7 +59,7 @@ loop-less c = omega arith
 
 -- src/labels.rt:21:5
 loop-again : tie.Need-loop-again Inv-loop μ-loop
-loop-again c = 
+loop-again c =
     let s = now (c .before .before .before .before .before .before .args .items) in
     let first = c .before .before .before .before .before .before .args .first in
     let count = c .before .before .before .before .before .before .args .count in
@@ -73,7 +73,6 @@ returns-2 c = let s = now (c .before .before .before .args .items) in
     let first = c .before .before .before .args .first in
     let count = c .before .before .before .args .count in
     let i = c .before .loop .i in
-
     let none = parts-none s (first + i) (count - i) (omega arith) in
     let e = rw none at (c .before .loop .inv .1) in
     (omega arith, omega arith)
