@@ -82,6 +82,10 @@ blocks-after (operation w goes ∷ ps) here ls =
 pub few-blocks : (ps : List Part) → length (blocksOf ps) ≤ length (namesIn ps) + 1
 few-blocks ps = blocks-after ps 0 []
 
+-- A function of at most 255 labels has at most 256 blocks.
+pub at-most-256 : (ps : List Part) → length (namesIn ps) ≤ 255 → length (blocksOf ps) ≤ 256
+at-most-256 ps h = omega (arith, few-blocks ps)
+
 -- Where every label is resolved. ------------------------------------------------------------------------------------
 
 abbrev pub NonEmpty : List Block → Type 0

@@ -18,7 +18,7 @@ unfolding goesD pick
 returns c =
     let if1 = c .before .if1 in
     let resolve-one = c .resolve-one in
-    rw (eq-eqb _ _ (if1 .taken)) (resolve-one .ensures)
+    rw (if1 .taken) (resolve-one .ensures)
 
 resolve-two-requires : tie.Need-resolve-two-requires
 resolve-two-requires c κs = search needs
@@ -29,14 +29,14 @@ returns-2 c =
     let if1 = c .before .before .before .if1 in
     let if2 = c .before .if2 in
     let resolve-two = c .resolve-two in
-    rw (ne-eqb _ _ (if1 .left), eq-eqb _ _ (if2 .taken)) (resolve-two .ensures)
+    rw (if1 .left, eq-eqb _ _ (if2 .taken)) (resolve-two .ensures)
 
 returns-3 : tie.Need-returns-3
 unfolding goesD pick
 returns-3 c =
     let if1 = c .before .before .if1 in
     let if2 = c .if2 in
-    rw (ne-eqb _ _ (if1 .left), ne-eqb _ _ (if2 .left))
+    rw (if1 .left, ne-eqb _ _ (if2 .left))
 
 pub resolve-spec : {M : Type 1} → statement M
 resolve-spec =
