@@ -1,18 +1,15 @@
 -- The first block of what is left: the operations up to the next label; and what is left behind that label.
-use Prim.Native.Nat.{ℕ, zero, suc, _+_, _-_, _≤_, _<_}
-use mathlib.Core.Path.{_≡_, refl, sym, ap, _∙_}
+use Prim.Native.Nat.{ℕ, zero, suc, _+_, _-_, _<_}
+use mathlib.Core.Path.{_≡_, refl, ap, _∙_}
 use mathlib.Core.Bool.{Bool, true, false}
 use mathlib.Core.List.{List, [], _∷_}
 use native.Mathlib.Omega.{arith}
-use native.Mathlib.Nat.{add-zero}
 use lib.Dec.{eqb}
 use lib.ListN.{length}
 use Rattle.utils.specs.Bytes.{pick}
-use Rattle.parser.specs.Blocks.{Part, name, operation, Block, fresh, grown, blocksFrom, blocksAfter, blocksOf}
+use Rattle.parser.specs.Blocks.{Part, name, operation, Block, fresh, grown, blocksFrom}
 use Rattle.body.specs.Records.{recordAt, recordPart, goesOf, partsAt}
 use Rattle.body.specs.Room.{filled}
-use Rattle.body.specs.declared.ItemRecord.{ItemRecord}
-use Rattle.link.specs.Table.{leading}
 use Rattle.link.specs.Steps.{run}
 
 -- a block with the operations up to the next label

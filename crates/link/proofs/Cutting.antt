@@ -7,12 +7,12 @@ use native.Mathlib.Omega.{arith}
 use native.Mathlib.Nat.{add-zero, zero-add, sub-zero}
 use borrow.Author.Tests.{eq-eqb, ne-eqb, eqb-true, eqb-false}
 use lib.Dec.{eqb}
-use lib.ListN.{length, getD, drop}
+use lib.ListN.{length, drop}
 use lib.Seq.{sets, length-sets}
 use Rattle.utils.specs.Bytes.{pick}
 use Rattle.parser.specs.Step.{refusal}
 use Rattle.parser.specs.Blocks.{Part, name, operation, Block, fresh, blocksFrom, blocksAfter, blocksOf}
-use Rattle.parser.specs.Edges.{placeOf, places, Resolved, fine, refused, resolveLabels, resolveFrom}
+use Rattle.parser.specs.Edges.{placeOf, places, refused, resolveLabels, resolveFrom}
 use Rattle.parser.specs.declared.Refusal.{Refusal}
 use Rattle.body.specs.Records.{recordAt, partsAt, goesOf}
 use Rattle.body.specs.Room.{filled}

@@ -1,10 +1,10 @@
 -- Each edge enters one block, so all predecessors together are no more than two for each block.
 use Prim.Native.Nat.{ℕ, zero, suc, _+_, _-_, _*_, _≤_, _<_}
-use mathlib.Core.Path.{_≡_, refl, sym, ap, subst, _∙_}
+use mathlib.Core.Path.{_≡_, refl, ap, _∙_}
 use mathlib.Core.Bool.{Bool, true, false}
 use mathlib.Core.List.{List, [], _∷_, _++_}
 use native.Mathlib.Omega.{arith}
-use borrow.Author.Tests.{eqb-true, eqb-false}
+use borrow.Author.Tests.{eqb-true}
 use lib.Dec.{eqb}
 use lib.ListN.{length, length-append}
 use Rattle.utils.specs.Bytes.{pick}
@@ -13,7 +13,6 @@ use Rattle.parser.specs.Edges.{Place, at, nowhere, placeOf, thenPlace, places, 
 use Rattle.body.specs.Records.{recordAt, recordPart, goesOf, partsAt}
 use Rattle.body.specs.declared.ItemRecord.{ItemRecord}
 use Rattle.link.specs.Steps.{entriesFrom}
-use Rattle.link.proofs.Entering.{entering-append}
 
 -- how many of these targets are block j, and how many are among m blocks from j on
 hits : ℕ → List ℕ → ℕ

@@ -1,11 +1,10 @@
 -- What blocks and edges are like: laws of the definitions, for those who use them.
-use Prim.Native.Nat.{ℕ, zero, suc, _+_, _-_, _≤_, _<_}
-use mathlib.Core.Path.{_≡_, refl, sym, ap, subst, _∙_}
+use Prim.Native.Nat.{ℕ, suc, _+_, _-_, _≤_, _<_}
+use mathlib.Core.Path.{_≡_, refl, ap}
 use mathlib.Core.Bool.{Bool, true, false}
 use mathlib.Core.List.{List, [], _∷_, _++_}
 use native.Mathlib.Omega.{arith}
-use native.Mathlib.Nat.{zero-add}
-use borrow.Author.Tests.{eqb-true, eqb-false}
+use borrow.Author.Tests.{eqb-false}
 use lib.Dec.{eqb}
 use lib.ListN.{length}
 use Rattle.utils.specs.Bytes.{pick}
@@ -82,6 +81,10 @@ blocks-after (operation w goes ∷ ps) here ls =
 -- A function has at most one block more than labels.
 pub few-blocks : (ps : List Part) → length (blocksOf ps) ≤ length (namesIn ps) + 1
 few-blocks ps = blocks-after ps 0 []
+
+-- A function of at most 255 labels has at most 256 blocks.
+pub at-most-256 : (ps : List Part) → length (namesIn ps) ≤ 255 → length (blocksOf ps) ≤ 256
+at-most-256 ps h = omega (arith, few-blocks ps)
 
 -- Where every label is resolved. ------------------------------------------------------------------------------------
 

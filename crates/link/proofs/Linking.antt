@@ -1,8 +1,8 @@
 -- From the blocks cut and the edges entered to the whole answer.
 use Prim.Native.Nat.{ℕ, _+_, _-_, _*_, _≤_}
-use mathlib.Core.Path.{_≡_, refl, sym, ap, subst, _∙_}
-use mathlib.Core.Bool.{Bool, true}
-use mathlib.Core.List.{List, [], _∷_}
+use mathlib.Core.Path.{_≡_, refl, ap, _∙_}
+use mathlib.Core.Bool.{true}
+use mathlib.Core.List.{List}
 use native.Mathlib.Omega.{arith}
 use lib.ListN.{length}
 use lib.Seq.{sets}
@@ -11,11 +11,9 @@ use Rattle.parser.specs.Edges.{Resolved, fine, refused, resolveD, successors}
 use Rattle.parser.specs.declared.Refusal.{Refusal}
 use Rattle.body.specs.Records.{partsAt}
 use Rattle.body.specs.Room.{filled}
-use Rattle.link.specs.Cells.{blockCells, predecessorCells, linkedBy, linkD, Linking}
+use Rattle.link.specs.Cells.{predecessorCells, linkD, Linking}
 use Rattle.link.specs.Steps.{putFives, numberedBy, linksAt, entriesFrom, putThrees}
-use Rattle.link.specs.declared.Linked.{Linked}
 use Rattle.link.specs.declared.Linked.the-variants as L
-use Rattle.link.specs.declared.Numbered.{Numbered}
 use Rattle.link.specs.declared.Numbered.the-variants as N
 use Rattle.link.proofs.Edges.{thin-blocks, entries-few}
 use Rattle.link.proofs.Laws.{blocks-counted}

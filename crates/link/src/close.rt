@@ -78,8 +78,8 @@ fn close_block(
     }
 }
 
-// The block of the operations from `from` to before `stop` becomes record k. The record after it, or `empty` where there
-// are no operations.
+// The block of the operations from `from` to before `stop` becomes record k. The record after it, or `empty` where
+// there are no operations.
 fn add_block(
     items: &[u32],
     from: usize,

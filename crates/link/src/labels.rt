@@ -102,7 +102,8 @@ pub fn resolve(labels: &[u32], labelled: usize, before: usize, r: ItemRecord) ->
     ensures { λ res. ⌜ res ≡ goesD before (take labelled (now (labels .entry))) r ⌝ }
 {
     let token = r.token as usize;
-    if r.kind == 9 {
+    let jumps = r.kind == 9;
+    if jumps {
         return resolve_one(labels, labelled, before, token, r.right);
     }
     if r.kind == 10 {

@@ -32,7 +32,7 @@ abbrev μ-loop : tie.MeasureT-loop
 
 -- src/lib.rt:165:5
 loop-holds : tie.Need-loop-holds Inv-loop μ-loop
-loop-holds c = 
+loop-holds c =
     let within = c .before .before .before .before .before .before .before .pre .0 in
     begin (tokensOf (now (c .before .before .before .before .before .before .before .args .tokens))) (now (c .before .before .before .before .before .before .before .args .names)) _
     (record {
@@ -77,25 +77,29 @@ same-length-5 c = c .before .before .before .before .loop .inv .predecessors-kep
 
 -- src/lib.rt:169:13
 returns : tie.Need-returns Inv-loop μ-loop
-returns c = 
+returns c =
     let a = c .before .before .before .before .before .before .before .before .before .before .before .before .args in
     let loop = c .before .before .before .before .loop in
     at-end (tokensOf (now (a .tokens))) (now (a .names)) _ (loop .inv) (c .before .before .before .token-at .ensures) (c .before .if1 .taken)
 
 -- src/lib.rt:171:15
 parse-function-requires : tie.Need-parse-function-requires Inv-loop μ-loop
-parse-function-requires c κs = 
+parse-function-requires c κs =
     let a = c .before .before .before .before .before .before .before .before .before .before .before .before .before .before .before .before .args in
     let loop = c .before .before .before .before .before .before .before .before .loop in
     let long = c .before .before .before .before .before .before .before .before .before .before .before .before .before .before .before .before .pre .2 in
-    let g = loop .inv in
-    (g .room, g .few, g .types-few, omega (arith, g .functions-kept, c .before .before .before .before .before .before .before .before .before .before .before .before .before .before .before .before .pre .1),
-    record {
-      items-long = omega (arith, g .items-kept, long .items-long);
-      arguments-long = omega (arith, g .arguments-kept, long .arguments-long);
-      blocks-long = omega (arith, g .blocks-kept, long .blocks-long);
-      predecessors-long = omega (arith, g .predecessors-kept, long .predecessors-long);
-    })
+    let g = loop .inv in (
+      g .room,
+      g .few,
+      g .types-few,
+      omega (arith, g .functions-kept, c .before .before .before .before .before .before .before .before .before .before .before .before .before .before .before .before .pre .1),
+      record {
+        items-long = omega (arith, g .items-kept, long .items-long);
+        arguments-long = omega (arith, g .arguments-kept, long .arguments-long);
+        blocks-long = omega (arith, g .blocks-kept, long .blocks-long);
+        predecessors-long = omega (arith, g .predecessors-kept, long .predecessors-long);
+      },
+    )
 
 -- src/lib.rt:183:35
 enum-known-e : tie.Need-enum-known-e Inv-loop μ-loop
@@ -123,7 +127,7 @@ same-length-10 c = c .before .before .before .before .before .before .before .be
 
 -- src/lib.rt:184:17
 returns-2 : tie.Need-returns-2 Inv-loop μ-loop
-returns-2 c = 
+returns-2 c =
     let a = c .before .before .before .before .before .before .before .before .before .before .before .before .before .before .before .before .before .before .before .before .before .before .before .before .before .before .before .before .before .before .args in
     let loop = c .before .before .before .before .before .before .before .before .before .before .before .before .before .before .before .before .before .before .before .before .before .before .loop in
     refused-read (tokensOf (now (a .tokens))) (now (a .names)) _ (loop .inv) (c .before .before .before .before .before .before .before .before .before .before .before .before .before .before .before .before .before .before .before .before .before .token-at .ensures) (c .before .before .before .before .before .before .before .before .before .before .before .before .before .before .before .before .before .before .before .if1 .left) _ refl (sym (c .before .e .given .1) ∙ c .before .before .before .before .before .before .before .before .before .before .before .before .before .parse-function .ensures .0) _
@@ -134,7 +138,7 @@ enum-known-next c = search needs
 
 -- src/lib.rt:165:5
 loop-less : tie.Need-loop-less Inv-loop μ-loop
-loop-less c = 
+loop-less c =
     let a = c .before .before .before .before .before .before .before .before .before .before .before .before .before .before .before .before .before .before .before .before .before .before .before .before .before .before .before .before .before .before .args in
     let loop = c .before .before .before .before .before .before .before .before .before .before .before .before .before .before .before .before .before .before .before .before .before .before .loop in
     let on = read-on (tokensOf (now (a .tokens))) (now (a .names)) _ (loop .inv) (c .before .before .before .before .before .before .before .before .before .before .before .before .before .before .before .before .before .before .before .before .before .token-at .ensures) (c .before .before .before .before .before .before .before .before .before .before .before .before .before .before .before .before .before .before .before .if1 .left) _ refl _ (c .before .before .before .before .before .before .before .before .before .before .before .before .before .parse-function .ensures .1) _ _ _
@@ -143,7 +147,7 @@ loop-less c =
 
 -- src/lib.rt:165:5
 loop-again : tie.Need-loop-again Inv-loop μ-loop
-loop-again c = 
+loop-again c =
     let a = c .before .before .before .before .before .before .before .before .before .before .before .before .before .before .before .before .before .before .before .before .before .before .before .before .before .before .before .before .before .before .args in
     let loop = c .before .before .before .before .before .before .before .before .before .before .before .before .before .before .before .before .before .before .before .before .before .before .loop in
     let on = read-on (tokensOf (now (a .tokens))) (now (a .names)) _ (loop .inv) (c .before .before .before .before .before .before .before .before .before .before .before .before .before .before .before .before .before .before .before .before .before .token-at .ensures) (c .before .before .before .before .before .before .before .before .before .before .before .before .before .before .before .before .before .before .before .if1 .left) _ refl _ (c .before .before .before .before .before .before .before .before .before .before .before .before .before .parse-function .ensures .1) _ _ _

@@ -36,7 +36,7 @@ enum-known-h c = search needs
 
 -- src/lib.rt:114:19
 build-requires : tie.Need-build-requires
-build-requires c κs = 
+build-requires c κs =
     let a = c .before .before .before .before .before .before .before .before .before .before .before .before .before .before .before .before .before .before .before .args in
     let parse-header = c .before .before .before .before .before .before .before .before .before .before .parse-header in
     let h = c .before .before .before .before .before .before .h in
@@ -52,7 +52,7 @@ enum-known-b c = search needs
 
 -- src/lib.rt:127:21
 put-row-requires : tie.Need-put-row-requires
-put-row-requires c κs = 
+put-row-requires c κs =
     let a = c .before .before .before .before .before .before .before .before .before .before .before .before .before .before .before .before .before .before .before .before .before .before .before .before .before .before .before .before .before .before .before .before .args in
     let parse-header = c .before .before .before .before .before .before .before .before .before .before .before .before .before .before .before .before .before .before .before .before .before .before .before .parse-header in
     let h = c .before .before .before .before .before .before .before .before .before .before .before .before .before .before .before .before .before .before .before .h in
@@ -67,7 +67,7 @@ types-after-requires c κs = omega (arith, c .before .before .before .before .be
 
 -- src/lib.rt:128:74
 counts-after-requires : tie.Need-counts-after-requires
-counts-after-requires c κs = 
+counts-after-requires c κs =
     let a = c .before .before .before .before .before .before .before .before .before .before .before .before .before .before .before .before .before .before .before .before .before .before .before .before .before .before .before .before .before .before .before .before .before .before .before .before .args in
     let parse-header = c .before .before .before .before .before .before .before .before .before .before .before .before .before .before .before .before .before .before .before .before .before .before .before .before .before .before .before .parse-header in
     let h = c .before .before .before .before .before .before .before .before .before .before .before .before .before .before .before .before .before .before .before .before .before .before .before .h in
@@ -106,7 +106,7 @@ same-length-6 c = search needs
 
 -- src/lib.rt:86:1
 returns-2 : tie.Need-returns-2
-returns-2 c = 
+returns-2 c =
     let a = c .before .before .before .before .before .before .before .before .before .before .before .before .before .before .before .before .before .before .before .before .before .before .before .before .before .before .before .before .before .before .before .args in
     let parse-header = c .before .before .before .before .before .before .before .before .before .before .before .before .before .before .before .before .before .before .before .before .before .before .parse-header in
     let h = c .before .before .before .before .before .before .before .before .before .before .before .before .before .before .before .before .before .before .h in
@@ -134,14 +134,15 @@ same-length-11 c = search needs
 
 -- src/lib.rt:86:1
 returns-3 : tie.Need-returns-3
-returns-3 c = 
+returns-3 c =
     let a = c .before .before .before .before .before .before .before .before .before .before .before .before .before .before .before .before .before .before .before .before .before .before .before .before .before .before .before .before .before .before .before .before .before .before .before .before .before .args in
     let parse-header = c .before .before .before .before .before .before .before .before .before .before .before .before .before .before .before .before .before .before .before .before .before .before .before .before .before .before .before .before .parse-header in
     let h = c .before .before .before .before .before .before .before .before .before .before .before .before .before .before .before .before .before .before .before .before .before .before .before .before .h in
     let build = c .before .before .before .before .before .before .before .before .before .before .before .before .before .before .before .before .before .build in
-    let b = c .before .before .before .before .before .before .before .b in
-    (answered (tokensOf (now (a .tokens))) (now (a .names)) (a .at) (a .types) (a .n) (now (a .functions)) (h .given .0 .0) (sym (h .given .1) ∙ parse-header .ensures .0) (c .before .before .before .before .before .before .before .before .before .before .before .before .before .before .before .before .before .before .before .before .before .before .before .before .before .before .before .before .before .before .before .before .before .before .before .before .before .pre .0) _ (parse-header .ensures .1) (b .given .0 .0) (sym (b .given .1) ∙ build .ensures .0) (now (a .items)) _ (now (a .arguments)) _ (now (a .blocks)) _ (now (a .predecessors)) _ (build .ensures .1) (c .before .before .before .before .before .before .before .before .before .before .before .before .before .before .before .before .before .before .before .before .before .before .before .before .before .before .before .before .before .before .before .before .before .before .before .before .before .pre .3) _ (c .before .before .before .before .put-row .ensures) _ _ (c .before .types-after .ensures) (c .counts-after .ensures),
-    held-whole (tokensOf (now (a .tokens))) (now (a .names)) (a .at) (a .types) (a .n) (now (a .functions)) (h .given .0 .0) (sym (h .given .1) ∙ parse-header .ensures .0) (c .before .before .before .before .before .before .before .before .before .before .before .before .before .before .before .before .before .before .before .before .before .before .before .before .before .before .before .before .before .before .before .before .before .before .before .before .before .pre .0) _ (parse-header .ensures .1) (b .given .0 .0) (sym (b .given .1) ∙ build .ensures .0) (now (a .items)) _ (now (a .arguments)) _ (now (a .blocks)) _ (now (a .predecessors)) _ (build .ensures .1) (c .before .before .before .before .before .before .before .before .before .before .before .before .before .before .before .before .before .before .before .before .before .before .before .before .before .before .before .before .before .before .before .before .before .before .before .before .before .pre .3) _ (c .before .before .before .before .put-row .ensures))
+    let b = c .before .before .before .before .before .before .before .b in (
+      answered (tokensOf (now (a .tokens))) (now (a .names)) (a .at) (a .types) (a .n) (now (a .functions)) (h .given .0 .0) (sym (h .given .1) ∙ parse-header .ensures .0) (c .before .before .before .before .before .before .before .before .before .before .before .before .before .before .before .before .before .before .before .before .before .before .before .before .before .before .before .before .before .before .before .before .before .before .before .before .before .pre .0) _ (parse-header .ensures .1) (b .given .0 .0) (sym (b .given .1) ∙ build .ensures .0) (now (a .items)) _ (now (a .arguments)) _ (now (a .blocks)) _ (now (a .predecessors)) _ (build .ensures .1) (c .before .before .before .before .before .before .before .before .before .before .before .before .before .before .before .before .before .before .before .before .before .before .before .before .before .before .before .before .before .before .before .before .before .before .before .before .before .pre .3) _ (c .before .before .before .before .put-row .ensures) _ _ (c .before .types-after .ensures) (c .counts-after .ensures),
+      held-whole (tokensOf (now (a .tokens))) (now (a .names)) (a .at) (a .types) (a .n) (now (a .functions)) (h .given .0 .0) (sym (h .given .1) ∙ parse-header .ensures .0) (c .before .before .before .before .before .before .before .before .before .before .before .before .before .before .before .before .before .before .before .before .before .before .before .before .before .before .before .before .before .before .before .before .before .before .before .before .before .pre .0) _ (parse-header .ensures .1) (b .given .0 .0) (sym (b .given .1) ∙ build .ensures .0) (now (a .items)) _ (now (a .arguments)) _ (now (a .blocks)) _ (now (a .predecessors)) _ (build .ensures .1) (c .before .before .before .before .before .before .before .before .before .before .before .before .before .before .before .before .before .before .before .before .before .before .before .before .before .before .before .before .before .before .before .before .before .before .before .before .before .pre .3) _ (c .before .before .before .before .put-row .ensures),
+    )
 
 pub parse-function-spec : {M : Type 1} → statement M
 parse-function-spec =

@@ -1,71 +1,78 @@
-use borrow.Author.Tests.{lt-ltb, le-ltb, le-leb, lt-leb, eq-eqb, ne-eqb}
+-- A block that has no operation is refused, and any other is closed.
+use borrow.Author.Tests.{eq-eqb, ne-eqb}
 use native.Mathlib.Omega.{arith}
-use native.Mathlib.Numerals.{add-one}
-use Prim.Native.Nat.{ℕ, suc, _+_, _-_, _*_, _≤_, _<_}
-use mathlib.Core.Path.{_≡_, refl, sym, ap, _∙_}
-use mathlib.Core.Logic.{⊎-elim}
-use mathlib.Core.List.{List, [], _∷_, _++_}
-use mathlib.Core.Bool.{Bool, true, false}
-use lib.ListN.{length, drop, take, getD}
-use lib.Seq.{drop-cons}
-use denote.Ref.{now}
+use Prim.Native.Nat.{_-_}
+use mathlib.Core.Path.{refl}
 use borrow.Author.Needs.{needs}
 use Rattle.utils.specs.Bytes.{pick}
-use Rattle.link.specs.Steps.{addedD, addedCells, countedBy, putGoes}
+use Rattle.link.specs.Steps.{addedD, addedCells}
 use Rattle.link.proofs.close.add_block.Statement.{statement}
 use Rattle.link.proofs.close.add_block.Tie as tie
-use Rattle.link.proofs.close.add_block.Reads as reads
-use Rattle.link.proofs.close.add_block.Lts as lts
-use Rattle.link.proofs.close.close_block.Reads as close-block-reads
 
--- src/close.rt:93:9
 returns : tie.Need-returns
 unfolding addedD addedCells pick
-returns c = rw (eq-eqb _ _ (c .if1 .taken)) (refl, refl)
+returns c =
+    let if1 = c .if1 in
+    rw (eq-eqb _ _ (if1 .taken)) (refl, refl)
 
--- src/close.rt:95:76
 mul-close-block : tie.Need-mul-close-block
 mul-close-block c =
+<<<<<<< HEAD
     let few = c .before .before .before .before .before .pre .6 (omega arith) in
+=======
+    let pre = c .before .before .before .before .before .pre in
+    let few = pre .6 (omega arith) in
+>>>>>>> b8382ba6556e3bae4a75d963416c15645e6eaabe
     omega arith
 
--- src/close.rt:95:11
 close-block-requires : tie.Need-close-block-requires
 close-block-requires c κs =
+<<<<<<< HEAD
     let few = c .before .before .before .before .before .pre .6 (omega arith) in
+=======
+    let pre = c .before .before .before .before .before .pre in
+    let few = pre .6 (omega arith) in
+>>>>>>> b8382ba6556e3bae4a75d963416c15645e6eaabe
     (omega arith, omega arith, omega arith, omega arith, omega arith, omega arith)
 
--- src/close.rt:96:23
 enum-known-e : tie.Need-enum-known-e
 enum-known-e c = search needs
 
--- src/close.rt:97:47
 enum-told : tie.Need-enum-told
 enum-told c = search needs
 
--- src/close.rt:97:47
 add-t17 : tie.Need-add-t17
 add-t17 c =
+<<<<<<< HEAD
     let few = c .before .before .before .before .before .before .before .before .before .before .pre .6 (omega arith) in
+=======
+    let back8 = c .before .before .before .before .before .before .before .before in
+    let pre = back8 .before .before .pre in
+    let few = pre .6 (omega arith) in
+>>>>>>> b8382ba6556e3bae4a75d963416c15645e6eaabe
     omega arith
 
--- src/close.rt:75:1
 same-length : tie.Need-same-length
 same-length c = search needs
 
--- src/close.rt:75:1
 returns-2 : tie.Need-returns-2
 unfolding addedD addedCells pick
-returns-2 c = rw (ne-eqb _ _ (c .before .before .before .before .before .before .before .if1 .left), ← c .before .before .before .before .before .close-block .ensures .0, c .before .e .given .1) (refl, rw (c .before .e .given .1) at (c .before .before .before .before .before .close-block .ensures .1))
+returns-2 c =
+    let if1 = c .before .before .before .before .before .before .before .if1 in
+    let close-block = c .before .before .before .before .before .close-block in
+    let e = c .before .e in
+    rw (ne-eqb _ _ (if1 .left), ← close-block .ensures .0, e .given .1) (refl, rw (e .given .1) at (close-block .ensures .1))
 
--- src/close.rt:75:1
 same-length-2 : tie.Need-same-length-2
 same-length-2 c = search needs
 
--- src/close.rt:75:1
 returns-3 : tie.Need-returns-3
 unfolding addedD addedCells pick
-returns-3 c = rw (ne-eqb _ _ (c .before .before .before .before .before .before .if1 .left), ← c .before .before .before .before .close-block .ensures .0, c .enum-told .given .1) (refl, rw (c .enum-told .given .1) at (c .before .before .before .before .close-block .ensures .1))
+returns-3 c =
+    let if1 = c .before .before .before .before .before .before .if1 in
+    let close-block = c .before .before .before .before .close-block in
+    let enum-told = c .enum-told in
+    rw (ne-eqb _ _ (if1 .left), ← close-block .ensures .0, enum-told .given .1) (refl, rw (enum-told .given .1) at (close-block .ensures .1))
 
 pub add-block-spec : {M : Type 1} → statement M
 add-block-spec =

@@ -1,26 +1,18 @@
+-- The sources that are left, stored from here, give all of them (`Entered`).
 use borrow.Author.Needs.{needs}
-use borrow.Author.Tests.{lt-ltb, le-ltb, le-leb, lt-leb, eq-eqb, ne-eqb}
 use native.Mathlib.Omega.{arith}
-use native.Mathlib.Numerals.{add-one}
-use Prim.Native.Nat.{ℕ, suc, _+_, _-_, _*_, _≤_, _<_}
-use mathlib.Core.Path.{_≡_, refl, sym, ap, _∙_}
-use mathlib.Core.Logic.{⊎-elim}
-use mathlib.Core.List.{List, [], _∷_, _++_}
-use mathlib.Core.Bool.{Bool, true, false}
-use lib.ListN.{length, drop, take, getD}
-use lib.Seq.{drop-cons}
+use Prim.Native.Nat.{ℕ, _+_, _-_, _*_}
+use mathlib.Core.Path.{_≡_}
+use mathlib.Core.List.{[]}
 use denote.Ref.{now}
 use Rattle.parser.specs.Edges.{entering, predecessors}
 use Rattle.link.specs.Steps.{goesAt, linksAt}
 use native.Mathlib.Nat.{add-zero}
 use lib.ListN.{length-append}
-use Rattle.link.proofs.Entering.{Entered, entered-none, entered-more, entered-all, predecessors-more, predecessors-none}
+use Rattle.link.proofs.Entering.{Entered, entered-none, entered-more}
+use Rattle.link.proofs.Entering.{entered-all, predecessors-more, predecessors-none}
 use Rattle.link.proofs.enter.enter_edges.Statement.{statement}
 use Rattle.link.proofs.enter.enter_edges.Tie as tie
-use Rattle.link.proofs.enter.enter_edges.Reads as reads
-use Rattle.link.proofs.enter.enter_edges.Lts as lts
-use Rattle.link.proofs.enter.enter_from.Reads as enter-from-reads
-use Rattle.link.proofs.enter.next_source.Reads as next-source-reads
 
 abbrev Inv-loop : tie.InvT-loop
 Inv-loop blocks base n j sources₀ used here₀ rest₀ sources here rest =
@@ -31,52 +23,47 @@ abbrev μ-loop : tie.MeasureT-loop
 μ-loop blocks base n j sources₀ used here₀ rest₀ sources here rest =
     rest
 
--- src/enter.rt:67:5
 loop-holds : tie.Need-loop-holds Inv-loop μ-loop
 loop-holds c =
     let a = c .before .before .args in
     (0, omega arith, rw add-zero (entered-none (predecessors (a .j) 0 (linksAt (now (a .blocks)) (a .base) (a .n))) (a .used) (now (a .sources))))
 
--- src/enter.rt:68:13
 next-source-requires : tie.Need-next-source-requires Inv-loop μ-loop
 next-source-requires c κs = omega arith
 
--- src/enter.rt:69:26
 cast-at : tie.Need-cast-at Inv-loop μ-loop
 cast-at c = search needs
 
--- src/enter.rt:69:19
 add-at : tie.Need-add-at Inv-loop μ-loop
 add-at c = search needs
 
--- src/enter.rt:69:18
 mul-at : tie.Need-mul-at Inv-loop μ-loop
 mul-at c = search needs
 
--- src/enter.rt:70:9
 enter-from-requires : tie.Need-enter-from-requires Inv-loop μ-loop
 enter-from-requires c κs =
     let a = c .before .before .before .before .before .before .args in
-    let cells = now (a .blocks) in
-    let k = c .before .next-source .result in
+    let pre = c .before .before .before .before .before .before .pre in
     let loop = c .before .before .before .loop in
+    let loop-test = c .before .before .loop-test in
+    let next-source = c .before .next-source in
+    let cells = now (a .blocks) in
+    let k = next-source .result in
     let same : loop .inv .0 ≡ k = omega arith in
-    let more = predecessors-more cells (a .base) (a .j) k (loop .rest) (c .before .before .loop-test .taken) in
+    let more = predecessors-more cells (a .base) (a .j) k (loop .rest) (loop-test .taken) in
     let inv = rw same at (loop .inv .2) in
     let e = rw (more, length-append) at (inv .count) in
-    (omega arith, omega (arith, e, inv .long, c .before .before .before .before .before .before .pre .1))
+    (omega arith, omega (arith, e, inv .long, pre .1))
 
--- src/enter.rt:71:9
 sub-rest : tie.Need-sub-rest Inv-loop μ-loop
 sub-rest c = search needs
 
--- src/enter.rt:67:5
 loop-less : tie.Need-loop-less Inv-loop μ-loop
 loop-less c = omega arith
 
--- src/enter.rt:67:5
 loop-again : tie.Need-loop-again Inv-loop μ-loop
 loop-again c =
+<<<<<<< HEAD
     let a = c .before .before .before .before .before .before .before .before .before .args in
     let cells = now (a .blocks) in
     let k = c .before .before .before .before .next-source .result in
@@ -94,8 +81,31 @@ same-length c = omega (arith, c .before .loop .inv .2 .long)
 returns : tie.Need-returns Inv-loop μ-loop
 returns c =
     let a = c .before .before .before .before .args in
+=======
+    let back8 = c .before .before .before .before .before .before .before .before in
+    let a = back8 .before .args in
+    let loop = c .before .before .before .before .before .before .loop in
+    let loop-test = c .before .before .before .before .before .loop-test in
+    let next-source = c .before .before .before .before .next-source in
+    let enter-from = c .before .before .enter-from in
+>>>>>>> b8382ba6556e3bae4a75d963416c15645e6eaabe
     let cells = now (a .blocks) in
+    let k = next-source .result in
+    let same : loop .inv .0 ≡ k = omega arith in
+    let more = predecessors-more cells (a .base) (a .j) k (loop .rest) (loop-test .taken) in
+    let inv = rw same at (loop .inv .2) in
+    (k + 1, omega arith, entered-more (entering (a .j) k (goesAt cells ((a .base + k) * 8)) []) (predecessors (a .j) (k + 1) (linksAt cells (a .base + (k + 1)) (loop .rest - 1))) (enter-from .result) (enter-from .last .1 .1 .1 .1 .0) inv more (enter-from .ensures))
+
+same-length : tie.Need-same-length Inv-loop μ-loop
+same-length c =
     let loop = c .before .loop in
+    omega (arith, loop .inv .2 .long)
+
+returns : tie.Need-returns Inv-loop μ-loop
+returns c =
+    let a = c .before .before .before .before .args in
+    let loop = c .before .loop in
+    let cells = now (a .blocks) in
     entered-all (loop .inv .2) (predecessors-none cells (a .base + loop .inv .0) (a .j) (loop .inv .0) (loop .rest) (omega arith))
 
 pub enter-edges-spec : {M : Type 1} → statement M
