@@ -20,19 +20,6 @@ leading-labels-requires c κs =
     pre .items-there
 
 link-blocks-requires : tie.Need-link-blocks-requires
-<<<<<<< HEAD
-link-blocks-requires c κs = record {
-  items-there = c .before .before .before .before .before .before .pre .items-there;
-  few-items = c .before .before .before .before .before .before .pre .few-items;
-  few-labels = c .before .before .before .before .before .before .pre .few-labels;
-  labels-there = c .before .before .before .before .before .before .pre .labels-there;
-  labels-are = c .before .before .before .before .before .before .pre .labels-are;
-  before-are = c .before .leading-labels .ensures .0;
-  before-few = c .before .leading-labels .ensures .1;
-  few-blocks = c .before .before .before .before .before .before .pre .few-blocks;
-  blocks-there = c .before .before .before .before .before .before .pre .blocks-there;
-}
-=======
 link-blocks-requires c κs =
     let pre = c .before .before .before .before .before .before .pre in
     let leading-labels = c .before .leading-labels in
@@ -47,7 +34,6 @@ link-blocks-requires c κs =
       few-blocks = pre .few-blocks;
       blocks-there = pre .blocks-there;
     }
->>>>>>> b8382ba6556e3bae4a75d963416c15645e6eaabe
 
 enum-known-e : tie.Need-enum-known-e
 enum-known-e c = search needs
@@ -57,15 +43,11 @@ enum-known-n c = search needs
 
 cast-enter-all : tie.Need-cast-enter-all
 cast-enter-all c =
-<<<<<<< HEAD
-    let a = c .before .before .before .before .before .before .before .before .before .before .before .before .before .args in
-=======
     let back8 = c .before .before .before .before .before .before .before .before in
     let a = back8 .before .before .before .before .before .args in
     let pre = back8 .before .before .before .before .before .pre in
     let link-blocks = c .before .before .before .before .before .before .link-blocks in
     let n′ = c .before .before .n in
->>>>>>> b8382ba6556e3bae4a75d963416c15645e6eaabe
     let items = now (a .items) in
     let ps = partsAt items (a .first) (a .count) in
     let cells = link-blocks .last .1 .1 .1 .1 .1 .1 .1 .0 in
@@ -80,32 +62,17 @@ cast-enter-all c =
 
 enter-all-requires : tie.Need-enter-all-requires
 enter-all-requires c κs =
-<<<<<<< HEAD
-    let a = c .before .before .before .before .before .before .before .before .before .before .before .before .before .before .args in
-=======
     let back8 = c .before .before .before .before .before .before .before .before in
     let a = back8 .before .before .before .before .before .before .args in
     let pre = back8 .before .before .before .before .before .before .pre in
     let link-blocks = c .before .before .before .before .before .before .before .link-blocks in
     let n′ = c .before .before .before .n in
->>>>>>> b8382ba6556e3bae4a75d963416c15645e6eaabe
     let items = now (a .items) in
     let ps = partsAt items (a .first) (a .count) in
     let cells = link-blocks .last .1 .1 .1 .1 .1 .1 .1 .0 in
     let n = n′ .given .0 .0 in
     let done = sym (n′ .given .1) ∙ link-blocks .ensures .0 in
     let fives : FivesHeld (blocksOf ps) (a .first) (a .base) (now (a .blocks)) cells (N.Done n) =
-<<<<<<< HEAD
-    subst (λ (x : Numbered). FivesHeld (blocksOf ps) (a .first) (a .base) (now (a .blocks)) cells x) (c .before .before .before .n .given .1)
-    (c .before .before .before .before .before .before .before .link-blocks .ensures .1) in
-    let few = fits items (a .first) (a .count) (a .name) (a .base) (a .used) (now (a .blocks)) cells n done fives (c .before .before .before .before .before .before .before .before .before .before .before .before .before .before .pre .few-blocks)
-    (c .before .before .before .before .before .before .before .before .before .before .before .before .before .before .pre .blocks-there) (c .before .before .before .before .before .before .before .before .before .before .before .before .before .before .pre .few-before) in
-    let long = c .before .before .before .before .before .before .before .link-blocks .kept .1 .1 .1 .1 .1 .1 .1 .0 in (
-      omega (arith, long, few, c .before .before .before .before .before .before .before .before .before .before .before .before .before .before .pre .blocks-there),
-      entries-fit items (a .first) (a .count) (a .name) (a .base) (a .used) (now (a .blocks)) cells n done fives (c .before .before .before .before .before .before .before .before .before .before .before .before .before .before .pre .few-blocks)
-          (c .before .before .before .before .before .before .before .before .before .before .before .before .before .before .pre .blocks-there) (c .before .before .before .before .before .before .before .before .before .before .before .before .before .before .pre .few-before),
-      c .before .before .before .before .before .before .before .before .before .before .before .before .before .before .pre .predecessors-there,
-=======
     subst (λ (x : Numbered). FivesHeld (blocksOf ps) (a .first) (a .base) (now (a .blocks)) cells x) (n′ .given .1)
     (link-blocks .ensures .1) in
     let few = fits items (a .first) (a .count) (a .name) (a .base) (a .used) (now (a .blocks)) cells n done fives (pre .few-blocks)
@@ -115,7 +82,6 @@ enter-all-requires c κs =
       entries-fit items (a .first) (a .count) (a .name) (a .base) (a .used) (now (a .blocks)) cells n done fives (pre .few-blocks)
           (pre .blocks-there) (pre .few-before),
       pre .predecessors-there,
->>>>>>> b8382ba6556e3bae4a75d963416c15645e6eaabe
     )
 
 sub-t24 : tie.Need-sub-t24
@@ -126,14 +92,10 @@ same-length c = search needs
 
 returns : tie.Need-returns
 returns c =
-<<<<<<< HEAD
-    let a = c .before .before .before .before .before .before .before .before .before .before .before .before .args in
-=======
     let back8 = c .before .before .before .before .before .before .before .before in
     let a = back8 .before .before .before .before .args in
     let link-blocks = c .before .before .before .before .before .link-blocks in
     let e = c .before .e in
->>>>>>> b8382ba6556e3bae4a75d963416c15645e6eaabe
     let ps = partsAt (now (a .items)) (a .first) (a .count) in
     (link-refused ps (a .name) (e .given .0 .0) (sym (e .given .1) ∙ link-blocks .ensures .0), tt)
 
@@ -145,31 +107,18 @@ same-length-3 c = search needs
 
 returns-2 : tie.Need-returns-2
 returns-2 c =
-<<<<<<< HEAD
-    let a = c .before .before .before .before .before .before .before .before .before .before .before .before .before .before .before .before .before .before .before .args in
-=======
     let back8 = c .before .before .before .before .before .before .before .before in
     let a = back8 .before .before .before .before .before .before .before .before .before .before .before .args in
     let pre = back8 .before .before .before .before .before .before .before .before .before .before .before .pre in
     let link-blocks = back8 .before .before .before .before .link-blocks in
     let n′ = c .before .before .before .before .before .before .before .before .n in
     let enter-all = c .before .before .before .before .enter-all in
->>>>>>> b8382ba6556e3bae4a75d963416c15645e6eaabe
     let items = now (a .items) in
     let ps = partsAt items (a .first) (a .count) in
     let cells = link-blocks .last .1 .1 .1 .1 .1 .1 .1 .0 in
     let n = n′ .given .0 .0 in
     let done = sym (n′ .given .1) ∙ link-blocks .ensures .0 in
     let fives : FivesHeld (blocksOf ps) (a .first) (a .base) (now (a .blocks)) cells (N.Done n) =
-<<<<<<< HEAD
-    subst (λ (x : Numbered). FivesHeld (blocksOf ps) (a .first) (a .base) (now (a .blocks)) cells x) (c .before .before .before .before .before .before .before .before .n .given .1)
-    (c .before .before .before .before .before .before .before .before .before .before .before .before .link-blocks .ensures .1) in (
-      link-done items (a .first) (a .count) (a .name) (a .base) (a .used) (now (a .blocks)) cells n done fives (c .before .before .before .before .before .before .before .before .before .before .before .before .before .before .before .before .before .before .before .pre .few-blocks)
-          (c .before .before .before .before .before .before .before .before .before .before .before .before .before .before .before .before .before .before .before .pre .blocks-there) (c .before .before .before .before .before .before .before .before .before .before .before .before .before .before .before .before .before .before .before .pre .few-before) (c .before .before .before .before .enter-all .result) (c .before .before .before .before .enter-all .ensures .0),
-      link-held items (a .first) (a .count) (a .name) (a .base) (a .used) (now (a .blocks)) cells n done fives (c .before .before .before .before .before .before .before .before .before .before .before .before .before .before .before .before .before .before .before .pre .few-blocks)
-          (c .before .before .before .before .before .before .before .before .before .before .before .before .before .before .before .before .before .before .before .pre .blocks-there) (c .before .before .before .before .before .before .before .before .before .before .before .before .before .before .before .before .before .before .before .pre .few-before) (c .before .before .before .before .enter-all .last .0) (now (a .predecessors)) (c .before .before .before .before .enter-all .last .1 .1 .1 .0) (c .before .before .before .before .enter-all .ensures .1 .0)
-          (c .before .before .before .before .enter-all .ensures .1 .1),
-=======
     subst (λ (x : Numbered). FivesHeld (blocksOf ps) (a .first) (a .base) (now (a .blocks)) cells x) (n′ .given .1)
     (link-blocks .ensures .1) in (
       link-done items (a .first) (a .count) (a .name) (a .base) (a .used) (now (a .blocks)) cells n done fives (pre .few-blocks)
@@ -177,7 +126,6 @@ returns-2 c =
       link-held items (a .first) (a .count) (a .name) (a .base) (a .used) (now (a .blocks)) cells n done fives (pre .few-blocks)
           (pre .blocks-there) (pre .few-before) (enter-all .last .0) (now (a .predecessors)) (enter-all .last .1 .1 .1 .0) (enter-all .ensures .1 .0)
           (enter-all .ensures .1 .1),
->>>>>>> b8382ba6556e3bae4a75d963416c15645e6eaabe
     )
 
 pub link-spec : {M : Type 1} → statement M

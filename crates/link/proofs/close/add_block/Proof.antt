@@ -17,22 +17,14 @@ returns c =
 
 mul-close-block : tie.Need-mul-close-block
 mul-close-block c =
-<<<<<<< HEAD
-    let few = c .before .before .before .before .before .pre .6 (omega arith) in
-=======
     let pre = c .before .before .before .before .before .pre in
     let few = pre .6 (omega arith) in
->>>>>>> b8382ba6556e3bae4a75d963416c15645e6eaabe
     omega arith
 
 close-block-requires : tie.Need-close-block-requires
 close-block-requires c κs =
-<<<<<<< HEAD
-    let few = c .before .before .before .before .before .pre .6 (omega arith) in
-=======
     let pre = c .before .before .before .before .before .pre in
     let few = pre .6 (omega arith) in
->>>>>>> b8382ba6556e3bae4a75d963416c15645e6eaabe
     (omega arith, omega arith, omega arith, omega arith, omega arith, omega arith)
 
 enum-known-e : tie.Need-enum-known-e
@@ -43,13 +35,9 @@ enum-told c = search needs
 
 add-t17 : tie.Need-add-t17
 add-t17 c =
-<<<<<<< HEAD
-    let few = c .before .before .before .before .before .before .before .before .before .before .pre .6 (omega arith) in
-=======
     let back8 = c .before .before .before .before .before .before .before .before in
     let pre = back8 .before .before .pre in
     let few = pre .6 (omega arith) in
->>>>>>> b8382ba6556e3bae4a75d963416c15645e6eaabe
     omega arith
 
 same-length : tie.Need-same-length

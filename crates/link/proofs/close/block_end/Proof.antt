@@ -26,12 +26,6 @@ record-at-requires c κs = search needs
 
 returns : tie.Need-returns Inv-loop μ-loop
 returns c =
-<<<<<<< HEAD
-    let s = now (c .before .before .before .before .before .before .args .items) in
-    let end = c .before .before .before .before .before .before .args .end in
-    let i = c .before .before .before .before .loop .i in
-    (run-ends s i end (c .before .before .before .loop-test .taken) (c .before .before .record-at .result) (c .before .before .record-at .ensures) (c .if1 .taken) _ (c .before .before .before .before .loop .inv .1), omega arith)
-=======
     let args = c .before .before .before .before .before .before .args in
     let loop = c .before .before .before .before .loop in
     let loop-test = c .before .before .before .loop-test in
@@ -41,7 +35,6 @@ returns c =
     let end = args .end in
     let i = loop .i in
     (run-ends s i end (loop-test .taken) (record-at .result) (record-at .ensures) (if1 .taken) _ (loop .inv .1), omega arith)
->>>>>>> b8382ba6556e3bae4a75d963416c15645e6eaabe
 
 add-i : tie.Need-add-i Inv-loop μ-loop
 add-i c = search needs
@@ -51,12 +44,6 @@ loop-less c = omega arith
 
 loop-again : tie.Need-loop-again Inv-loop μ-loop
 loop-again c =
-<<<<<<< HEAD
-    let s = now (c .before .before .before .before .before .before .args .items) in
-    let end = c .before .before .before .before .before .before .args .end in
-    let i = c .before .before .before .before .loop .i in
-    (omega arith, run-on s i end (c .before .before .before .loop-test .taken) (c .before .before .record-at .result) (c .before .before .record-at .ensures) (c .if1 .left) _ (c .before .before .before .before .loop .inv .1))
-=======
     let args = c .before .before .before .before .before .before .args in
     let loop = c .before .before .before .before .loop in
     let loop-test = c .before .before .before .loop-test in
@@ -66,22 +53,15 @@ loop-again c =
     let end = args .end in
     let i = loop .i in
     (omega arith, run-on s i end (loop-test .taken) (record-at .result) (record-at .ensures) (if1 .left) _ (loop .inv .1))
->>>>>>> b8382ba6556e3bae4a75d963416c15645e6eaabe
 
 returns-2 : tie.Need-returns-2 Inv-loop μ-loop
 unfolding run
-<<<<<<< HEAD
-returns-2 c = let s = now (c .before .before .before .args .items) in
-    let end = c .before .before .before .args .end in
-    let i = c .before .loop .i in
-=======
 returns-2 c =
     let args = c .before .before .before .args in
     let loop = c .before .loop in
     let s = now (args .items) in
     let end = args .end in
     let i = loop .i in
->>>>>>> b8382ba6556e3bae4a75d963416c15645e6eaabe
     let none = parts-none s i (end - i) (omega arith) in
     let e = rw none at (loop .inv .1) in
     (omega arith, omega arith)

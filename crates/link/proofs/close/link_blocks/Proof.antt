@@ -59,17 +59,6 @@ add-block-requires c κs =
     let all = blocksOf ps in
     let end = a .first + a .count in
     let names = take (a .labelled) (now (a .labels)) in
-<<<<<<< HEAD
-    let same = same-place ps (a .before) names (c .before .before .before .before .before .before .before .pre .before-are) (c .before .before .before .before .before .before .before .pre .labels-are) in
-    let stop = c .before .block-end .result in
-    let ends = c .before .block-end .ensures .0 in (
-      omega (arith, ends),
-      omega (arith, c .before .block-end .ensures .1, c .before .before .before .before .before .before .before .pre .few-items),
-      omega (arith, c .before .block-end .ensures .1, c .before .before .before .before .before .before .before .pre .items-there),
-      c .before .before .before .before .before .before .before .pre .few-labels,
-      c .before .before .before .before .before .before .before .pre .labels-there,
-      omega (arith, loop .inv .left .long, c .before .before .before .before .before .before .before .pre .blocks-there),
-=======
     let same = same-place ps (a .before) names (pre .before-are) (pre .labels-are) in
     let stop = block-end .result in
     let ends = block-end .ensures .0 in (
@@ -79,7 +68,6 @@ add-block-requires c κs =
       pre .few-labels,
       pre .labels-there,
       omega (arith, loop .inv .left .long, pre .blocks-there),
->>>>>>> b8382ba6556e3bae4a75d963416c15645e6eaabe
       cut-room items all (a .name) (a .first) end (a .base) (now (a .blocks)) (loop .blocks) (loop .from) (loop .k) (loop .inv)
           stop ends (a .before) names same,
     )
@@ -95,9 +83,6 @@ same-length c =
 
 returns : tie.Need-returns Inv-loop μ-loop
 returns c =
-<<<<<<< HEAD
-    let a = c .before .before .before .before .before .before .before .before .before .before .before .before .before .args in
-=======
     let back8 = c .before .before .before .before .before .before .before .before in
     let a = back8 .before .before .before .before .before .args in
     let pre = back8 .before .before .before .before .before .pre in
@@ -106,27 +91,17 @@ returns c =
     let block-end = c .before .before .before .before .before .before .before .block-end in
     let add-block = c .before .before .before .before .before .add-block in
     let e′ = c .before .e in
->>>>>>> b8382ba6556e3bae4a75d963416c15645e6eaabe
     let items = now (a .items) in
     let ps = partsAt items (a .first) (a .count) in
     let all = blocksOf ps in
     let end = a .first + a .count in
     let names = take (a .labelled) (now (a .labels)) in
-<<<<<<< HEAD
-    let same = same-place ps (a .before) names (c .before .before .before .before .before .before .before .before .before .before .before .before .before .pre .before-are) (c .before .before .before .before .before .before .before .before .before .before .before .before .before .pre .labels-are) in
-    let stop = c .before .before .before .before .before .before .before .block-end .result in
-    let ends = c .before .before .before .before .before .before .before .block-end .ensures .0 in
-    let e = c .before .e .given .0 .0 in
-    let is = added-is (a .before) names items (loop .from) stop (loop .k) (c .before .before .before .before .before .before .before .before .before .refuse .result) (refusal 22 (a .name) 0)
-    (c .before .before .before .before .before .add-block .result) (N.Refused e) (c .before .before .before .before .before .before .before .before .before .refuse .ensures) (c .before .before .before .before .before .add-block .ensures .0) (c .before .e .given .1) in
-=======
     let same = same-place ps (a .before) names (pre .before-are) (pre .labels-are) in
     let stop = block-end .result in
     let ends = block-end .ensures .0 in
     let e = e′ .given .0 .0 in
     let is = added-is (a .before) names items (loop .from) stop (loop .k) (refuse .result) (refusal 22 (a .name) 0)
     (add-block .result) (N.Refused e) (refuse .ensures) (add-block .ensures .0) (e′ .given .1) in
->>>>>>> b8382ba6556e3bae4a75d963416c15645e6eaabe
     let r = turn-refused items all (a .name) (a .first) end (a .base) (now (a .blocks)) (loop .blocks) (loop .from) (loop .k) (loop .inv)
     stop ends (a .before) names same e is in
     rw r (refl, tt)
@@ -136,9 +111,6 @@ enum-known-next c = search needs
 
 sub-t21 : tie.Need-sub-t21 Inv-loop μ-loop
 sub-t21 c =
-<<<<<<< HEAD
-    let a = c .before .before .before .before .before .before .before .before .before .before .before .before .before .before .args in
-=======
     let back8 = c .before .before .before .before .before .before .before .before in
     let a = back8 .before .before .before .before .before .before .args in
     let pre = back8 .before .before .before .before .before .before .pre in
@@ -147,27 +119,17 @@ sub-t21 c =
     let block-end = c .before .before .before .before .before .before .before .before .block-end in
     let add-block = c .before .before .before .before .before .before .add-block in
     let next′ = c .before .before .next in
->>>>>>> b8382ba6556e3bae4a75d963416c15645e6eaabe
     let items = now (a .items) in
     let ps = partsAt items (a .first) (a .count) in
     let all = blocksOf ps in
     let end = a .first + a .count in
     let names = take (a .labelled) (now (a .labels)) in
-<<<<<<< HEAD
-    let same = same-place ps (a .before) names (c .before .before .before .before .before .before .before .before .before .before .before .before .before .before .pre .before-are) (c .before .before .before .before .before .before .before .before .before .before .before .before .before .before .pre .labels-are) in
-    let stop = c .before .before .before .before .before .before .before .before .block-end .result in
-    let ends = c .before .before .before .before .before .before .before .before .block-end .ensures .0 in
-    let next = c .before .before .next .given .0 .0 in
-    let is = added-is (a .before) names items (loop .from) stop (loop .k) (c .before .before .before .before .before .before .before .before .before .before .refuse .result) (refusal 22 (a .name) 0)
-    (c .before .before .before .before .before .before .add-block .result) (N.Done next) (c .before .before .before .before .before .before .before .before .before .before .refuse .ensures) (c .before .before .before .before .before .before .add-block .ensures .0) (c .before .before .next .given .1) in
-=======
     let same = same-place ps (a .before) names (pre .before-are) (pre .labels-are) in
     let stop = block-end .result in
     let ends = block-end .ensures .0 in
     let next = next′ .given .0 .0 in
     let is = added-is (a .before) names items (loop .from) stop (loop .k) (refuse .result) (refusal 22 (a .name) 0)
     (add-block .result) (N.Done next) (refuse .ensures) (add-block .ensures .0) (next′ .given .1) in
->>>>>>> b8382ba6556e3bae4a75d963416c15645e6eaabe
     let d = turn-done items all (a .name) (a .first) end (a .base) (now (a .blocks)) (loop .blocks) (loop .from) (loop .k) (loop .inv)
     stop ends (a .before) names same next is in
     omega (arith, d .0, d .2 .above)
@@ -181,9 +143,6 @@ same-length-2 c =
 
 returns-2 : tie.Need-returns-2 Inv-loop μ-loop
 returns-2 c =
-<<<<<<< HEAD
-    let a = c .before .before .before .before .before .before .before .before .before .before .before .before .before .before .args in
-=======
     let back8 = c .before .before .before .before .before .before .before .before in
     let a = back8 .before .before .before .before .before .before .args in
     let pre = back8 .before .before .before .before .before .before .pre in
@@ -193,24 +152,11 @@ returns-2 c =
     let add-block = c .before .before .before .before .before .before .add-block in
     let next′ = c .before .before .next in
     let if1 = c .if1 in
->>>>>>> b8382ba6556e3bae4a75d963416c15645e6eaabe
     let items = now (a .items) in
     let ps = partsAt items (a .first) (a .count) in
     let all = blocksOf ps in
     let end = a .first + a .count in
     let names = take (a .labelled) (now (a .labels)) in
-<<<<<<< HEAD
-    let same = same-place ps (a .before) names (c .before .before .before .before .before .before .before .before .before .before .before .before .before .before .pre .before-are) (c .before .before .before .before .before .before .before .before .before .before .before .before .before .before .pre .labels-are) in
-    let stop = c .before .before .before .before .before .before .before .before .block-end .result in
-    let ends = c .before .before .before .before .before .before .before .before .block-end .ensures .0 in
-    let next = c .before .before .next .given .0 .0 in
-    let is = added-is (a .before) names items (loop .from) stop (loop .k) (c .before .before .before .before .before .before .before .before .before .before .refuse .result) (refusal 22 (a .name) 0)
-    (c .before .before .before .before .before .before .add-block .result) (N.Done next) (c .before .before .before .before .before .before .before .before .before .before .refuse .ensures) (c .before .before .before .before .before .before .add-block .ensures .0) (c .before .before .next .given .1) in
-    cut-end items all (a .name) (a .first) end (a .base) (now (a .blocks)) (loop .blocks) (loop .from) (loop .k) (loop .inv)
-    stop ends (a .before) names same next (c .before .before .before .before .before .before .add-block .last .1 .1 .1 .1 .1 .1 .1 .0) is (c .before .before .before .before .before .before .add-block .ensures .1) (c .if1 .taken)
-
--- src/close.rt:134:24
-=======
     let same = same-place ps (a .before) names (pre .before-are) (pre .labels-are) in
     let stop = block-end .result in
     let ends = block-end .ensures .0 in
@@ -220,7 +166,6 @@ returns-2 c =
     cut-end items all (a .name) (a .first) end (a .base) (now (a .blocks)) (loop .blocks) (loop .from) (loop .k) (loop .inv)
     stop ends (a .before) names same next (add-block .last .1 .1 .1 .1 .1 .1 .1 .0) is (add-block .ensures .1) (if1 .taken)
 
->>>>>>> b8382ba6556e3bae4a75d963416c15645e6eaabe
 add-from-2 : tie.Need-add-from-2 Inv-loop μ-loop
 add-from-2 c =
     let back8 = c .before .before .before .before .before .before .before .before in
@@ -230,32 +175,17 @@ add-from-2 c =
 
 loop-less : tie.Need-loop-less Inv-loop μ-loop
 loop-less c =
-<<<<<<< HEAD
-    let a = c .before .before .before .before .before .before .before .before .before .before .before .before .before .before .args in
-=======
     let back8 = c .before .before .before .before .before .before .before .before in
     let a = back8 .before .before .before .before .before .before .args in
     let pre = back8 .before .before .before .before .before .before .pre in
     let loop = back8 .before .loop in
     let block-end = c .before .before .before .before .before .before .before .before .block-end in
     let if1 = c .if1 in
->>>>>>> b8382ba6556e3bae4a75d963416c15645e6eaabe
     let items = now (a .items) in
     let ps = partsAt items (a .first) (a .count) in
     let all = blocksOf ps in
     let end = a .first + a .count in
     let names = take (a .labelled) (now (a .labels)) in
-<<<<<<< HEAD
-    let same = same-place ps (a .before) names (c .before .before .before .before .before .before .before .before .before .before .before .before .before .before .pre .before-are) (c .before .before .before .before .before .before .before .before .before .before .before .before .before .before .pre .labels-are) in
-    let stop = c .before .before .before .before .before .before .before .before .block-end .result in
-    let ends = c .before .before .before .before .before .before .before .before .block-end .ensures .0 in
-    omega (arith, ends, c .before .before .before .before .before .before .before .before .block-end .ensures .1, c .if1 .left)
-
--- src/close.rt:123:5
-loop-again : tie.Need-loop-again Inv-loop μ-loop
-loop-again c =
-    let a = c .before .before .before .before .before .before .before .before .before .before .before .before .before .before .args in
-=======
     let same = same-place ps (a .before) names (pre .before-are) (pre .labels-are) in
     let stop = block-end .result in
     let ends = block-end .ensures .0 in
@@ -272,23 +202,11 @@ loop-again c =
     let add-block = c .before .before .before .before .before .before .add-block in
     let next′ = c .before .before .next in
     let if1 = c .if1 in
->>>>>>> b8382ba6556e3bae4a75d963416c15645e6eaabe
     let items = now (a .items) in
     let ps = partsAt items (a .first) (a .count) in
     let all = blocksOf ps in
     let end = a .first + a .count in
     let names = take (a .labelled) (now (a .labels)) in
-<<<<<<< HEAD
-    let same = same-place ps (a .before) names (c .before .before .before .before .before .before .before .before .before .before .before .before .before .before .pre .before-are) (c .before .before .before .before .before .before .before .before .before .before .before .before .before .before .pre .labels-are) in
-    let stop = c .before .before .before .before .before .before .before .before .block-end .result in
-    let ends = c .before .before .before .before .before .before .before .before .block-end .ensures .0 in
-    let next = c .before .before .next .given .0 .0 in
-    let is = added-is (a .before) names items (loop .from) stop (loop .k) (c .before .before .before .before .before .before .before .before .before .before .refuse .result) (refusal 22 (a .name) 0)
-    (c .before .before .before .before .before .before .add-block .result) (N.Done next) (c .before .before .before .before .before .before .before .before .before .before .refuse .ensures) (c .before .before .before .before .before .before .add-block .ensures .0) (c .before .before .next .given .1) in
-    cut-on items all (a .name) (a .first) end (a .base) (now (a .blocks)) (loop .blocks) (loop .from) (loop .k) (loop .inv)
-    stop ends (a .before) names same next (c .before .before .before .before .before .before .add-block .last .1 .1 .1 .1 .1 .1 .1 .0) is (c .before .before .before .before .before .before .add-block .ensures .1)
-    (omega (arith, c .before .before .before .before .before .before .before .before .block-end .ensures .1, c .if1 .left))
-=======
     let same = same-place ps (a .before) names (pre .before-are) (pre .labels-are) in
     let stop = block-end .result in
     let ends = block-end .ensures .0 in
@@ -298,7 +216,6 @@ loop-again c =
     cut-on items all (a .name) (a .first) end (a .base) (now (a .blocks)) (loop .blocks) (loop .from) (loop .k) (loop .inv)
     stop ends (a .before) names same next (add-block .last .1 .1 .1 .1 .1 .1 .1 .0) is (add-block .ensures .1)
     (omega (arith, block-end .ensures .1, if1 .left))
->>>>>>> b8382ba6556e3bae4a75d963416c15645e6eaabe
 
 pub link-blocks-spec : {M : Type 1} → statement M
 link-blocks-spec =

@@ -61,12 +61,8 @@ enter-edges-requires c κs =
 
 sub-put-entries : tie.Need-sub-put-entries Inv-loop μ-loop
 sub-put-entries c =
-<<<<<<< HEAD
-    let a = c .before .before .before .before .before .before .before .before .before .before .args in
-=======
     let back8 = c .before .before .before .before .before .before .before .before in
     let a = back8 .before .before .args in
->>>>>>> b8382ba6556e3bae4a75d963416c15645e6eaabe
     let loop = c .before .before .before .before .before .before .before .loop in
     let loop-test = c .before .before .before .before .before .before .loop-test in
     let enter-edges = c .before .before .before .enter-edges in
@@ -80,13 +76,9 @@ sub-put-entries c =
 
 put-entries-requires : tie.Need-put-entries-requires Inv-loop μ-loop
 put-entries-requires c κs =
-<<<<<<< HEAD
-    let a = c .before .before .before .before .before .before .before .before .before .before .args in
-=======
     let back8 = c .before .before .before .before .before .before .before .before in
     let a = back8 .before .before .args in
     let pre = back8 .before .before .pre in
->>>>>>> b8382ba6556e3bae4a75d963416c15645e6eaabe
     let loop = c .before .before .before .before .before .before .before .loop in
     let loop-test = c .before .before .before .before .before .before .loop-test in
     let enter-edges = c .before .before .before .enter-edges in
@@ -106,33 +98,21 @@ loop-less c = omega arith
 
 loop-again : tie.Need-loop-again Inv-loop μ-loop
 loop-again c =
-<<<<<<< HEAD
-    let a = c .before .before .before .before .before .before .before .before .before .before .before .before .before .args in
-    let loop = c .before .before .before .before .before .before .before .before .before .before .loop in
-=======
     let back8 = c .before .before .before .before .before .before .before .before in
     let a = back8 .before .before .before .before .before .args in
     let loop = back8 .before .before .loop in
     let loop-test = back8 .before .loop-test in
     let enter-edges = c .before .before .before .before .before .before .enter-edges in
     let put-entries = c .before .before .put-entries in
->>>>>>> b8382ba6556e3bae4a75d963416c15645e6eaabe
     let j = loop .j in
     let all = linksAt (now (a .blocks)) (a .base) (a .n) in
     let more = entries-more all j (a .n) (loop-test .taken) in
     let inv = loop .inv in
     let e = rw (more, length-append) at (inv .3 .count) in
-<<<<<<< HEAD
-    let es = rw (inv .2) at (c .before .before .before .before .before .before .enter-edges .ensures) in
-    let m = (a .base + j) * 8 + 5 in
-    let next = c .before .before .before .before .before .before .enter-edges .result in
-    let put = c .before .before .put-entries .ensures in
-=======
     let es = rw (inv .2) at (enter-edges .ensures) in
     let m = (a .base + j) * 8 + 5 in
     let next = enter-edges .result in
     let put = put-entries .ensures in
->>>>>>> b8382ba6556e3bae4a75d963416c15645e6eaabe
     let three = threeOf j (loop .here) (next - loop .here) in (
       omega arith,
       ap length put ∙ length-sets (loop .blocks) m three ∙ inv .1,

@@ -63,32 +63,12 @@ loop-less c = omega arith
 
 loop-again : tie.Need-loop-again Inv-loop μ-loop
 loop-again c =
-<<<<<<< HEAD
-    let a = c .before .before .before .before .before .before .before .before .before .args in
-    let cells = now (a .blocks) in
-    let k = c .before .before .before .before .next-source .result in
-    let loop = c .before .before .before .before .before .before .loop in
-    let same : loop .inv .0 ≡ k = omega arith in
-    let more = predecessors-more cells (a .base) (a .j) k (loop .rest) (c .before .before .before .before .before .loop-test .taken) in
-    let inv = rw same at (loop .inv .2) in
-    (k + 1, omega arith, entered-more (entering (a .j) k (goesAt cells ((a .base + k) * 8)) []) (predecessors (a .j) (k + 1) (linksAt cells (a .base + (k + 1)) (loop .rest - 1))) (c .before .before .enter-from .result) (c .before .before .enter-from .last .1 .1 .1 .1 .0) inv more (c .before .before .enter-from .ensures))
-
--- src/enter.rt:58:1
-same-length : tie.Need-same-length Inv-loop μ-loop
-same-length c = omega (arith, c .before .loop .inv .2 .long)
-
--- src/enter.rt:58:1
-returns : tie.Need-returns Inv-loop μ-loop
-returns c =
-    let a = c .before .before .before .before .args in
-=======
     let back8 = c .before .before .before .before .before .before .before .before in
     let a = back8 .before .args in
     let loop = c .before .before .before .before .before .before .loop in
     let loop-test = c .before .before .before .before .before .loop-test in
     let next-source = c .before .before .before .before .next-source in
     let enter-from = c .before .before .enter-from in
->>>>>>> b8382ba6556e3bae4a75d963416c15645e6eaabe
     let cells = now (a .blocks) in
     let k = next-source .result in
     let same : loop .inv .0 ≡ k = omega arith in

@@ -52,16 +52,12 @@ put-source-requires c κs =
 
 put-source-requires-2 : tie.Need-put-source-requires-2
 put-source-requires-2 c κs =
-<<<<<<< HEAD
-    let a = c .before .before .before .before .before .before .before .before .before .before .before .before .args in
-=======
     let back8 = c .before .before .before .before .before .before .before .before in
     let a = back8 .before .before .before .before .args in
     let pre = back8 .before .before .before .before .pre in
     let enters = c .before .before .before .before .before .before .before .enters in
     let enters2 = c .before .before .before .before .before .enters2 in
     let put-source = c .before .before .before .put-source in
->>>>>>> b8382ba6556e3bae4a75d963416c15645e6eaabe
     let cells = now (a .blocks) in
     let s = now (a .sources) in
     room-second cells (a .at) (a .j) (a .k) (a .used) s (enters .result) (enters2 .result) (enters .ensures) (enters2 .ensures)
@@ -72,16 +68,12 @@ same-length c = search needs
 
 returns : tie.Need-returns
 returns c =
-<<<<<<< HEAD
-    let a = c .before .before .before .before .before .before .before .before .before .before .before .before .before .before .before .args in
-=======
     let back8 = c .before .before .before .before .before .before .before .before in
     let a = back8 .before .before .before .before .before .before .before .args in
     let enters = back8 .before .before .enters in
     let enters2 = c .before .before .before .before .before .before .before .before .enters2 in
     let put-source = c .before .before .before .before .before .before .put-source in
     let put-source2 = c .before .before .put-source2 in
->>>>>>> b8382ba6556e3bae4a75d963416c15645e6eaabe
     let cells = now (a .blocks) in
     let s = now (a .sources) in
     two-sources cells (a .at) (a .j) (a .k) (a .used) s (enters .result) (enters2 .result) (enters .ensures) (enters2 .ensures)

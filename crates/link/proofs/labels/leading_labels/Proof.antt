@@ -30,13 +30,6 @@ record-at-requires c κs = search needs
 
 returns : tie.Need-returns Inv-loop μ-loop
 returns c =
-<<<<<<< HEAD
-    let s = now (c .before .before .before .before .before .before .args .items) in
-    let first = c .before .before .before .before .before .before .args .first in
-    let count = c .before .before .before .before .before .before .args .count in
-    let i = c .before .before .before .before .loop .i in
-    (leading-ends s first count i (c .before .before .before .loop-test .taken) (c .before .before .record-at .result) (c .before .before .record-at .ensures) (c .if1 .taken) _ (c .before .before .before .before .loop .inv .1), omega arith)
-=======
     let args = c .before .before .before .before .before .before .args in
     let loop = c .before .before .before .before .loop in
     let loop-test = c .before .before .before .loop-test in
@@ -47,7 +40,6 @@ returns c =
     let count = args .count in
     let i = loop .i in
     (leading-ends s first count i (loop-test .taken) (record-at .result) (record-at .ensures) (if1 .taken) _ (loop .inv .1), omega arith)
->>>>>>> b8382ba6556e3bae4a75d963416c15645e6eaabe
 
 add-i : tie.Need-add-i Inv-loop μ-loop
 add-i c = search needs
@@ -57,13 +49,6 @@ loop-less c = omega arith
 
 loop-again : tie.Need-loop-again Inv-loop μ-loop
 loop-again c =
-<<<<<<< HEAD
-    let s = now (c .before .before .before .before .before .before .args .items) in
-    let first = c .before .before .before .before .before .before .args .first in
-    let count = c .before .before .before .before .before .before .args .count in
-    let i = c .before .before .before .before .loop .i in
-    (omega arith, leading-on s first count i (c .before .before .before .loop-test .taken) (c .before .before .record-at .result) (c .before .before .record-at .ensures) (c .if1 .left) _ (c .before .before .before .before .loop .inv .1))
-=======
     let args = c .before .before .before .before .before .before .args in
     let loop = c .before .before .before .before .loop in
     let loop-test = c .before .before .before .loop-test in
@@ -74,16 +59,9 @@ loop-again c =
     let count = args .count in
     let i = loop .i in
     (omega arith, leading-on s first count i (loop-test .taken) (record-at .result) (record-at .ensures) (if1 .left) _ (loop .inv .1))
->>>>>>> b8382ba6556e3bae4a75d963416c15645e6eaabe
 
 returns-2 : tie.Need-returns-2 Inv-loop μ-loop
 unfolding leading
-<<<<<<< HEAD
-returns-2 c = let s = now (c .before .before .before .args .items) in
-    let first = c .before .before .before .args .first in
-    let count = c .before .before .before .args .count in
-    let i = c .before .loop .i in
-=======
 returns-2 c =
     let args = c .before .before .before .args in
     let loop = c .before .loop in
@@ -91,7 +69,6 @@ returns-2 c =
     let first = args .first in
     let count = args .count in
     let i = loop .i in
->>>>>>> b8382ba6556e3bae4a75d963416c15645e6eaabe
     let none = parts-none s (first + i) (count - i) (omega arith) in
     let e = rw none at (loop .inv .1) in
     (omega arith, omega arith)
