@@ -145,7 +145,8 @@ programThen f u = record { functions = f ∷ u .functions; end = u .end }
 abbrev pub knownOf : Header → Known
 knownOf h = record { name = h .name .0; type = h .type; signed = signature (h .ret) (h .formals) }
 
--- Functions up to the end token; `room` more are allowed.
+-- Functions up to the end token; `room` more are allowed. Without room the header is always refused, so that nothing
+-- follows it.
 unfoldable pub functionsD : List Tok → ℕ → List Known → ℕ → ℕ → Program
 functionsD ts zero known types at =
     look (tokenAt ts at) (λ kind next.

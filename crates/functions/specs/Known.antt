@@ -20,7 +20,7 @@ formalTypes (v ∷ vs) = typeCell (v .ty) ∷ formalTypes vs
 abbrev pub signature : Ty → List Variable → List ℕ
 signature ret formals = typeCell ret ∷ length formals ∷ formalTypes formals
 
--- a function's name, its function type, and that type's number
+-- a function's name, its function type's number, and that type
 pub record Known : Type 0 where
   pub name : ℕ
   pub type : ℕ

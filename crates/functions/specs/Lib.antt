@@ -9,3 +9,5 @@ pub mod Rows
 pub mod Heads
 -- the whole answer
 pub mod Answer
+-- texts with what they give: one table, one claim
+pub mod Cases

@@ -16,8 +16,8 @@ abbrev pub bit : Bool → ℕ
 bit true = 1
 bit false = 0
 
--- from block j on: its cells, where its items begin at `first` and its predecessors at `used`; `goes` are the successors
--- of these blocks, `all` those of all blocks
+-- from block j on: their cells, where the function's items begin at `first` and block j's predecessors at `used`; `goes`
+-- are the successors of these blocks, `all` those of all blocks
 unfoldable pub blockCells : ℕ → ℕ → ℕ → List (List ℕ) → List (List ℕ) → List Block → List ℕ
 blockCells first used j all goes [] = []
 blockCells first used j all [] (b ∷ bs) = []
@@ -26,12 +26,12 @@ blockCells first used j all (s ∷ ss) (b ∷ bs) =
     ∷ used ∷ length (predecessors j 0 all) ∷ bit (isDead j all)
     ∷ blockCells first (used + length (predecessors j 0 all)) (j + 1) all ss bs
 
--- the predecessors of n blocks from block j on, one block's after the other's
+-- the predecessors of these blocks, from block j on, one block's after the other's
 unfoldable pub predecessorCells : ℕ → List (List ℕ) → List Block → List ℕ
 predecessorCells j all [] = []
 predecessorCells j all (b ∷ bs) = predecessors j 0 all ++ predecessorCells (j + 1) all bs
 
--- how many blocks and predecessors there are, or the refusal
+-- how many blocks and predecessors there are, or the refusal; `name` is the function's name token
 abbrev pub linkedBy : List Block → Resolved → Linked
 linkedBy bs fine = L.Done (length bs) (length (predecessorCells 0 (successors bs bs) bs))
 linkedBy bs (refused e) = L.Refused e

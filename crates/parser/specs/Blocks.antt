@@ -5,6 +5,8 @@ use mathlib.Core.List.{List, [], _∷_, _++_}
 use Rattle.pieces.specs.declared.Identifier.{Identifier}
 use Rattle.parser.specs.Body.{Item, label, plain, call, callInto, operationToken, targets}
 
+-- A label's name and a block's number are both numbers here: `labels` and `goes` hold names, and `places` and all that
+-- stands behind it (Edges.antt) holds block numbers.
 pub data Part : Type 0 where
   name : ℕ → Part
   operation : ℕ → List ℕ → Part

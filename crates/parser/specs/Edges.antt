@@ -59,7 +59,8 @@ unfoldable pub successors : List Block → List Block → List (List ℕ)
 successors all [] = []
 successors all (b ∷ bs) = places all (b .goes) ∷ successors all bs
 
--- Predecessors are listed in order of the edges: the sources, from k on, of the edges that enter block j.
+-- Predecessors are listed in order of the edges: block k once for each of its edges that enters block j, before `more`;
+-- and so from block k on.
 unfoldable pub entering : ℕ → ℕ → List ℕ → List ℕ → List ℕ
 entering j k [] more = more
 entering j k (t ∷ ts) more = let rest = entering j k ts more in pick (eqb t j) (k ∷ rest) rest

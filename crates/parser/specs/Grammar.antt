@@ -1,5 +1,4 @@
--- The grammar of one operation (document 01, "Functions, labels, edges"; parse_instruction and parse_type of
--- parser.rs), over the tokens and an index.
+-- The grammar of one operation (parse_instruction and parse_type of parser.rs), over the tokens and an index.
 use Prim.Native.Nat.{ℕ}
 use mathlib.Core.List.{List}
 use mathlib.Core.Bool.{Bool, true, false}
@@ -21,7 +20,8 @@ use Rattle.parser.specs.declared.Defined.the-variants as D
 use Rattle.parser.specs.declared.Parsed.{Parsed}
 use Rattle.parser.specs.declared.Parsed.the-variants as P
 
--- The kinds of tokens are those of `kindOf`: 1 local, 2 global, 3 label, 24 `=`, 29 `:`, 30 `;`, and the words.
+-- The kinds of tokens are those of `kindOf` (crates/pieces/specs/Tokens.antt): 1 local, 2 global, 3 label, 4 integer,
+-- 5 to 23 and 32 to 37 the words, 24 `=`, 25 `(`, 26 `)`, 27 `{`, 28 `}`, 29 `:`, 30 `;`, 31 `,`, 38 the end.
 
 -- 't' expected (5).
 unfoldable pub consumeD : List Tok → ℕ → ℕ → Consumed

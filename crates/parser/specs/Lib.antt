@@ -13,7 +13,5 @@ pub mod Body
 pub mod Blocks
 -- the blocks in order: empty ones, labels resolved, edges, dead marks
 pub mod Edges
--- bodies with what they give: one table, one claim
-pub mod Cases
 -- two readings of one function: what is related to what
 pub mod Moved

@@ -68,7 +68,8 @@ formalD ts full at =
     thenType D.Refused (typeD ts at2) (λ t at3.
     D.At (variable x t) at3))))
 
--- Formals, more after a comma, to the closing parenthesis.
+-- Formals, more after a comma, to the closing parenthesis. Without room the formal is always refused, so that nothing
+-- follows it.
 unfoldable pub formalsFromD : List Tok → ℕ → ℕ → Variables
 formalsFromD ts zero at = thenDefined stopped (formalD ts true at) (λ v at1. stopped (refusal 36 at 0))
 formalsFromD ts (suc room) at =

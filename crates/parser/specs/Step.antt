@@ -1,5 +1,6 @@
 -- Steps: each looks at tokens, and gives what it found with the index to go on at, or a refusal. A refusal holds its
--- number, a token's index and what its message needs, never a line or a place: those are looked up once, at the end.
+-- number, a token's index and what its message needs besides the token, never a line or a place: those are looked up with
+-- the token, by whoever answers. (13 and a header's 15 spell the name of their own token.)
 use Prim.Native.Nat.{ℕ}
 use Rattle.pieces.specs.declared.Identifier.{Identifier}
 use Rattle.lexer.specs.declared.TokenAt.{TokenAt}

@@ -1,0 +1,140 @@
+-- Document 01's cases that are decided before typing, and the edges of each rule: one table with one claim, shown by
+-- computation. A row is a text and what it gives: 0 and its functions, or a refusal's number, token and name.
+use Prim.Native.Nat.{ℕ, _+_}
+use Prim.Native.String.{String}
+use mathlib.Core.Path.{_≡_, refl}
+use mathlib.Core.List.{List, [], _∷_, _++_}
+use mathlib.Core.Bool.{Bool, true, false}
+use lib.ListN.{length}
+use Rattle.utils.specs.Bytes.{pick, bytes, sameBytes}
+use Rattle.lexer.specs.Cases as lexing
+use Rattle.lexer.specs.Read.{readOf}
+use Rattle.lexer.specs.Decoded.{Tok, tokensOf, tokenAt}
+use Rattle.parser.specs.Step.{look, thenAt, thenNamed, thenType, thenDefined}
+use Rattle.parser.specs.Grammar.{consumeD, namedD, typeD, printD, retD, jumpD, branchD, nopD, definedD, isConstant}
+use Rattle.parser.specs.Grammar.{constD, unaryD, binaryD, isUnary, isBinary, valueD, definitionD, instructionD}
+use Rattle.parser.specs.Runs.{typeCell, formalD, formalsFromD, formalsD, argumentsD, callD}
+use Rattle.parser.specs.Labels.{has, labelledD}
+use Rattle.parser.specs.Body.{thenItem, calledItem, parsedItem, itemD, behind, closes, bodyD, lacksRet, closedFrom}
+use Rattle.parser.specs.Blocks.{Block, partsOf, blocksFrom, blocksAfter}
+use Rattle.parser.specs.Edges.{placeOf, thenPlace, resolveLabels, resolveFrom, places, successors, entering}
+use Rattle.parser.specs.Edges.{predecessors, isDead}
+use Rattle.parser.specs.declared.Consumed.{Consumed}
+use Rattle.parser.specs.declared.Consumed.the-variants as C
+use Rattle.link.specs.Cells.{bit}
+use Rattle.functions.specs.Known.{formalTypes, typeNumber, typesAfter, expectedType}
+use Rattle.functions.specs.Functions.{thenHeader, thenFormals, thenEntered, optionalFormals, optionalType, enteredD}
+use Rattle.functions.specs.Functions.{signatureD, headerD, thenBuilt, builtD, thenFunction, functionD, functionsD}
+use Rattle.functions.specs.Functions.{Function, Program, blocksIn, programD}
+use Rattle.functions.specs.Answer.{edgesIn}
+
+-- To unfold this is to unfold the whole definition.
+unfoldable pub opened : ℕ
+unfolding
+    lexing.opened tokensOf tokenAt look thenAt thenNamed thenType thenDefined
+    consumeD namedD typeD printD retD jumpD branchD nopD definedD isConstant constD unaryD binaryD isUnary isBinary
+    valueD definitionD instructionD formalD formalsFromD formalsD argumentsD callD has labelledD
+    thenItem calledItem parsedItem itemD behind closes bodyD lacksRet closedFrom partsOf blocksFrom blocksAfter
+    placeOf thenPlace resolveLabels resolveFrom places successors entering predecessors isDead
+    formalTypes typeNumber typesAfter expectedType thenHeader thenFormals thenEntered optionalFormals optionalType enteredD
+    signatureD headerD thenBuilt builtD thenFunction functionD functionsD
+opened = 0
+
+-- a block as numbers: its operations, its successors and their count, its predecessors and their count, its dead mark
+abbrev blockNumbers : ℕ → List Block → List (List ℕ) → List (List ℕ) → List ℕ
+blockNumbers j [] own all = []
+blockNumbers j (b ∷ bs) [] all = []
+blockNumbers j (b ∷ bs) (t ∷ ts) all =
+    b .operations ∷ (length t ∷ (t ++ (length (predecessors j 0 all) ∷ (predecessors j 0 all
+    ++ (bit (isDead j all) ∷ blockNumbers (j + 1) bs ts all)))))
+
+-- a function: its name token, its result type, its function type's number, how many formals, how many blocks, and these
+abbrev functionNumbers : Function → List ℕ
+functionNumbers f =
+    let is = f .items in
+    f .token ∷ typeCell (f .head .ret) ∷ f .head .type ∷ length (f .head .formals) ∷ length (blocksIn is)
+    ∷ blockNumbers 0 (blocksIn is) (edgesIn is) (edgesIn is)
+
+abbrev allNumbers : List Function → List ℕ
+allNumbers [] = []
+allNumbers (f ∷ fs) = functionNumbers f ++ allNumbers fs
+
+abbrev numbers : List Function → Consumed → List ℕ
+numbers fs (C.At i) = 0 ∷ length fs ∷ allNumbers fs
+numbers fs (C.Refused e) = e .number ∷ e .token ∷ e .name .0 ∷ []
+
+program : String → Program
+program s = programD (tokensOf (readOf (bytes s) .tokens))
+
+pub record Case : Type 0 where
+  pub text : String
+  pub gives : List ℕ
+
+abbrev case : String → List ℕ → Case
+case s g = record { text = s; gives = g }
+
+unfoldable cases : List Case
+cases =
+    -- document 01's
+    case "" (0 ∷ 0 ∷ [])
+    ∷ case "@f { nop; }" (0 ∷ 1 ∷ 0 ∷ 3 ∷ 0 ∷ 0 ∷ 1 ∷ 2 ∷ 0 ∷ 0 ∷ 0 ∷ [])
+    ∷ case "@f { }" (22 ∷ 0 ∷ 0 ∷ [])
+    ∷ case "@f { .a: .b: nop; }" (0 ∷ 1 ∷ 0 ∷ 3 ∷ 0 ∷ 0 ∷ 1 ∷ 2 ∷ 0 ∷ 0 ∷ 0 ∷ [])
+    ∷ case "@f { nop; .a: .b: nop; }" (22 ∷ 0 ∷ 0 ∷ [])
+    ∷ case "@f { ret; nop; }" (12 ∷ 4 ∷ 0 ∷ [])
+    ∷ case "@f { .a: br q .a .a; }" (0 ∷ 1 ∷ 0 ∷ 3 ∷ 0 ∷ 0 ∷ 1 ∷ 1 ∷ 2 ∷ 0 ∷ 0 ∷ 2 ∷ 0 ∷ 0 ∷ 0 ∷ [])
+    ∷ case "@f { x: int = call @g x; } @g(a: int): int { ret a; }"
+    (0 ∷ 2 ∷ 0 ∷ 3 ∷ 0 ∷ 0 ∷ 1 ∷ 2 ∷ 0 ∷ 0 ∷ 0 ∷ 11 ∷ 1 ∷ 1 ∷ 1 ∷ 1 ∷ 1 ∷ 0 ∷ 0 ∷ 0 ∷ [])
+    ∷ case "@f { x: int = const 2147483648; }" (10 ∷ 6 ∷ 0 ∷ [])
+    ∷ case "@f { nop 2147483648; }" (0 ∷ 1 ∷ 0 ∷ 3 ∷ 0 ∷ 0 ∷ 1 ∷ 2 ∷ 0 ∷ 0 ∷ 0 ∷ [])
+    ∷ case "@f { nop; } @f { nop; }"
+    (0 ∷ 2 ∷ 0 ∷ 3 ∷ 0 ∷ 0 ∷ 1 ∷ 2 ∷ 0 ∷ 0 ∷ 0 ∷ 5 ∷ 3 ∷ 0 ∷ 0 ∷ 1 ∷ 2 ∷ 0 ∷ 0 ∷ 0 ∷ [])
+    ∷ case "@f { nop; } @f: int { nop; }" (15 ∷ 5 ∷ 0 ∷ [])
+    -- edges, predecessors and a dead block
+    ∷ case "@f { jmp .b; .a: nop; .b: br x .a .b; }"
+    (0 ∷ 1 ∷ 0 ∷ 3 ∷ 0 ∷ 0 ∷ 3 ∷ 1 ∷ 1 ∷ 2 ∷ 0 ∷ 0 ∷ 2 ∷ 0 ∷ 1 ∷ 2 ∷ 0 ∷ 1 ∷ 2 ∷ 1 ∷ 2 ∷ 2 ∷ 0 ∷ 2 ∷ 0 ∷ [])
+    ∷ case "@f { ret; .a: nop; }" (0 ∷ 1 ∷ 0 ∷ 3 ∷ 0 ∷ 0 ∷ 2 ∷ 1 ∷ 0 ∷ 0 ∷ 0 ∷ 2 ∷ 0 ∷ 0 ∷ 1 ∷ [])
+    -- blocks are taken in order, and a terminator's labels first then second: 14 has the first that is missing
+    ∷ case "@f { br x .a .b; }" (14 ∷ 2 ∷ 2 ∷ [])
+    ∷ case "@f { .a: br x .a .b; }" (14 ∷ 4 ∷ 3 ∷ [])
+    ∷ case "@f { jmp .z; .a: .b: nop; }" (14 ∷ 2 ∷ 1 ∷ [])
+    ∷ case "@f { nop; .a: .b: jmp .z; }" (22 ∷ 0 ∷ 0 ∷ [])
+    ∷ case "@f { .a: nop; .a: nop; }" (13 ∷ 6 ∷ 0 ∷ [])
+    ∷ case "@f { jmp .a; x: int = add y z; .a: nop; }" (12 ∷ 9 ∷ 0 ∷ [])
+    ∷ case "@f { ret; call @g x; }" (12 ∷ 4 ∷ 0 ∷ [])
+    -- only a void function gets a `ret`
+    ∷ case "@f: int { nop; .a: ret x; }" (0 ∷ 1 ∷ 0 ∷ 1 ∷ 0 ∷ 0 ∷ 2 ∷ 1 ∷ 0 ∷ 0 ∷ 0 ∷ 1 ∷ 0 ∷ 0 ∷ 1 ∷ [])
+    -- a label needs an operation behind it; what is missing is reported with the token that stands there
+    ∷ case "@f { nop; .a: }" (6 ∷ 6 ∷ 0 ∷ [])
+    ∷ case "@f { print 5; }" (6 ∷ 3 ∷ 0 ∷ [])
+    ∷ case "@f { nop }" (5 ∷ 3 ∷ 0 ∷ [])
+    ∷ case "@f { x: y = id z; }" (9 ∷ 4 ∷ 0 ∷ [])
+    ∷ case "@f { x: int = x; }" (11 ∷ 6 ∷ 0 ∷ [])
+    ∷ case "@f { jmp x; }" (8 ∷ 3 ∷ 0 ∷ [])
+    ∷ case "@f { call f; }" (7 ∷ 3 ∷ 0 ∷ [])
+    ∷ case "@f { nop;" (6 ∷ 4 ∷ 0 ∷ [])
+    -- headers: function types are numbered in text order, and equal types share a number
+    ∷ case "@f(a: int): int { ret a; } @g(b: bool) { nop; } @h(c: int): int { ret c; }"
+    (0 ∷ 3 ∷ 0 ∷ 1 ∷ 0 ∷ 1 ∷ 1 ∷ 1 ∷ 0 ∷ 0 ∷ 0 ∷ 13 ∷ 3 ∷ 1 ∷ 1 ∷ 1 ∷ 2 ∷ 0 ∷ 0 ∷ 0 ∷ 23 ∷ 1 ∷ 0 ∷ 1 ∷ 1 ∷ 1 ∷ 0 ∷ 0 ∷ 0 ∷ [])
+    ∷ case "@f(a: int, b: bool) { nop; } @f(c: int, d: int) { nop; }" (15 ∷ 14 ∷ 0 ∷ [])
+    ∷ case "@f() { nop; }" (0 ∷ 1 ∷ 0 ∷ 3 ∷ 0 ∷ 0 ∷ 1 ∷ 2 ∷ 0 ∷ 0 ∷ 0 ∷ [])
+    ∷ case "f" (7 ∷ 0 ∷ 0 ∷ [])
+    ∷ case "@f { nop; } nop" (7 ∷ 5 ∷ 0 ∷ [])
+    ∷ case "@f nop" (5 ∷ 1 ∷ 0 ∷ [])
+    ∷ case "@f(a: int, ) { nop; }" (6 ∷ 6 ∷ 0 ∷ [])
+    ∷ case "@f(a int) { nop; }" (5 ∷ 3 ∷ 0 ∷ [])
+    ∷ case "@f: void { nop; }" (9 ∷ 2 ∷ 0 ∷ [])
+    ∷ case "@f(a: int { nop; }" (5 ∷ 5 ∷ 0 ∷ [])
+    ∷ []
+
+right : List Case → Bool
+right [] = true
+right (c ∷ cs) =
+    let more = right cs in
+    let p = program (c .text) in
+    pick (sameBytes (numbers (p .functions) (p .end)) (c .gives)) more false
+
+-- THE CLAIM
+all-right : right cases ≡ true
+unfolding opened cases right program
+all-right = refl
