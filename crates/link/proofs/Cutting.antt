@@ -10,6 +10,7 @@ use lib.Dec.{eqb}
 use lib.ListN.{length, drop}
 use lib.Seq.{sets, length-sets}
 use Rattle.utils.specs.Bytes.{pick}
+use Rattle.graph.specs.declared.BlockId.{BlockId}
 use Rattle.parser.specs.Step.{refusal}
 use Rattle.parser.specs.Blocks.{Part, name, operation, Block, fresh, blocksFrom, blocksAfter, blocksOf}
 use Rattle.parser.specs.Edges.{placeOf, places, refused, resolveLabels, resolveFrom}
@@ -159,7 +160,7 @@ module _ (items : List ℕ) (all : List Block) (named first end base : ℕ) (cel
         subst (λ (x : Goes). Gone all (r .token) (goesOf r) x) h last-gone in
         resolved ∙ g (resolveFrom all named more)
 
-    went : (c x y : ℕ) → goesD before names (recordAt items (stop - 1)) ≡ G.Done c x y
+    went : (c : ℕ) (x y : BlockId) → goesD before names (recordAt items (stop - 1)) ≡ G.Done c x y
         → Left all named first base cells₀ (putGoes cells (k * 8) from (stop - from) (G.Done c x y)) (k + 1) more
     unfolding putFives
     went c x y h =
@@ -170,14 +171,14 @@ module _ (items : List ℕ) (all : List Block) (named first end base : ℕ) (cel
         let l : block .goes ≡ goesOf r = rw e at (shut .last-goes some) in
         let f : first + block .first ≡ from = omega (arith, shut .begins, cut .low) in
         let o : block .operations ≡ stop - from = omega (arith, shut .has-operations, ends) in
-        let five : fiveOf first block (places all (block .goes)) ≡ from ∷ (stop - from) ∷ c ∷ x ∷ y ∷ [] =
+        let five : fiveOf first block (places all (block .goes)) ≡ from ∷ (stop - from) ∷ c ∷ x .0 ∷ y .0 ∷ [] =
         rw (l, f, o, g .1, g .2, g .3) in
         let m : (k + 1) * 8 ≡ k * 8 + 8 = omega arith in
         let s : putFives all first (sets cells (k * 8) (fiveOf first block (places all (block .goes)))) (k * 8 + 8) more
         ≡ putFives all first cells₀ (base * 8) all = left-is .stored in
         record {
           above = omega (arith, left-is .above);
-          long = length-sets cells (k * 8) (from ∷ (stop - from) ∷ c ∷ x ∷ y ∷ []) ∙ left-is .long;
+          long = length-sets cells (k * 8) (from ∷ (stop - from) ∷ c ∷ x .0 ∷ y .0 ∷ []) ∙ left-is .long;
           counts = omega (arith, left-is .counts);
           resolves = sym (resolved ∙ g .0 (resolveFrom all named more));
           stored =

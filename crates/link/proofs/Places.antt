@@ -14,7 +14,7 @@ use Rattle.parser.specs.Edges.{Place, at, nowhere, placeOf, thenPlace, missing,
 use Rattle.body.specs.Records.{goesOf}
 use Rattle.body.specs.declared.ItemRecord.{ItemRecord}
 use Rattle.link.specs.Table.{leading, blockOf, labelPlace}
-use Rattle.link.specs.Steps.{foundOf, thenFound, oneD, twoD, goesD}
+use Rattle.link.specs.Steps.{blockId, foundOf, thenFound, oneD, twoD, goesD}
 use Rattle.link.specs.declared.Goes.{Goes}
 use Rattle.link.specs.declared.Goes.the-variants as G
 
@@ -85,11 +85,11 @@ same-place ps before names e f l = rw (e, f) (place-of-label ps l)
 abbrev pub Gone : List Block → ℕ → List ℕ → Goes → Type 0
 Gone all token ls (G.Done n x y) =
     ((rest : Resolved) → resolveLabels all token ls rest ≡ rest)
-    × (length (places all ls) ≡ n) × (getD (places all ls) 0 0 ≡ x) × (getD (places all ls) 1 0 ≡ y)
+    × (length (places all ls) ≡ n) × (getD (places all ls) 0 0 ≡ x .0) × (getD (places all ls) 1 0 ≡ y .0)
 Gone all token ls (G.Refused e) = (rest : Resolved) → resolveLabels all token ls rest ≡ refused e
 
 gone-one : (all : List Block) (token l : ℕ) (p : Place) → placeOf all l 0 ≡ p
-    → Gone all token (l ∷ []) (thenFound (foundOf p) (λ x. G.Done 1 x 0) (G.Refused (missing token l)))
+    → Gone all token (l ∷ []) (thenFound (foundOf p) (λ x. G.Done 1 x (blockId 0)) (G.Refused (missing token l)))
 unfolding resolveLabels places thenPlace thenFound
 gone-one all token l (at x) e = (λ rest. rw e, rw e, rw e, rw e)
 gone-one all token l nowhere e = λ rest. rw e
@@ -107,7 +107,7 @@ module _ (all : List Block) (before : ℕ) (names : List ℕ)
   gone-by : (r : ItemRecord) (nine ten : Bool)
       → Gone all (r .token) (pick nine (r .right ∷ []) (pick ten (r .right ∷ r .rty ∷ []) []))
       (pick nine (oneD before names (r .token) (r .right))
-      (pick ten (twoD before names (r .token) (r .right) (r .rty)) (G.Done 0 0 0)))
+      (pick ten (twoD before names (r .token) (r .right) (r .rty)) (G.Done 0 (blockId 0) (blockId 0))))
   unfolding pick oneD twoD resolveLabels places
   gone-by r true ten =
       gone-one all (r .token) (r .right) (labelPlace before 0 names (r .right)) (same (r .right))

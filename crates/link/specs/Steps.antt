@@ -7,6 +7,7 @@ use lib.Dec.{ltb, eqb}
 use lib.ListN.{length, getD, take}
 use lib.Seq.{sets}
 use Rattle.utils.specs.Bytes.{pick}
+use Rattle.graph.specs.declared.BlockId.{BlockId}
 use Rattle.parser.specs.Blocks.{Part, name, operation, Block, namesIn}
 use Rattle.parser.specs.Edges.{Place, at, nowhere, missing, places, Resolved, fine, refused, predecessors}
 use Rattle.parser.specs.declared.Refusal.{Refusal}
@@ -50,19 +51,22 @@ pub record Cut (items : List ℕ) (first count : ℕ) (labels : List ℕ) (label
 
 -- Labels. -----------------------------------------------------------------------------------------------------------
 
+abbrev pub blockId : ℕ → BlockId
+blockId k = record { 0 = k }
+
 abbrev pub foundOf : Place → Found
-foundOf (at k) = F.At k
+foundOf (at k) = F.At (blockId k)
 foundOf nowhere = F.Nowhere
 
 -- what follows a label that was found, and one that was not
-unfoldable pub thenFound : {A : Type 0} → Found → (ℕ → A) → A → A
+unfoldable pub thenFound : {A : Type 0} → Found → (BlockId → A) → A → A
 thenFound (F.At k) found none = found k
 thenFound F.Nowhere found none = none
 
 -- where the label of a `jmp` leads
 unfoldable pub oneD : ℕ → List ℕ → ℕ → ℕ → Goes
 oneD before names token l =
-    thenFound (foundOf (labelPlace before 0 names l)) (λ x. G.Done 1 x 0) (G.Refused (missing token l))
+    thenFound (foundOf (labelPlace before 0 names l)) (λ x. G.Done 1 x (blockId 0)) (G.Refused (missing token l))
 
 -- where those of a `br` lead, the first of them resolved first
 unfoldable pub twoD : ℕ → List ℕ → ℕ → ℕ → ℕ → Goes
@@ -76,7 +80,7 @@ unfoldable pub goesD : ℕ → List ℕ → ItemRecord → Goes
 goesD before names r =
     pick (eqb (r .kind) 9) (oneD before names (r .token) (r .right))
     (pick (eqb (r .kind) 10) (twoD before names (r .token) (r .right) (r .rty))
-    (G.Done 0 0 0))
+    (G.Done 0 (blockId 0) (blockId 0)))
 
 -- Blocks. -----------------------------------------------------------------------------------------------------------
 
@@ -88,7 +92,7 @@ run (operation w goes ∷ ps) = run ps + 1
 
 -- a block's first five cells, once its labels are resolved
 abbrev pub putGoes : List ℕ → ℕ → ℕ → ℕ → Goes → List ℕ
-putGoes b i from n (G.Done c x y) = sets b i (from ∷ n ∷ c ∷ x ∷ y ∷ [])
+putGoes b i from n (G.Done c x y) = sets b i (from ∷ n ∷ c ∷ x .0 ∷ y .0 ∷ [])
 putGoes b i from n (G.Refused e) = b
 
 -- how many blocks there are after one that leads there

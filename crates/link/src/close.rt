@@ -11,6 +11,7 @@ ghost use Rattle.link.specs.Steps.{goesD, run, putGoes, addedD, addedCel
 use crate::Goes;
 use crate::Numbered;
 use crate::labels;
+use graph::BlockId;
 use parser::Refusal;
 
 // Where the operations from the item `from` on end: at a label, or behind the last item.
@@ -29,9 +30,17 @@ fn block_end(items: &[u32], from: usize, end: usize) -> usize
     i
 }
 
-fn put_block(blocks: &mut [u32], at: usize, from: u32, n: u32, count: u32, to: u32, other: u32)
+fn put_block(
+    blocks: &mut [u32],
+    at: usize,
+    from: u32,
+    n: u32,
+    count: u32,
+    to: BlockId,
+    other: BlockId,
+)
     requires { ⌜ at + 5 ≤ length (now blocks) ⌝ }
-    ensures { λ r. ⌜ now (blocks .exit) ≡ sets (now (blocks .entry)) at (from ∷ n ∷ count ∷ to ∷ other ∷ []) ⌝ }
+    ensures { λ r. ⌜ now (blocks .exit) ≡ sets (now (blocks .entry)) at (from ∷ n ∷ count ∷ to .0 ∷ other .0 ∷ []) ⌝ }
 {
     let at1 = at + 1;
     let at2 = at + 2;
@@ -40,8 +49,8 @@ fn put_block(blocks: &mut [u32], at: usize, from: u32, n: u32, count: u32, to: u
     blocks[at] = from;
     blocks[at1] = n;
     blocks[at2] = count;
-    blocks[at3] = to;
-    blocks[at4] = other;
+    blocks[at3] = to.0;
+    blocks[at4] = other.0;
 }
 
 // The block of the operations from `from` to before `stop` goes to the cells from `at` on.

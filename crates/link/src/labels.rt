@@ -4,11 +4,12 @@ ghost use Prim.Native.Nat.{_+_, _*_, _≤_};
 ghost use lib.ListN.{length, take};
 ghost use Rattle.body.specs.Records.{partsAt};
 ghost use Rattle.link.specs.Table.{leading, blockOf, labelPlace};
-ghost use Rattle.link.specs.Steps.{foundOf, oneD, twoD, goesD};
+ghost use Rattle.link.specs.Steps.{blockId, foundOf, oneD, twoD, goesD};
 ghost use Rattle.parser.specs.Edges.{missing};
 use crate::Found;
 use crate::Goes;
 use body::ItemRecord;
+use graph::BlockId;
 use parser::Refusal;
 use pieces::Identifier;
 
@@ -29,23 +30,24 @@ pub fn leading_labels(items: &[u32], first: usize, count: usize) -> usize
 }
 
 // The block that label i opens or names.
-fn block_of(before: usize, i: usize) -> u32
+fn block_of(before: usize, i: usize) -> BlockId
     requires { ⌜ i ≤ 255 ⌝ }
-    ensures { λ r. ⌜ r ≡ blockOf before i ⌝ }
+    ensures { λ r. ⌜ r ≡ blockId (blockOf before i) ⌝ }
 {
     if i < before {
-        return 0;
+        return BlockId(0);
     }
-    (i + 1 - before) as u32
+    let k = (i + 1 - before) as u32;
+    BlockId(k)
 }
 
-fn get(labels: &[u32], labelled: usize, before: usize, name: u32) -> Found
+fn get(labels: &[u32], labelled: usize, before: usize, name: Identifier) -> Found
     requires { ⌜ (labelled ≤ 255) × (labelled ≤ length (now labels)) ⌝ }
-    ensures { λ r. ⌜ r ≡ foundOf (labelPlace before 0 (take labelled (now (labels .entry))) name) ⌝ }
+    ensures { λ r. ⌜ r ≡ foundOf (labelPlace before 0 (take labelled (now (labels .entry))) (name .0)) ⌝ }
 {
     let mut i: usize = 0;
     while i < labelled {
-        if labels[i] == name {
+        if labels[i] == name.0 {
             return Found::At(block_of(before, i));
         }
         i += 1;
@@ -54,24 +56,30 @@ fn get(labels: &[u32], labelled: usize, before: usize, name: u32) -> Found
 }
 
 // 14: the label names no block.
-fn unknown(token: usize, name: u32) -> Refusal
-    ensures { λ r. ⌜ r ≡ missing token name ⌝ }
+fn unknown(token: usize, name: Identifier) -> Refusal
+    ensures { λ r. ⌜ r ≡ missing token (name .0) ⌝ }
 {
     Refusal {
         number: 14,
         token,
         wanted: 0,
         found: 0,
-        name: Identifier(name),
+        name,
     }
 }
 
-fn resolve_one(labels: &[u32], labelled: usize, before: usize, token: usize, next: u32) -> Goes
+fn resolve_one(
+    labels: &[u32],
+    labelled: usize,
+    before: usize,
+    token: usize,
+    next: Identifier,
+) -> Goes
     requires { ⌜ (labelled ≤ 255) × (labelled ≤ length (now labels)) ⌝ }
-    ensures { λ r. ⌜ r ≡ oneD before (take labelled (now (labels .entry))) token next ⌝ }
+    ensures { λ r. ⌜ r ≡ oneD before (take labelled (now (labels .entry))) token (next .0) ⌝ }
 {
     match get(labels, labelled, before, next) {
-        Found::At(to) => Goes::Done(1, to, 0),
+        Found::At(to) => Goes::Done(1, to, BlockId(0)),
         Found::Nowhere => Goes::Refused(unknown(token, next)),
     }
 }
@@ -81,11 +89,11 @@ fn resolve_two(
     labelled: usize,
     before: usize,
     token: usize,
-    then: u32,
-    els: u32,
+    then: Identifier,
+    els: Identifier,
 ) -> Goes
     requires { ⌜ (labelled ≤ 255) × (labelled ≤ length (now labels)) ⌝ }
-    ensures { λ r. ⌜ r ≡ twoD before (take labelled (now (labels .entry))) token then els ⌝ }
+    ensures { λ r. ⌜ r ≡ twoD before (take labelled (now (labels .entry))) token (then .0) (els .0) ⌝ }
 {
     match get(labels, labelled, before, then) {
         Found::At(to) => match get(labels, labelled, before, els) {
@@ -104,10 +112,17 @@ pub fn resolve(labels: &[u32], labelled: usize, before: usize, r: ItemRecord) ->
     let token = r.token as usize;
     let jumps = r.kind == 9;
     if jumps {
-        return resolve_one(labels, labelled, before, token, r.right);
+        return resolve_one(labels, labelled, before, token, Identifier(r.right));
     }
     if r.kind == 10 {
-        return resolve_two(labels, labelled, before, token, r.right, r.rty);
+        return resolve_two(
+            labels,
+            labelled,
+            before,
+            token,
+            Identifier(r.right),
+            Identifier(r.rty),
+        );
     }
-    Goes::Done(0, 0, 0)
+    Goes::Done(0, BlockId(0), BlockId(0))
 }

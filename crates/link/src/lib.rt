@@ -7,6 +7,7 @@ ghost use mathlib.Core.Path.{_≡_};
 ghost use Rattle.body.specs.Records.{partsAt};
 ghost use Rattle.link.specs.Cells.{linkD, LinkHeld};
 ghost use Rattle.link.specs.Steps.{Ready};
+use graph::BlockId;
 use parser::Refusal;
 
 // How many blocks and predecessors a function has, or 22 or 14.
@@ -17,13 +18,13 @@ pub enum Linked {
 
 // The block that a label names: the Rust's Option<usize>.
 pub enum Found {
-    At(u32),
+    At(BlockId),
     Nowhere,
 }
 
 // How many successors a block has, and the two of them; or 14.
 pub enum Goes {
-    Done(u32, u32, u32),
+    Done(u32, BlockId, BlockId),
     Refused(Refusal),
 }
 

@@ -13,14 +13,14 @@ returns c =
     let if1 = c .if1 in
     rw (lt-ltb _ _ (if1 .taken))
 
-add-result : tie.Need-add-result
-add-result c = search needs
+add-k : tie.Need-add-k
+add-k c = search needs
 
-sub-result : tie.Need-sub-result
-sub-result c = search needs
+sub-k : tie.Need-sub-k
+sub-k c = search needs
 
-cast-result : tie.Need-cast-result
-cast-result c = search needs
+cast-k : tie.Need-cast-k
+cast-k c = search needs
 
 returns-2 : tie.Need-returns-2
 unfolding blockOf pick
@@ -29,4 +29,4 @@ returns-2 c =
     rw (le-ltb _ _ (if1 .left))
 
 pub block-of-spec : {M : Type 1} → statement M
-block-of-spec = tie.close (tie.spec returns add-result sub-result cast-result returns-2)
+block-of-spec = tie.close (tie.spec returns add-k sub-k cast-k returns-2)

@@ -18,7 +18,8 @@ use Rattle.link.proofs.labels.get.Tie as tie
 abbrev Inv-loop : tie.InvT-loop
 Inv-loop labels labelled before name i₀ i =
     (i ≤ labelled)
-    × (labelPlace before i (drop i (take labelled labels)) name ≡ labelPlace before 0 (take labelled labels) name)
+    × (labelPlace before i (drop i (take labelled labels)) (name .0)
+    ≡ labelPlace before 0 (take labelled labels) (name .0))
 
 abbrev μ-loop : tie.MeasureT-loop
 μ-loop labels labelled before name i₀ i =
@@ -39,10 +40,10 @@ block-of-requires c κs = search needs
 returns : tie.Need-returns Inv-loop μ-loop
 unfolding labelPlace pick
 returns c =
-    let args = c .before .before .before .before .before .before .args in
-    let pre = c .before .before .before .before .before .before .pre in
-    let loop = c .before .before .before .before .loop in
-    let loop-test = c .before .before .before .loop-test in
+    let args = c .before .before .before .before .before .before .before .args in
+    let pre = c .before .before .before .before .before .before .before .pre in
+    let loop = c .before .before .before .before .before .loop in
+    let loop-test = c .before .before .before .before .loop-test in
     let if1 = c .before .if1 in
     let block-of = c .block-of in
     let s = now (args .labels) in
@@ -63,10 +64,10 @@ loop-less c = omega arith
 loop-again : tie.Need-loop-again Inv-loop μ-loop
 unfolding labelPlace pick
 loop-again c =
-    let args = c .before .before .before .before .before .args in
-    let pre = c .before .before .before .before .before .pre in
-    let loop = c .before .before .before .loop in
-    let loop-test = c .before .before .loop-test in
+    let args = c .before .before .before .before .before .before .args in
+    let pre = c .before .before .before .before .before .before .pre in
+    let loop = c .before .before .before .before .loop in
+    let loop-test = c .before .before .before .loop-test in
     let if1 = c .if1 in
     let s = now (args .labels) in
     let n = args .labelled in
