@@ -6,3 +6,4 @@ pub mod Seen
 pub mod HeaderOn
 pub mod Whole
 pub mod Taken
+pub mod SimFunctions

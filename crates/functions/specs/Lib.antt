@@ -9,5 +9,7 @@ pub mod Rows
 pub mod Heads
 -- the whole answer
 pub mod Answer
+-- two readings of one function: what is related to what
+pub mod Moved
 -- texts with what they give: one table, one claim
 pub mod Cases
