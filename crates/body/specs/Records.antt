@@ -1,8 +1,8 @@
 -- Items as records of eight cells (docs/INTERFACE.md): the kind, the token, the result and its type, the left operand
--- and its type, the right operand and its type. A call has its callee on the left, and on the right its first argument's
--- number among all arguments and how many it has; `br` has its condition on the left, and on the right its two labels;
--- `jmp` and a label have their label on the right. Cells that a kind has no use for are 0, and so is an operand's type
--- until typing writes it.
+-- and its type, the right operand and its type. A call has its callee on the left, and on the right its first
+-- argument's number among all arguments and how many it has; `br` has its condition on the left, and on the right its
+-- two labels; `jmp` and a label have their label on the right. Cells that a kind has no use for are 0, and so is an
+-- operand's type until typing writes it.
 use Prim.Native.Nat.{ℕ, zero, suc, _+_, _*_}
 use mathlib.Core.List.{List, [], _∷_, _++_}
 use mathlib.Core.Bool.{Bool}

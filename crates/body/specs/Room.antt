@@ -21,8 +21,8 @@ filled first [] = 0
 filled first (name l ∷ ps) = filled true ps
 filled first (operation w goes ∷ ps) = pick first 1 0 + filled false ps
 
--- From one token to the next index: an item takes two tokens, and four tokens, an operation and a label, make three items
--- where a `ret` is added; a call of sixteen arguments takes nineteen tokens; a block takes four, its label and an
+-- From one token to the next index: an item takes two tokens, and four tokens, an operation and a label, make three
+-- items where a `ret` is added; a call of sixteen arguments takes nineteen tokens; a block takes four, its label and an
 -- operation.
 pub record Bounds (at next items arguments blocks : ℕ) : Type 0 where
   pub items-few : at * 3 + items * 4 ≤ next * 3

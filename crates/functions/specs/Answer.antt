@@ -115,7 +115,8 @@ storedFunction ts names n s f =
     (sets (s .functions) (rowAt (n .functions)) (rowCells ts names f (n .items) (n .blocks)))
     (sets (s .items) (n .items * 8) (itemsCells (n .arguments) is))
     (sets (s .arguments) (n .arguments * 2) (argumentsCells is))
-    (sets (s .blocks) (n .blocks * 8) (blockCells (n .items) (n .predecessors) 0 (edgesIn is) (edgesIn is) (blocksIn is)))
+    (sets (s .blocks) (n .blocks * 8)
+    (blockCells (n .items) (n .predecessors) 0 (edgesIn is) (edgesIn is) (blocksIn is)))
     (sets (s .predecessors) (n .predecessors) (predecessorsIn is))
 
 -- a function that was read: where to go on, how many types there are, and how much is used; or the refusal
@@ -127,7 +128,8 @@ functionRead types n (noFunction e) = F.Refused e
 pub record Taken (ts : List Tok) (names : List ℕ) (n : Counts) (f : Function) (s₀ s : Slices) : Type 0 where
   pub few : n .functions < 64
   pub stored : s ≡ storedFunction ts names n s₀ f
-  pub seen : knownFrom (s .functions) 0 (n .functions + 1) ≡ knownFrom (s₀ .functions) 0 (n .functions) ++ (knownOf (f .head) ∷ [])
+  pub seen : knownFrom (s .functions) 0 (n .functions + 1)
+      ≡ knownFrom (s₀ .functions) 0 (n .functions) ++ (knownOf (f .head) ∷ [])
   pub room : Room ts (f .next) (countsWith n f)
 
 abbrev pub FunctionHeld : (ts : List Tok) (names : List ℕ) (n : Counts) (s₀ s : Slices) → FunctionAt → Type 0

@@ -23,8 +23,8 @@ use Rattle.parser.specs.declared.Consumed.{Consumed}
 use Rattle.parser.specs.declared.Consumed.the-variants as C
 use Rattle.link.specs.Cells.{bit}
 use Rattle.functions.specs.Known.{formalTypes, typeNumber, typesAfter, expectedType}
-use Rattle.functions.specs.Functions.{thenHeader, thenFormals, thenEntered, optionalFormals, optionalType, enteredD}
-use Rattle.functions.specs.Functions.{signatureD, headerD, thenBuilt, builtD, thenFunction, functionD, functionsD}
+use Rattle.functions.specs.Functions.{thenHeader, thenFormals, thenEntered, optionalFormals, optionalType}
+use Rattle.functions.specs.Functions.{enteredD, signatureD, headerD, thenBuilt, builtD, thenFunction, functionD, functionsD}
 use Rattle.functions.specs.Functions.{Function, Program, blocksIn, programD}
 use Rattle.functions.specs.Answer.{edgesIn}
 
@@ -36,8 +36,8 @@ unfolding
     valueD definitionD instructionD formalD formalsFromD formalsD argumentsD callD has labelledD
     thenItem calledItem parsedItem itemD behind closes bodyD lacksRet closedFrom partsOf blocksFrom blocksAfter
     placeOf thenPlace resolveLabels resolveFrom places successors entering predecessors isDead
-    formalTypes typeNumber typesAfter expectedType thenHeader thenFormals thenEntered optionalFormals optionalType enteredD
-    signatureD headerD thenBuilt builtD thenFunction functionD functionsD
+    formalTypes typeNumber typesAfter expectedType thenHeader thenFormals thenEntered optionalFormals optionalType
+    enteredD signatureD headerD thenBuilt builtD thenFunction functionD functionsD
 opened = 0
 
 -- a block as numbers: its operations, its successors and their count, its predecessors and their count, its dead mark
@@ -115,7 +115,8 @@ cases =
     ∷ case "@f { nop;" (6 ∷ 4 ∷ 0 ∷ [])
     -- headers: function types are numbered in text order, and equal types share a number
     ∷ case "@f(a: int): int { ret a; } @g(b: bool) { nop; } @h(c: int): int { ret c; }"
-    (0 ∷ 3 ∷ 0 ∷ 1 ∷ 0 ∷ 1 ∷ 1 ∷ 1 ∷ 0 ∷ 0 ∷ 0 ∷ 13 ∷ 3 ∷ 1 ∷ 1 ∷ 1 ∷ 2 ∷ 0 ∷ 0 ∷ 0 ∷ 23 ∷ 1 ∷ 0 ∷ 1 ∷ 1 ∷ 1 ∷ 0 ∷ 0 ∷ 0 ∷ [])
+    (0 ∷ 3 ∷ 0 ∷ 1 ∷ 0 ∷ 1 ∷ 1 ∷ 1 ∷ 0 ∷ 0 ∷ 0
+    ∷ 13 ∷ 3 ∷ 1 ∷ 1 ∷ 1 ∷ 2 ∷ 0 ∷ 0 ∷ 0 ∷ 23 ∷ 1 ∷ 0 ∷ 1 ∷ 1 ∷ 1 ∷ 0 ∷ 0 ∷ 0 ∷ [])
     ∷ case "@f(a: int, b: bool) { nop; } @f(c: int, d: int) { nop; }" (15 ∷ 14 ∷ 0 ∷ [])
     ∷ case "@f() { nop; }" (0 ∷ 1 ∷ 0 ∷ 3 ∷ 0 ∷ 0 ∷ 1 ∷ 2 ∷ 0 ∷ 0 ∷ 0 ∷ [])
     ∷ case "f" (7 ∷ 0 ∷ 0 ∷ [])

@@ -1,5 +1,5 @@
--- Document 01, "Functions, labels, edges": "A text is any number of functions: global; optionally formals in parentheses;
--- optionally colon and type; `{` body `}`."
+-- Document 01, "Functions, labels, edges": "A text is any number of functions: global; optionally formals in
+-- parentheses; optionally colon and type; `{` body `}`."
 use Prim.Native.Nat.{ℕ, zero, suc, _+_}
 use mathlib.Core.List.{List, [], _∷_, _++_}
 use mathlib.Core.Bool.{Bool, true, false}
@@ -78,8 +78,8 @@ headerD ts full known types at =
     thenNamed noHeader (globalD ts at) (λ g at1.
     pick full (noHeader (refusal 35 at 0)) (signatureD ts known types at g at1))
 
--- The items of a body, with the added `ret`s in a void function, and the index behind its closing brace, once its blocks
--- were taken in order.
+-- The items of a body, with the added `ret`s in a void function, and the index behind its closing brace, once its
+-- blocks were taken in order.
 pub data BuiltAt : Type 0 where
   built : List Item → ℕ → BuiltAt
   notBuilt : Refusal → BuiltAt

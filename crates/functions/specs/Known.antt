@@ -1,6 +1,6 @@
 -- The functions so far: "After the type and before `{` the name is entered with its function type: the same name again
--- with an equal type passes, with another is 15." Function types are numbered in text order, equal types sharing a number
--- (the Rust's add_function_type).
+-- with an equal type passes, with another is 15." Function types are numbered in text order, equal types sharing a
+-- number (the Rust's add_function_type).
 use Prim.Native.Nat.{ℕ, _+_}
 use mathlib.Core.List.{List, [], _∷_}
 use lib.Dec.{eqb}
@@ -26,8 +26,8 @@ pub record Known : Type 0 where
   pub type : ℕ
   pub signed : List ℕ
 
--- The number of a function type: that of the first function so far with an equal one, or the next, after as many types as
--- there are so far.
+-- The number of a function type: that of the first function so far with an equal one, or the next, after as many types
+-- as there are so far.
 unfoldable pub typeNumber : List Known → List ℕ → ℕ → ℕ
 typeNumber [] signed types = types
 typeNumber (k ∷ ks) signed types =
@@ -45,7 +45,7 @@ expectedType (k ∷ ks) name type =
     let more = expectedType ks name type in
     pick (eqb (k .name) name) (k .type) more
 
--- Unexpected type .. Expected .. (15), with the name's token. Of both types the message says that they are function types,
--- whose cells are 4 and more.
+-- Unexpected type .. Expected .. (15), with the name's token. Of both types the message says that they are function
+-- types, whose cells are 4 and more.
 abbrev pub unexpected : ℕ → Identifier → Refusal
 unexpected token name = record { number = 15; token = token; wanted = 4; found = 4; name = name }

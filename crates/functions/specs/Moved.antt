@@ -1,6 +1,6 @@
--- Two readings of one function (demand 3), on from the parser's relations: what the functions so far, a header, a body with
--- its blocks and a function are to those of the other reading. `proofs/SimFunctions.antt` shows that the definitions give
--- related answers on related tokens.
+-- Two readings of one function (demand 3), on from the parser's relations: what the functions so far, a header, a body
+-- with its blocks and a function are to those of the other reading. `proofs/SimFunctions.antt` shows that the
+-- definitions give related answers on related tokens.
 use Prim.Native.Nat.{ℕ, _+_, _≤_, _<_}
 use mathlib.Core.Path.{_≡_}
 use mathlib.Core.List.{List}

@@ -1,6 +1,6 @@
 -- The header table: the count, and then a row of 45 cells for each function (docs/INTERFACE.md): the name's token, the
--- name, the closing token, the name's place, its length, its line, the result type, the function type's number, the first
--- item, how many items, the first block, how many blocks, how many formals, and each formal's name and type.
+-- name, the closing token, the name's place, its length, its line, the result type, the function type's number, the
+-- first item, how many items, the first block, how many blocks, how many formals, and each formal's name and type.
 use Prim.Native.Nat.{ℕ, zero, suc, _+_, _*_, _-_}
 use mathlib.Core.List.{List, [], _∷_, _++_}
 use lib.Dec.{leb}

@@ -29,7 +29,8 @@ fn build_with(
     ensures { λ r. ⌜ r ≡ buildRead (builtD (tokensOf (now (tokens .entry))) void name at) ⌝ }
     ensures { λ _. ⌜ BuildHeld (tokensOf (now (tokens .entry))) n (now (items .entry)) (now (items .exit))
         (now (arguments .entry)) (now (arguments .exit)) (now (blocks .entry)) (now (blocks .exit))
-        (now (predecessors .entry)) (now (predecessors .exit)) (builtD (tokensOf (now (tokens .entry))) void name at) ⌝ }
+        (now (predecessors .entry)) (now (predecessors .exit))
+        (builtD (tokensOf (now (tokens .entry))) void name at) ⌝ }
 {
     let first = n.items;
     match body::parse_body(
@@ -86,7 +87,8 @@ pub fn build(
     ensures { λ r. ⌜ r ≡ buildRead (builtD (tokensOf (now (tokens .entry))) void name at) ⌝ }
     ensures { λ _. ⌜ BuildHeld (tokensOf (now (tokens .entry))) n (now (items .entry)) (now (items .exit))
         (now (arguments .entry)) (now (arguments .exit)) (now (blocks .entry)) (now (blocks .exit))
-        (now (predecessors .entry)) (now (predecessors .exit)) (builtD (tokensOf (now (tokens .entry))) void name at) ⌝ }
+        (now (predecessors .entry)) (now (predecessors .exit))
+        (builtD (tokensOf (now (tokens .entry))) void name at) ⌝ }
 {
     let mut labels = [0u32; 255];
     build_with(

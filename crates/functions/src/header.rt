@@ -91,8 +91,8 @@ fn parse_signature(
     rows: &mut [u32],
 ) -> HeaderRead
     requires { ⌜ (n < 64) × (2881 ≤ length (now rows)) ⌝ }
-    ensures { λ r. ⌜ r ≡ headerRead (signatureD (tokensOf (now (tokens .entry))) (knownFrom (now (rows .entry)) 0 n) types
-        token name at) ⌝ }
+    ensures { λ r. ⌜ r ≡ headerRead (signatureD (tokensOf (now (tokens .entry)))
+        (knownFrom (now (rows .entry)) 0 n) types token name at) ⌝ }
     ensures { λ _. ⌜ HeaderHeld n (now (rows .entry)) (now (rows .exit))
         (signatureD (tokensOf (now (tokens .entry))) (knownFrom (now (rows .entry)) 0 n) types token name at) ⌝ }
 {

@@ -36,7 +36,8 @@ pub fn put_name(
     requires { ⌜ (i < 64) × (token ≤ 4095) × (close ≤ 4095) × (2881 ≤ length (now rows)) ⌝ }
     ensures { λ _. ⌜ now (rows .exit) ≡ sets (now (rows .entry)) (rowAt i)
         (token ∷ name .0 ∷ close ∷ tokenAt (tokensOf (now (tokens .entry))) token .place
-        ∷ getD (now (names .entry)) (name .0 * 2 + 1) 0 ∷ tokenAt (tokensOf (now (tokens .entry))) token .line .0 ∷ []) ⌝ }
+        ∷ getD (now (names .entry)) (name .0 * 2 + 1) 0
+        ∷ tokenAt (tokensOf (now (tokens .entry))) token .line .0 ∷ []) ⌝ }
 {
     let t = lexer::token_at(tokens, token);
     let len = name_length(names, name);
@@ -87,7 +88,8 @@ pub fn put_row(
     b: Body,
 )
     requires { ⌜ (n .functions < 64) × (token ≤ 4095) × (1 ≤ b .next) × (b .next ≤ 4096) × (n .items ≤ 4096)
-        × (b .items ≤ 4096) × (n .blocks ≤ 4096) × (b .blocks ≤ 4096) × (h .formals ≤ 16) × (2881 ≤ length (now rows)) ⌝ }
+        × (b .items ≤ 4096) × (n .blocks ≤ 4096) × (b .blocks ≤ 4096) × (h .formals ≤ 16)
+        × (2881 ≤ length (now rows)) ⌝ }
     ensures { λ _. ⌜ now (rows .exit) ≡ sets (now (rows .entry)) (rowAt (n .functions))
         (token ∷ h .name .0 ∷ (b .next - 1) ∷ tokenAt (tokensOf (now (tokens .entry))) token .place
         ∷ getD (now (names .entry)) (h .name .0 * 2 + 1) 0 ∷ tokenAt (tokensOf (now (tokens .entry))) token .line .0
@@ -110,7 +112,8 @@ pub fn put_row(
 
 // What is used with one function more.
 pub fn counts_after(n: Counts, b: Body) -> Counts
-    requires { ⌜ (n .functions ≤ 4096) × (n .items ≤ 4096) × (b .items ≤ 4096) × (n .arguments ≤ 4096) × (b .arguments ≤ 4096)
+    requires { ⌜ (n .functions ≤ 4096) × (n .items ≤ 4096) × (b .items ≤ 4096)
+        × (n .arguments ≤ 4096) × (b .arguments ≤ 4096)
         × (n .blocks ≤ 4096) × (b .blocks ≤ 4096) × (n .predecessors ≤ 4096) × (b .predecessors ≤ 4096) ⌝ }
     ensures { λ r. ⌜ r ≡ counts (n .functions + 1) (n .items + b .items) (n .arguments + b .arguments)
         (n .blocks + b .blocks) (n .predecessors + b .predecessors) ⌝ }

@@ -1,6 +1,6 @@
--- A function's block records, eight cells each (docs/INTERFACE.md): the index of its first operation among all items, how
--- many operations it has, how many successors and the pair of them, where its predecessors begin, how many they are, and
--- the dead mark. Blocks are numbered from the function's first.
+-- A function's block records, eight cells each (docs/INTERFACE.md): the index of its first operation among all items,
+-- how many operations it has, how many successors and the pair of them, where its predecessors begin, how many they
+-- are, and the dead mark. Blocks are numbered from the function's first.
 use Prim.Native.Nat.{ℕ, _+_, _*_}
 use mathlib.Core.Path.{_≡_}
 use mathlib.Core.List.{List, [], _∷_, _++_}
@@ -16,8 +16,8 @@ abbrev pub bit : Bool → ℕ
 bit true = 1
 bit false = 0
 
--- from block j on: their cells, where the function's items begin at `first` and block j's predecessors at `used`; `goes`
--- are the successors of these blocks, `all` those of all blocks
+-- from block j on: their cells, where the function's items begin at `first` and block j's predecessors at `used`;
+-- `goes` are the successors of these blocks, `all` those of all blocks
 unfoldable pub blockCells : ℕ → ℕ → ℕ → List (List ℕ) → List (List ℕ) → List Block → List ℕ
 blockCells first used j all goes [] = []
 blockCells first used j all [] (b ∷ bs) = []
@@ -42,11 +42,13 @@ linkD name ps = linkedBy (blocksOf ps) (resolveD name (blocksOf ps))
 -- The records stand from the record `base` on, the predecessors from `used` on. A refusal says nothing of them.
 pub record Linking (ps : List Part) (first base used : ℕ) (blocks₀ blocks predecessors₀ preds : List ℕ) : Type 0 where
   pub blocks-are : blocks ≡ sets blocks₀ (base * 8)
-      (blockCells first used 0 (successors (blocksOf ps) (blocksOf ps)) (successors (blocksOf ps) (blocksOf ps)) (blocksOf ps))
+      (blockCells first used 0 (successors (blocksOf ps) (blocksOf ps)) (successors (blocksOf ps) (blocksOf ps))
+      (blocksOf ps))
   pub predecessors-are : preds ≡ sets predecessors₀ used
       (predecessorCells 0 (successors (blocksOf ps) (blocksOf ps)) (blocksOf ps))
 
-abbrev pub LinkHeld : (ps : List Part) (first base used : ℕ) (blocks₀ blocks predecessors₀ preds : List ℕ) → Linked → Type 0
+abbrev pub LinkHeld : (ps : List Part) (first base used : ℕ) (blocks₀ blocks predecessors₀ preds : List ℕ) → Linked
+    → Type 0
 LinkHeld ps first base used blocks₀ blocks predecessors₀ preds (L.Done n m) =
     Linking ps first base used blocks₀ blocks predecessors₀ preds
 LinkHeld ps first base used blocks₀ blocks predecessors₀ preds (L.Refused e) = Unit

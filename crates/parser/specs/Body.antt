@@ -139,8 +139,9 @@ behind i = pick (isTerminator i) afterTerminator afterOperation
 unfoldable pub closes : ℕ → ℕ → Bool
 closes before kind = pick (eqb before afterLabel) false (eqb kind 28)
 
--- From after the opening brace: `room` bounds the items, and is never used up, since an item takes two tokens of at most
--- 4,096 (`Reading`, crates/body/proofs); `labels` are the labels so far. An operation after a terminator in the same block is 12, found once it is parsed.
+-- From after the opening brace: `room` bounds the items, and is never used up, since an item takes two tokens of at
+-- most 4,096 (`Reading`, crates/body/proofs); `labels` are the labels so far. An operation after a terminator in the
+-- same block is 12, found once it is parsed.
 unfoldable pub bodyD : List Tok → ℕ → List ℕ → ℕ → ℕ → Body
 bodyD ts zero labels before at = bodyStop (refusal 0 at 0)
 bodyD ts (suc room) labels before at =

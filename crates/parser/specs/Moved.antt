@@ -148,7 +148,8 @@ pub data SimItem (m : Move) : Item → Item → Type 0 where
       → SimItem m (Item.callInto (m .by + w) v g xs) (Item.callInto w v′ g′ xs′)
 
 pub data SimItemAt (m : Move) (l : ℕ) : ItemAt → ItemAt → Type 0 where
-  item : {i i′ : Item} → SimItem m i i′ → (at : ℕ) → at < l → SimItemAt m l (ItemAt.item i (m .by + at)) (ItemAt.item i′ at)
+  item : {i i′ : Item} → SimItem m i i′ → (at : ℕ) → at < l
+      → SimItemAt m l (ItemAt.item i (m .by + at)) (ItemAt.item i′ at)
   refused : (e e′ : Refusal) → SimE m e e′ → SimItemAt m l (ItemAt.refused e) (ItemAt.refused e′)
 
 -- where the closing brace, which may be the last token, was asked for

@@ -1,6 +1,6 @@
 -- Steps: each looks at tokens, and gives what it found with the index to go on at, or a refusal. A refusal holds its
--- number, a token's index and what its message needs besides the token, never a line or a place: those are looked up with
--- the token, by whoever answers. (13 and a header's 15 spell the name of their own token.)
+-- number, a token's index and what its message needs besides the token, never a line or a place: those are looked up
+-- with the token, by whoever answers. (13 and a header's 15 spell the name of their own token.)
 use Prim.Native.Nat.{ℕ}
 use Rattle.pieces.specs.declared.Identifier.{Identifier}
 use Rattle.lexer.specs.declared.TokenAt.{TokenAt}
@@ -18,7 +18,8 @@ use Rattle.parser.specs.declared.Defined.{Defined}
 use Rattle.parser.specs.declared.Defined.the-variants as D
 
 abbrev pub refusal : ℕ → ℕ → ℕ → Refusal
-refusal number token wanted = record { number = number; token = token; wanted = wanted; found = 0; name = record { 0 = 0 } }
+refusal number token wanted =
+    record { number = number; token = token; wanted = wanted; found = 0; name = record { 0 = 0 } }
 
 -- a look at a token: its kind, and the index after it
 unfoldable pub look : {A : Type 0} → TokenAt → (ℕ → ℕ → A) → A

@@ -11,8 +11,8 @@ ghost use Rattle.parser.specs.Step.{refusal};
 ghost use Rattle.parser.specs.Grammar.{consumeD, namedD, typeD, definitionD, instructionD};
 use pieces::Identifier;
 
-// Why the parser refuses: document 01's number, the token that the Rust reports with, and what the message needs:
-// the kind (5), type (15, 17) or count (20) that was wanted, the type or count that was found, or the name that it spells
+// Why the parser refuses: document 01's number, the token that the Rust reports with, and what the message needs: the
+// kind (5), type (15, 17) or count (20) that was wanted, the type or count that was found, or the name that it spells
 // (14 to 16).
 pub struct Refusal {
     pub number: u32,
