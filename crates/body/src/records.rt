@@ -12,7 +12,7 @@ use parser::Variable;
 use parser::runs::type_cell;
 
 // Stores a record behind n others.
-pub(crate) fn put_record(items: &mut [u32], n: usize, r: ItemRecord)
+pub fn put_record(items: &mut [u32], n: usize, r: ItemRecord)
     requires { ⌜ n * 8 + 8 ≤ length (now items) ⌝ }
     ensures { λ _. ⌜ now (items .exit) ≡ sets (now (items .entry)) (n * 8) (recordCells r) ⌝ }
 {

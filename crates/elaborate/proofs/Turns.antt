@@ -1,0 +1,61 @@
+-- One turn of each loop: what is left is the first of it and the rest, or nothing.
+use Prim.Native.Nat.{ℕ, zero, suc, _+_, _*_, _-_, _≤_, _<_}
+use mathlib.Core.Path.{_≡_, refl}
+use mathlib.Core.List.{List}
+use native.Mathlib.Omega.{arith}
+use borrow.Author.Tests.{eq-eqb, ne-eqb}
+use lib.ListN.{getD, set}
+use lib.Seq.{sets}
+use Rattle.utils.specs.Bytes.{pick}
+use Rattle.body.specs.Records.{recordAt, recordCells}
+use Rattle.functions.specs.Rows.{nameAt, typeAt}
+use Rattle.elaborate.specs.Types.{typeOf, calleeFrom, typedRecord, typedRun, typedArguments, typedItems, typedCalls}
+
+module _ (rows : List ℕ) (i n name : ℕ) where
+  pub callee-here : i < n → getD rows (nameAt i) 0 ≡ name → calleeFrom rows i (n - i) name ≡ getD rows (typeAt i) 0 + 4
+  unfolding calleeFrom pick
+  callee-here h g = let m : n - i ≡ suc (n - (i + 1)) = omega arith in rw (m, eq-eqb _ _ g)
+
+  pub callee-later : i < n → (getD rows (nameAt i) 0 ≡ name → ⊥)
+      → calleeFrom rows i (n - i) name ≡ calleeFrom rows (i + 1) (n - (i + 1)) name
+  unfolding calleeFrom pick
+  callee-later h g = let m : n - i ≡ suc (n - (i + 1)) = omega arith in rw (m, ne-eqb _ _ g)
+
+  pub callee-none : n ≤ i → calleeFrom rows i (n - i) name ≡ 0
+  unfolding calleeFrom
+  callee-none h = let m : n - i ≡ 0 = omega arith in rw m
+
+pub run-more : (table cells : List ℕ) (at n : ℕ) → 0 < n
+    → typedRun table cells at n
+    ≡ typedRun table (set cells (at * 2 + 1) (typeOf table (getD cells (at * 2) 0))) (at + 1) (n - 1)
+unfolding typedRun
+run-more table cells at zero h = absurd (omega arith)
+run-more table cells at (suc n) h = let m : suc n - 1 ≡ n = omega arith in rw m
+
+pub run-none : (table cells : List ℕ) (at n : ℕ) → n ≡ 0 → typedRun table cells at n ≡ cells
+unfolding typedRun
+run-none table cells at n h = rw h
+
+pub items-more : (table rows : List ℕ) (n : ℕ) (cells : List ℕ) (first count : ℕ) → 0 < count
+    → typedItems table rows n cells first count
+    ≡ typedItems table rows n (sets cells (first * 8) (recordCells (typedRecord table rows n (recordAt cells first)))) (first + 1)
+    (count - 1)
+unfolding typedItems
+items-more table rows n cells first zero h = absurd (omega arith)
+items-more table rows n cells first (suc count) h = let m : suc count - 1 ≡ count = omega arith in rw m
+
+pub items-none : (table rows : List ℕ) (n : ℕ) (cells : List ℕ) (first count : ℕ) → count ≡ 0
+    → typedItems table rows n cells first count ≡ cells
+unfolding typedItems
+items-none table rows n cells first count h = rw h
+
+pub calls-more : (table items cells : List ℕ) (first count : ℕ) → 0 < count
+    → typedCalls table items cells first count
+    ≡ typedCalls table items (typedArguments table cells (recordAt items first)) (first + 1) (count - 1)
+unfolding typedCalls
+calls-more table items cells first zero h = absurd (omega arith)
+calls-more table items cells first (suc count) h = let m : suc count - 1 ≡ count = omega arith in rw m
+
+pub calls-none : (table items cells : List ℕ) (first count : ℕ) → count ≡ 0 → typedCalls table items cells first count ≡ cells
+unfolding typedCalls
+calls-none table items cells first count h = rw h

@@ -1,0 +1,2 @@
+-- the types that typing writes
+pub mod Types

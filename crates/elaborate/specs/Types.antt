@@ -1,0 +1,62 @@
+-- Once a function is typed, the operands of its operations get their types: those that their names have in the table of
+-- names, and a callee its function type. The operand kept in `ret`, `print`, `br` stays of placeholder type.
+use Prim.Native.Nat.{ℕ, zero, suc, _+_, _*_}
+use mathlib.Core.List.{List, [], _∷_}
+use mathlib.Core.Bool.{Bool, true, false}
+use lib.Dec.{eqb}
+use lib.ListN.{getD, set}
+use lib.Seq.{sets}
+use Rattle.utils.specs.Bytes.{pick}
+use Rattle.body.specs.Records.{itemRecord, recordAt, recordCells}
+use Rattle.body.specs.declared.ItemRecord.{ItemRecord}
+use Rattle.functions.specs.Rows.{nameAt, typeAt}
+
+-- a name's type
+abbrev pub typeOf : List ℕ → ℕ → ℕ
+typeOf table name = getD table name 0
+
+-- a callee's type: a function type's cell is its number and 4
+unfoldable pub calleeFrom : List ℕ → ℕ → ℕ → ℕ → ℕ
+calleeFrom rows i zero name = 0
+calleeFrom rows i (suc n) name =
+    let more = calleeFrom rows (i + 1) n name in
+    pick (eqb (getD rows (nameAt i) 0) name) (getD rows (typeAt i) 0 + 4) more
+
+abbrev pub calleeOf : List ℕ → ℕ → ℕ → ℕ
+calleeOf rows n name = calleeFrom rows 0 n name
+
+-- 2 binary, 3 unary, 5 and 6 calls (crates/body/specs/Records.antt)
+unfoldable pub isCall : ℕ → Bool
+isCall kind = pick (eqb kind 5) true (eqb kind 6)
+
+unfoldable pub typedRecord : List ℕ → List ℕ → ℕ → ItemRecord → ItemRecord
+typedRecord table rows n r =
+    let k = r .kind in
+    let left = typeOf table (r .left) in
+    let right = typeOf table (r .right) in
+    let callee = calleeOf rows n (r .left) in
+    pick (eqb k 2) (itemRecord k (r .token) (r .dest) (r .dty) (r .left) left (r .right) right)
+    (pick (eqb k 3) (itemRecord k (r .token) (r .dest) (r .dty) (r .left) left (r .right) (r .rty))
+    (pick (isCall k) (itemRecord k (r .token) (r .dest) (r .dty) (r .left) callee (r .right) (r .rty))
+    r))
+
+-- the arguments of a call: so many from the argument `at` on
+unfoldable pub typedRun : List ℕ → List ℕ → ℕ → ℕ → List ℕ
+typedRun table cells at zero = cells
+typedRun table cells at (suc n) =
+    typedRun table (set cells (at * 2 + 1) (typeOf table (getD cells (at * 2) 0))) (at + 1) n
+
+abbrev pub typedArguments : List ℕ → List ℕ → ItemRecord → List ℕ
+typedArguments table cells r = pick (isCall (r .kind)) (typedRun table cells (r .right) (r .rty)) cells
+
+-- the items of a function, and their arguments
+unfoldable pub typedItems : List ℕ → List ℕ → ℕ → List ℕ → ℕ → ℕ → List ℕ
+typedItems table rows n cells first zero = cells
+typedItems table rows n cells first (suc count) =
+    typedItems table rows n (sets cells (first * 8) (recordCells (typedRecord table rows n (recordAt cells first)))) (first + 1)
+    count
+
+unfoldable pub typedCalls : List ℕ → List ℕ → List ℕ → ℕ → ℕ → List ℕ
+typedCalls table items cells first zero = cells
+typedCalls table items cells first (suc count) =
+    typedCalls table items (typedArguments table cells (recordAt items first)) (first + 1) count

@@ -1,0 +1,192 @@
+// The types of operands, written once a function is typed: what Sema's analyze_op hands back in the Rust.
+ghost use mathlib.Core.Path.{_≡_};
+ghost use Prim.Native.Nat.{ℕ, _+_, _*_, _≤_, _<_};
+ghost use lib.ListN.{length, getD, set};
+ghost use Rattle.body.specs.Records.{recordAt};
+ghost use Rattle.functions.specs.Rows.{typeAt};
+ghost use Rattle.elaborate.specs.Types.{typeOf, calleeOf, isCall, typedRecord, typedRun, typedArguments};
+ghost use Rattle.elaborate.specs.Types.{typedItems, typedCalls};
+use body::ItemRecord;
+use body::records;
+
+// A cell, or 0 past the end.
+fn cell_at(cells: &[u32], at: usize) -> u32
+    ensures { λ r. ⌜ r ≡ getD (now (cells .entry)) at 0 ⌝ }
+{
+    if at < cells.len() {
+        return cells[at];
+    }
+    0
+}
+
+// The function type of the first function of this name among n.
+fn callee_type(rows: &[u32], n: usize, name: u32) -> u32
+    requires { ⌜ (n ≤ 64) × (2881 ≤ length (now rows)) × ((i : ℕ) → i < n → getD (now rows) (typeAt i) 0 ≤ 64) ⌝ }
+    ensures { λ r. ⌜ r ≡ calleeOf (now (rows .entry)) n name ⌝ }
+{
+    let mut i: usize = 0;
+    while i < n {
+        if rows[2 + i * 45] == name {
+            return rows[8 + i * 45] + 4;
+        }
+        i += 1;
+    }
+    0
+}
+
+fn is_call(kind: u32) -> bool
+    ensures { λ r. ⌜ r ≡ isCall kind ⌝ }
+{
+    if kind == 5 {
+        return true;
+    }
+    kind == 6
+}
+
+// An item with the types of its operands.
+fn typed_record(r: ItemRecord, table: &[u32], rows: &[u32], n: usize) -> ItemRecord
+    requires { ⌜ (n ≤ 64) × (2881 ≤ length (now rows)) × ((i : ℕ) → i < n → getD (now rows) (typeAt i) 0 ≤ 64) ⌝ }
+    ensures { λ res. ⌜ res ≡ typedRecord (now (table .entry)) (now (rows .entry)) n r ⌝ }
+{
+    let kind = r.kind;
+    let token = r.token;
+    let dest = r.dest;
+    let dty = r.dty;
+    let left = r.left;
+    let right = r.right;
+    let rty = r.rty;
+    if kind == 2 {
+        let lty = cell_at(table, left as usize);
+        let rty = cell_at(table, right as usize);
+        return ItemRecord {
+            kind,
+            token,
+            dest,
+            dty,
+            left,
+            lty,
+            right,
+            rty,
+        };
+    }
+    if kind == 3 {
+        let lty = cell_at(table, left as usize);
+        return ItemRecord {
+            kind,
+            token,
+            dest,
+            dty,
+            left,
+            lty,
+            right,
+            rty,
+        };
+    }
+    if is_call(kind) {
+        let lty = callee_type(rows, n, left);
+        return ItemRecord {
+            kind,
+            token,
+            dest,
+            dty,
+            left,
+            lty,
+            right,
+            rty,
+        };
+    }
+    r
+}
+
+// The arguments of a call, from `first` on.
+fn type_run(table: &[u32], arguments: &mut [u32], first: u32, count: u32)
+    ensures { λ _. ⌜ now (arguments .exit) ≡ typedRun (now (table .entry)) (now (arguments .entry)) first count ⌝ }
+{
+    let mut at = first as usize;
+    let mut left = count;
+    while 0 < left {
+        let i = at * 2;
+        let ty = cell_at(table, cell_at(arguments, i) as usize);
+        put_cell(arguments, i + 1, ty);
+        at += 1;
+        left -= 1;
+    }
+}
+
+// A cell, where the slice has it.
+fn put_cell(cells: &mut [u32], at: usize, v: u32)
+    ensures { λ _. ⌜ now (cells .exit) ≡ set (now (cells .entry)) at v ⌝ }
+{
+    if at < cells.len() {
+        cells[at] = v;
+    }
+}
+
+// The arguments of the calls among `count` items from the item `first` on.
+fn elaborate_calls(table: &[u32], items: &[u32], first: usize, count: usize, arguments: &mut [u32])
+    requires { ⌜ (first + count) * 8 ≤ length (now items) ⌝ }
+    ensures { λ _. ⌜ now (arguments .exit)
+        ≡ typedCalls (now (table .entry)) (now (items .entry)) (now (arguments .entry)) first count ⌝ }
+{
+    let mut at = first;
+    let mut left = count;
+    while 0 < left {
+        let r = records::record_at(items, at);
+        type_call(table, r, arguments);
+        at += 1;
+        left -= 1;
+    }
+}
+
+fn type_call(table: &[u32], r: ItemRecord, arguments: &mut [u32])
+    ensures { λ _. ⌜ now (arguments .exit) ≡ typedArguments (now (table .entry)) (now (arguments .entry)) r ⌝ }
+{
+    if is_call(r.kind) {
+        type_run(table, arguments, r.right, r.rty);
+    }
+}
+
+// The types of the operands of `count` items from the item `first` on.
+fn elaborate_items(
+    table: &[u32],
+    rows: &[u32],
+    n: usize,
+    items: &mut [u32],
+    first: usize,
+    count: usize,
+)
+    requires { ⌜ (n ≤ 64) × (2881 ≤ length (now rows)) × ((i : ℕ) → i < n → getD (now rows) (typeAt i) 0 ≤ 64)
+        × ((first + count) * 8 ≤ length (now items)) ⌝ }
+    ensures { λ _. ⌜ now (items .exit)
+        ≡ typedItems (now (table .entry)) (now (rows .entry)) n (now (items .entry)) first count ⌝ }
+{
+    let mut at = first;
+    let mut left = count;
+    while 0 < left {
+        let r = records::record_at(items, at);
+        records::put_record(items, at, typed_record(r, table, rows, n));
+        at += 1;
+        left -= 1;
+    }
+}
+
+// A function's items and their arguments, by the table of names that its typing left.
+pub fn elaborate(
+    table: &[u32],
+    rows: &[u32],
+    n: usize,
+    items: &mut [u32],
+    first: usize,
+    count: usize,
+    arguments: &mut [u32],
+)
+    requires { ⌜ (n ≤ 64) × (2881 ≤ length (now rows)) × ((i : ℕ) → i < n → getD (now rows) (typeAt i) 0 ≤ 64)
+        × ((first + count) * 8 ≤ length (now items)) ⌝ }
+    ensures { λ _. ⌜ now (items .exit)
+        ≡ typedItems (now (table .entry)) (now (rows .entry)) n (now (items .entry)) first count ⌝ }
+    ensures { λ _. ⌜ now (arguments .exit)
+        ≡ typedCalls (now (table .entry)) (now (items .entry)) (now (arguments .entry)) first count ⌝ }
+{
+    elaborate_calls(table, items, first, count, arguments);
+    elaborate_items(table, rows, n, items, first, count);
+}
