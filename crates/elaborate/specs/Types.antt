@@ -53,8 +53,8 @@ typedArguments table cells r = pick (isCall (r .kind)) (typedRun table cells (r 
 unfoldable pub typedItems : List ℕ → List ℕ → ℕ → List ℕ → ℕ → ℕ → List ℕ
 typedItems table rows n cells first zero = cells
 typedItems table rows n cells first (suc count) =
-    typedItems table rows n (sets cells (first * 8) (recordCells (typedRecord table rows n (recordAt cells first)))) (first + 1)
-    count
+    typedItems table rows n
+    (sets cells (first * 8) (recordCells (typedRecord table rows n (recordAt cells first)))) (first + 1) count
 
 unfoldable pub typedCalls : List ℕ → List ℕ → List ℕ → ℕ → ℕ → List ℕ
 typedCalls table items cells first zero = cells
