@@ -1,10 +1,12 @@
 -- Document 01, "Numbers the reader answers with", for the refusals of parsing and typing, 5 to 22 and 35 to 38: the
 -- message of each, `[line N] Error ITEM: TEXT` and a newline. 5 to 21 are the Rust's bytes; the others' TEXT is the
 -- table's WORD and a full stop.
-use Prim.Native.Nat.{ℕ, _-_}
+use Prim.Native.Nat.{ℕ, zero, suc, _+_, _-_, _*_, _≤_}
 use mathlib.Core.List.{List, [], _∷_, _++_}
-use lib.Dec.{eqb, ltb}
-use lib.ListN.{getD}
+use mathlib.Core.Bool.{Bool, true, false}
+use lib.Dec.{eqb, ltb, leb}
+use lib.ListN.{length, getD}
+use lib.Seq.{slice}
 use Rattle.utils.specs.Bytes.{pick, bytes}
 use Rattle.utils.specs.Message.{decimal, reported}
 use Rattle.lexer.specs.Decoded.{Tok, tokenAt, nameOf}
@@ -92,15 +94,14 @@ abbrev pub atName : List ℕ → List ℕ
 atName name = bytes "at " ++ quoted name
 
 -- The token for 5 to 12 and 17 to 21; a name for 13, its token's own, and for 15 and 16; nothing for 14, where the Rust
--- has none, and for the numbers that are not the Rust's.
-unfoldable pub itemOf : List ℕ → List ℕ → TokenAt → Refusal → List ℕ
-itemOf text names t e =
-    let n = e .number in
-    pick (ltb n 13) (atToken (t .kind) (t .value))
-    (pick (eqb n 13) (atName (nameOf text names (t .value)))
+-- has none, and for the numbers that are not the Rust's. (The token's kind and value, the refusal's number and name.)
+unfoldable pub itemOf : List ℕ → List ℕ → ℕ → ℕ → ℕ → ℕ → List ℕ
+itemOf text names kind value n name =
+    pick (ltb n 13) (atToken kind value)
+    (pick (eqb n 13) (atName (nameOf text names value))
     (pick (eqb n 14) []
-    (pick (ltb n 17) (atName (nameOf text names (e .name .0)))
-    (pick (ltb n 22) (atToken (t .kind) (t .value))
+    (pick (ltb n 17) (atName (nameOf text names name))
+    (pick (ltb n 22) (atToken kind value)
     []))))
 
 -- TEXT. ---------------------------------------------------------------------------------------------------------------
@@ -150,21 +151,40 @@ fixed n =
     (pick (eqb n 38) (bytes "too many labels.")
     []))))))))))))))))
 
-unfoldable pub textOf : List ℕ → List ℕ → Refusal → List ℕ
-textOf text names e =
-    let n = e .number in
-    pick (eqb n 5) (expected (e .wanted))
-    (pick (eqb n 14) (missing (nameOf text names (e .name .0)))
-    (pick (eqb n 15) (unexpected (e .found) (e .wanted))
-    (pick (eqb n 17) (otherType (e .wanted) (e .found))
-    (pick (eqb n 20) (otherCount (e .wanted) (e .found))
+-- (The refusal's number, what was wanted, what was found, its name.)
+unfoldable pub textOf : List ℕ → List ℕ → ℕ → ℕ → ℕ → ℕ → List ℕ
+textOf text names n wanted found name =
+    pick (eqb n 5) (expected wanted)
+    (pick (eqb n 14) (missing (nameOf text names name))
+    (pick (eqb n 15) (unexpected found wanted)
+    (pick (eqb n 17) (otherType wanted found)
+    (pick (eqb n 20) (otherCount wanted found)
     (fixed n)))))
 
 -- The message. --------------------------------------------------------------------------------------------------------
 
 abbrev pub messageAt : List ℕ → List ℕ → TokenAt → Refusal → List ℕ
-messageAt text names t e = reported (t .line .0) (itemOf text names t e) (textOf text names e)
+messageAt text names t e =
+    reported (t .line .0) (itemOf text names (t .kind) (t .value) (e .number) (e .name .0))
+    (textOf text names (e .number) (e .wanted) (e .found) (e .name .0))
 
 -- of a text with its tokens, its names' cells and its refusal
 abbrev pub messageOf : List ℕ → List Tok → List ℕ → Refusal → List ℕ
 messageOf text ts names e = messageAt text names (tokenAt ts (e .token)) e
+
+-- What the code asks of the names' cells: no name is longer than 64 bytes (document 01's limit).
+abbrev pub ShortNames : List ℕ → List ℕ → Type 0
+ShortNames text names = (i : ℕ) → length (nameOf text names i) ≤ 64
+
+-- How the code holds the words: in rows of twelve bytes, a length and eleven for the letters.
+abbrev pub rowAt : List ℕ → ℕ → List ℕ
+rowAt t k = slice (k * 12 + 1) (k * 12 + 1 + getD t (k * 12) 0) t
+
+unfoldable pub rowsFrom : ℕ → ℕ → List ℕ → List (List ℕ)
+rowsFrom zero k t = []
+rowsFrom (suc n) k t = rowAt t k ∷ rowsFrom n (k + 1) t
+
+-- no word is longer than its room
+unfoldable pub rowsFit : ℕ → ℕ → List ℕ → Bool
+rowsFit zero k t = true
+rowsFit (suc n) k t = let more = rowsFit n (k + 1) t in pick (leb (getD t (k * 12) 0) 11) more false
