@@ -29,7 +29,16 @@ fn put_at_name(buf: &mut [u8], at: usize, text: &[u8], names: &[u32], name: u32)
     words::put_quoted_name(buf, p1, text, names, name)
 }
 
-pub(crate) fn put_item(buf: &mut [u8], at: usize, text: &[u8], names: &[u32], kind: u32, value: u32, number: u32, name: u32) -> usize
+pub(crate) fn put_item(
+    buf: &mut [u8],
+    at: usize,
+    text: &[u8],
+    names: &[u32],
+    kind: u32,
+    value: u32,
+    number: u32,
+    name: u32,
+) -> usize
     requires { ⌜ (at + 69 ≤ length (now buf)) × ShortNames (now text) (now names) ⌝ }
     ensures { λ r. ⌜ (r ≡ at + length (itemOf (now (text .entry)) (now (names .entry)) kind value number name))
         × (now (buf .exit) ≡ sets (now (buf .entry)) at (itemOf (now (text .entry)) (now (names .entry)) kind value number name)) × (r ≤ at + 69) ⌝ }

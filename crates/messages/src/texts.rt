@@ -78,7 +78,11 @@ fn put_fixed(buf: &mut [u8], at: usize, number: u32) -> usize
         16 => utils::put(buf, at, b"Undefined identifier."),
         18 => utils::put(buf, at, b"Void functions cannot return a value."),
         19 => utils::put(buf, at, b"Non-void functions must return a value."),
-        21 => utils::put(buf, at, b"Block terminator expected to be jump, br, or ret."),
+        21 => utils::put(
+            buf,
+            at,
+            b"Block terminator expected to be jump, br, or ret.",
+        ),
         22 => utils::put(buf, at, b"empty block."),
         35 => utils::put(buf, at, b"too many functions."),
         36 => utils::put(buf, at, b"too many formals."),
@@ -88,7 +92,16 @@ fn put_fixed(buf: &mut [u8], at: usize, number: u32) -> usize
     }
 }
 
-pub(crate) fn put_text(buf: &mut [u8], at: usize, text: &[u8], names: &[u32], number: u32, wanted: u32, found: u32, name: u32) -> usize
+pub(crate) fn put_text(
+    buf: &mut [u8],
+    at: usize,
+    text: &[u8],
+    names: &[u32],
+    number: u32,
+    wanted: u32,
+    found: u32,
+    name: u32,
+) -> usize
     requires { ⌜ (at + 91 ≤ length (now buf)) × ShortNames (now text) (now names) ⌝ }
     ensures { λ r. ⌜ (r ≡ at + length (textOf (now (text .entry)) (now (names .entry)) number wanted found name))
         × (now (buf .exit) ≡ sets (now (buf .entry)) at (textOf (now (text .entry)) (now (names .entry)) number wanted found name)) × (r ≤ at + 91) ⌝ }

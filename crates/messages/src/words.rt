@@ -148,7 +148,13 @@ fn put_name(buf: &mut [u8], at: usize, text: &[u8], names: &[u32], name: u32) ->
     utils::put(buf, at, part)
 }
 
-pub(crate) fn put_quoted_name(buf: &mut [u8], at: usize, text: &[u8], names: &[u32], name: u32) -> usize
+pub(crate) fn put_quoted_name(
+    buf: &mut [u8],
+    at: usize,
+    text: &[u8],
+    names: &[u32],
+    name: u32,
+) -> usize
     requires { ⌜ (at + 66 ≤ length (now buf)) × ShortNames (now text) (now names) ⌝ }
     ensures { λ r. ⌜ (r ≡ at + length (quoted (nameOf (now (text .entry)) (now (names .entry)) name)))
         × (now (buf .exit) ≡ sets (now (buf .entry)) at (quoted (nameOf (now (text .entry)) (now (names .entry)) name))) × (r ≤ at + 66) ⌝ }
