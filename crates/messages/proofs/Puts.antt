@@ -1,0 +1,28 @@
+-- Stores one after the other, each where the one before it ended.
+use Prim.Native.Nat.{ℕ, _+_, _≤_}
+use mathlib.Core.List.{List, [], _∷_, _++_}
+use mathlib.Core.Path.{_≡_, refl}
+use native.Mathlib.Omega.{arith}
+use lib.ListN.{length}
+use lib.Seq.{sets}
+use Rattle.utils.proofs.Runs.{both}
+
+-- xs is stored in b from `at` on, which gives b′ and ends at r; xs has at most so many bytes
+abbrev pub Put : List ℕ → ℕ → List ℕ → List ℕ → ℕ → ℕ → Type 0
+Put b at xs b′ r most = (r ≡ at + length xs) × (b′ ≡ sets b at xs) × (r ≤ at + most)
+
+pub one : (b : List ℕ) (at : ℕ) (xs b′ : List ℕ) (r : ℕ) → (r ≡ at + length xs) × (b′ ≡ sets b at xs)
+    → Put b at xs b′ r (length xs)
+one b at xs b′ r p = (p .0, p .1, omega (arith, p .0))
+
+pub nothing : (b : List ℕ) (at most : ℕ) → Put b at [] b at most
+nothing b at most = (omega arith, refl, omega arith)
+
+pub then : (b₀ b₁ b₂ xs ys : List ℕ) (at k r m n : ℕ) → Put b₀ at xs b₁ k m → Put b₁ k ys b₂ r n
+    → Put b₀ at (xs ++ ys) b₂ r (m + n)
+then b₀ b₁ b₂ xs ys at k r m n p q =
+    let w = both b₀ b₁ b₂ xs ys at k r (p .0) (p .1) (q .0) (q .1) in
+    (w .0, w .1, omega (arith, p .2, q .2))
+
+pub wider : (b : List ℕ) (at : ℕ) (xs b′ : List ℕ) (r m n : ℕ) → m ≤ n → Put b at xs b′ r m → Put b at xs b′ r n
+wider b at xs b′ r m n h p = (p .0, p .1, omega (arith, p .2, h))

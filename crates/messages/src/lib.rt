@@ -1,0 +1,60 @@
+// The messages of the refusals of parsing and typing: each error of parser.rs and ir.rs.
+mod items;
+mod texts;
+mod words;
+
+ghost use mathlib.Core.Path.{_≡_};
+ghost use Prim.Native.Nat.{ℕ, _+_, _≤_};
+ghost use lib.ListN.{length};
+ghost use lib.Seq.{sets};
+ghost use Rattle.utils.specs.Bytes.{padTo};
+ghost use Rattle.lexer.specs.Decoded.{tokensOf};
+ghost use Rattle.messages.specs.Messages.{ShortNames, behindError, messageAt, messageOf};
+use lexer::TokenAt;
+use parser::Refusal;
+
+// `ITEM: TEXT` and a newline.
+fn put_behind(
+    buf: &mut [u8],
+    at: usize,
+    text: &[u8],
+    names: &[u32],
+    t: TokenAt,
+    e: Refusal,
+) -> usize
+    requires { ⌜ (at + 163 ≤ length (now buf)) × ShortNames (now text) (now names) ⌝ }
+    ensures { λ r. ⌜ (r ≡ at + length (behindError (now (text .entry)) (now (names .entry)) t e))
+        × (now (buf .exit) ≡ sets (now (buf .entry)) at (behindError (now (text .entry)) (now (names .entry)) t e))
+        × (r ≤ at + 163) ⌝ }
+{
+    let number = e.number;
+    let name = e.name.0;
+    let p1 = items::put_item(buf, at, text, names, t.kind, t.value, number, name);
+    let p2 = utils::put(buf, p1, b": ");
+    let p3 = texts::put_text(buf, p2, text, names, number, e.wanted, e.found, name);
+    utils::put(buf, p3, b"\n")
+}
+
+fn put_at(buf: &mut [u8], at: usize, text: &[u8], names: &[u32], t: TokenAt, e: Refusal) -> usize
+    requires { ⌜ (at + 187 ≤ length (now buf)) × ShortNames (now text) (now names) ⌝ }
+    ensures { λ r. ⌜ (r ≡ at + length (messageAt (now (text .entry)) (now (names .entry)) t e))
+        × (now (buf .exit) ≡ sets (now (buf .entry)) at (messageAt (now (text .entry)) (now (names .entry)) t e))
+        × (r ≤ at + 187) ⌝ }
+{
+    let line = t.line.0;
+    let p1 = utils::put(buf, at, b"[line ");
+    let p2 = utils::put_decimal(buf, p1, line);
+    let p3 = utils::put(buf, p2, b"] Error ");
+    put_behind(buf, p3, text, names, t, e)
+}
+
+// The message of a refusal, and zeros after it.
+pub fn put_message(text: &[u8], tokens: &[u32], names: &[u32], e: Refusal, message: &mut [u8])
+    requires { ⌜ (512 ≤ length (now message)) × ShortNames (now text) (now names) ⌝ }
+    ensures { λ r. ⌜ now (message .exit) ≡ padTo (length (now (message .entry)))
+        (messageOf (now (text .entry)) (tokensOf (now (tokens .entry))) (now (names .entry)) e) ⌝ }
+{
+    utils::clear_bytes(message);
+    let t = lexer::token_at(tokens, e.token);
+    let end = put_at(message, 0, text, names, t, e);
+}
