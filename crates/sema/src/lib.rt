@@ -1,4 +1,5 @@
 // Typing: Sema of bril-lib/src/parser.rs, with SymbolTable of ir.rs.
+mod analyze;
 mod calls;
 mod operations;
 mod symbols;
