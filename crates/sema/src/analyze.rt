@@ -19,7 +19,7 @@ use lexer::token_at;
 use pieces::Identifier;
 
 // A cell, or 0 past the end.
-fn cell_at(cells: &[u32], at: usize) -> u32
+pub(crate) fn cell_at(cells: &[u32], at: usize) -> u32
     ensures { λ r. ⌜ r ≡ getD (now (cells .entry)) at 0 ⌝ }
 {
     if at < cells.len() {

@@ -93,7 +93,7 @@ fn compare_arguments(
 }
 
 // A row has room for 16 formals.
-fn at_most_16(n: u32) -> u32
+pub(crate) fn at_most_16(n: u32) -> u32
     ensures { λ r. ⌜ (r ≡ atMost16 n) × (r ≤ 16) ⌝ }
 {
     if n <= 16 {
@@ -130,7 +130,7 @@ fn analyze_arguments(
 }
 
 // The result type of the function in row i.
-fn result_type(rows: &[u32], i: usize) -> u32
+pub(crate) fn result_type(rows: &[u32], i: usize) -> u32
     requires { ⌜ (i < 64) × (2881 ≤ length (now rows)) ⌝ }
     ensures { λ r. ⌜ r ≡ getD (now (rows .entry)) (retAt i) 0 ⌝ }
 {

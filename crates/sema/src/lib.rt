@@ -1,6 +1,7 @@
 // Typing: Sema of bril-lib/src/parser.rs, with SymbolTable of ir.rs.
 mod analyze;
 mod calls;
+mod function;
 mod operations;
 mod symbols;
 
