@@ -1,4 +1,4 @@
-// A function: its formals, then its blocks in the walk's order. All functions, in text order.
+// A function: its formals, then its blocks in the walk's order.
 ghost use mathlib.Core.Path.{_≡_};
 ghost use mathlib.Core.List.{List};
 ghost use Prim.Native.Nat.{ℕ, _+_, _*_, _≤_, _<_};
@@ -9,9 +9,9 @@ ghost use Rattle.graph.specs.Worklist.{remaining};
 ghost use Rattle.sema.specs.Symbols.{typed};
 ghost use Rattle.sema.specs.Globals.{globalsIn};
 ghost use Rattle.sema.specs.Blocks.{firstBlockAt, blockCountAt, formalsFrom, formalsIn, formalsD};
-ghost use Rattle.sema.specs.Blocks.{blockD, blocksD, blockItems, blocksAt, inOrder, rowD, rowsD};
+ghost use Rattle.sema.specs.Blocks.{blockD, blocksD, blockItems, blocksAt, inOrder, rowD};
 use crate::Checked;
-use crate::analyze;
+use crate::blocks;
 use crate::calls;
 use crate::symbols;
 use graph::Popped;
@@ -71,9 +71,9 @@ fn analyze_recorded(
         (blockItems (now (items .entry)) (now (arguments .entry)) (now (blocks .entry)) k) ⌝ }
 {
     let at = k * 8;
-    let first = analyze::cell_at(blocks, at);
-    let count = analyze::cell_at(blocks, at + 1);
-    analyze::analyze_block(tokens, rows, n, ret, table, items, arguments, first, count)
+    let first = blocks::cell_at(blocks, at);
+    let count = blocks::cell_at(blocks, at + 1);
+    blocks::analyze_block(tokens, rows, n, ret, table, items, arguments, first, count)
 }
 
 // The blocks that the worklist still has.
@@ -175,32 +175,4 @@ pub fn analyze(
         Checked::Refused(e) => Checked::Refused(e),
         Checked::Fine => analyze_blocks(tokens, rows, n, row, table, items, arguments, blocks),
     }
-}
-
-pub fn analyze_all(
-    tokens: &[u32],
-    rows: &[u32],
-    n: usize,
-    table: &mut [u32],
-    items: &[u32],
-    arguments: &[u32],
-    blocks: &[u32],
-) -> Checked
-    requires { ⌜ (n ≤ 64) × (2881 ≤ length (now rows)) ⌝ }
-    ensures { λ r. ⌜ typed (now (table .exit)) r
-        ≡ rowsD (tokensOf (now (tokens .entry))) (now (rows .entry)) n (now (items .entry)) (now (arguments .entry))
-        (now (blocks .entry)) 0 n (now (table .entry)) ⌝ }
-{
-    let mut row: usize = 0;
-    while row < n {
-        match analyze(tokens, rows, n, row, table, items, arguments, blocks) {
-            Checked::Refused(e) => {
-                return Checked::Refused(e);
-            }
-            Checked::Fine => {
-                row += 1;
-            }
-        }
-    }
-    Checked::Fine
 }

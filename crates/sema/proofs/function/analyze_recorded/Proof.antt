@@ -14,8 +14,8 @@ use Rattle.sema.proofs.function.analyze_recorded.Statement.{statement}
 use Rattle.sema.proofs.function.analyze_recorded.Tie as tie
 use Rattle.sema.proofs.function.analyze_recorded.Reads as reads
 use Rattle.sema.proofs.function.analyze_recorded.Lts as lts
-use Rattle.sema.proofs.analyze.analyze_block.Reads as analyze-block-reads
-use Rattle.sema.proofs.analyze.cell_at.Reads as cell-at-reads
+use Rattle.sema.proofs.blocks.analyze_block.Reads as analyze-block-reads
+use Rattle.sema.proofs.blocks.cell_at.Reads as cell-at-reads
 
 -- src/function.rt:72:14
 mul-at : tie.Need-mul-at

@@ -15,12 +15,12 @@ use mathlib.Core.Bool.{Bool, true, false}
 use lib.ListN.{length, drop, take, getD}
 use lib.Seq.{drop-cons}
 use denote.Ref.{now}
-use Rattle.sema.proofs.analyze.analyze_block.Statement.{statement}
-use Rattle.sema.proofs.analyze.analyze_block.Tie as tie
-use Rattle.sema.proofs.analyze.analyze_block.Reads as reads
-use Rattle.sema.proofs.analyze.analyze_block.Lts as lts
-use Rattle.sema.proofs.analyze.analyze_op.Reads as analyze-op-reads
-use Rattle.sema.proofs.analyze.expect_terminator.Reads as expect-terminator-reads
+use Rattle.sema.proofs.blocks.analyze_block.Statement.{statement}
+use Rattle.sema.proofs.blocks.analyze_block.Tie as tie
+use Rattle.sema.proofs.blocks.analyze_block.Reads as reads
+use Rattle.sema.proofs.blocks.analyze_block.Lts as lts
+use Rattle.sema.proofs.blocks.analyze_op.Reads as analyze-op-reads
+use Rattle.sema.proofs.blocks.expect_terminator.Reads as expect-terminator-reads
 
 abbrev Inv-loop : tie.InvT-loop
 Inv-loop tokens rows n ret table₀ items arguments first count at₀ left₀ table at left =
@@ -31,23 +31,23 @@ Inv-loop tokens rows n ret table₀ items arguments first count at₀ left₀ ta
 abbrev μ-loop : tie.MeasureT-loop
 μ-loop tokens rows n ret table₀ items arguments first count at₀ left₀ table at left = left
 
--- src/analyze.rt:169:5
+-- src/blocks.rt:169:5
 loop-holds : tie.Need-loop-holds Inv-loop μ-loop
 loop-holds c = (refl, refl, refl)
 
--- src/analyze.rt:170:15
+-- src/blocks.rt:170:15
 analyze-op-requires : tie.Need-analyze-op-requires Inv-loop μ-loop
 analyze-op-requires c κs = search needs
 
--- src/analyze.rt:171:30
+-- src/blocks.rt:171:30
 enum-known-e : tie.Need-enum-known-e Inv-loop μ-loop
 enum-known-e c = search needs
 
--- src/analyze.rt:172:17
+-- src/blocks.rt:172:17
 same-length : tie.Need-same-length Inv-loop μ-loop
 same-length c = search needs
 
--- src/analyze.rt:172:17
+-- src/blocks.rt:172:17
 returns : tie.Need-returns Inv-loop μ-loop
 returns c =
     let a = c .before .before .before .before .before .before .before .before .before .before .before .before .before .before .args in
@@ -59,23 +59,23 @@ returns c =
     (itemsAt (now (a .items)) (now (a .arguments)) (a .first) (a .count)) (loop .table) (now (a .items)) (now (a .arguments))
     (loop .at) (loop .left) (loop .inv .2) (loop-test .taken) (analyze-op .ensures) (e .given .1)
 
--- src/analyze.rt:175:17
+-- src/blocks.rt:175:17
 enum-told : tie.Need-enum-told Inv-loop μ-loop
 enum-told c = search needs
 
--- src/analyze.rt:175:17
+-- src/blocks.rt:175:17
 add-at : tie.Need-add-at Inv-loop μ-loop
 add-at c = search needs
 
--- src/analyze.rt:176:17
+-- src/blocks.rt:176:17
 sub-left : tie.Need-sub-left Inv-loop μ-loop
 sub-left c = search needs
 
--- src/analyze.rt:169:5
+-- src/blocks.rt:169:5
 loop-less : tie.Need-loop-less Inv-loop μ-loop
 loop-less c = search needs
 
--- src/analyze.rt:169:5
+-- src/blocks.rt:169:5
 loop-again : tie.Need-loop-again Inv-loop μ-loop
 loop-again c =
     let a = c .before .before .before .before .before .before .before .before .before .before .before .before .before .args in
@@ -90,15 +90,15 @@ loop-again c =
           (loop .at) (loop .left) (loop .inv .2) (loop-test .taken) (analyze-op .ensures) (enum-told .given .1),
     )
 
--- src/analyze.rt:180:5
+-- src/blocks.rt:180:5
 expect-terminator-requires : tie.Need-expect-terminator-requires Inv-loop μ-loop
 expect-terminator-requires c κs = search needs
 
--- src/analyze.rt:151:1
+-- src/blocks.rt:151:1
 same-length-2 : tie.Need-same-length-2 Inv-loop μ-loop
 same-length-2 c = search needs
 
--- src/analyze.rt:151:1
+-- src/blocks.rt:151:1
 returns-2 : tie.Need-returns-2 Inv-loop μ-loop
 returns-2 c =
     let a = c .before .before .before .before .before .before .before .before .args in

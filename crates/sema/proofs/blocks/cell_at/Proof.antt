@@ -11,24 +11,24 @@ use lib.ListN.{length, drop, take, getD}
 use lib.Seq.{drop-cons}
 use denote.Ref.{now}
 use borrow.Author.Needs.{needs}
-use Rattle.sema.proofs.analyze.cell_at.Statement.{statement}
-use Rattle.sema.proofs.analyze.cell_at.Tie as tie
-use Rattle.sema.proofs.analyze.cell_at.Reads as reads
-use Rattle.sema.proofs.analyze.cell_at.Lts as lts
+use Rattle.sema.proofs.blocks.cell_at.Statement.{statement}
+use Rattle.sema.proofs.blocks.cell_at.Tie as tie
+use Rattle.sema.proofs.blocks.cell_at.Reads as reads
+use Rattle.sema.proofs.blocks.cell_at.Lts as lts
 
--- src/analyze.rt:26:16
+-- src/blocks.rt:26:16
 mul-result : tie.Need-mul-result
 mul-result c = search needs
 
--- src/analyze.rt:26:16
+-- src/blocks.rt:26:16
 shared-slice-read-result : tie.Need-shared-slice-read-result
 shared-slice-read-result c = search needs
 
--- src/analyze.rt:26:9
+-- src/blocks.rt:26:9
 returns : tie.Need-returns
 returns c = search needs
 
--- src/analyze.rt:22:1
+-- src/blocks.rt:22:1
 returns-2 : tie.Need-returns-2
 returns-2 c = sym (List·getD-eq-default (now (c .before .args .cells)) 0 (c .if1 .left))
 

@@ -14,10 +14,10 @@ use mathlib.Core.Bool.{Bool, true, false}
 use lib.ListN.{length, drop, take, getD}
 use lib.Seq.{drop-cons}
 use denote.Ref.{now}
-use Rattle.sema.proofs.function.analyze_all.Statement.{statement}
-use Rattle.sema.proofs.function.analyze_all.Tie as tie
-use Rattle.sema.proofs.function.analyze_all.Reads as reads
-use Rattle.sema.proofs.function.analyze_all.Lts as lts
+use Rattle.sema.proofs.analyze_all.Statement.{statement}
+use Rattle.sema.proofs.analyze_all.Tie as tie
+use Rattle.sema.proofs.analyze_all.Reads as reads
+use Rattle.sema.proofs.analyze_all.Lts as lts
 use Rattle.sema.proofs.function.analyze.Reads as analyze-reads
 
 abbrev Inv-loop : tie.InvT-loop

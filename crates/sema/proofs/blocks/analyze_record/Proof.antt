@@ -14,42 +14,42 @@ use Rattle.sema.specs.Globals.{globalsIn}
 use Rattle.sema.specs.Items.{named, itemOf, itemAt}
 use Rattle.sema.proofs.Records.{plain-binary, plain-unary, plain-const, plain-ret, plain-value, plain-other, item-label, item-call, item-call-into, item-plain, last-other, last-ends, end-none, end-last}
 use borrow.Author.Needs.{needs}
-use Rattle.sema.proofs.analyze.analyze_record.Statement.{statement}
-use Rattle.sema.proofs.analyze.analyze_record.Tie as tie
-use Rattle.sema.proofs.analyze.analyze_record.Reads as reads
-use Rattle.sema.proofs.analyze.analyze_record.Lts as lts
-use Rattle.sema.proofs.analyze.analyze_plain.Reads as analyze-plain-reads
+use Rattle.sema.proofs.blocks.analyze_record.Statement.{statement}
+use Rattle.sema.proofs.blocks.analyze_record.Tie as tie
+use Rattle.sema.proofs.blocks.analyze_record.Reads as reads
+use Rattle.sema.proofs.blocks.analyze_record.Lts as lts
+use Rattle.sema.proofs.blocks.analyze_plain.Reads as analyze-plain-reads
 use Rattle.sema.proofs.calls.analyze_call.Reads as analyze-call-reads
 use Rattle.sema.proofs.calls.analyze_call_into.Reads as analyze-call-into-reads
 
--- src/analyze.rt:86:13
+-- src/blocks.rt:86:13
 cast-w : tie.Need-cast-w
 cast-w c = search needs
 
--- src/analyze.rt:94:14
+-- src/blocks.rt:94:14
 analyze-call-requires : tie.Need-analyze-call-requires
 analyze-call-requires c κs = search needs
 
--- src/analyze.rt:95:14
+-- src/blocks.rt:95:14
 analyze-call-into-requires : tie.Need-analyze-call-into-requires
 analyze-call-into-requires c κs = search needs
 
--- src/analyze.rt:107:14
+-- src/blocks.rt:107:14
 analyze-plain-requires : tie.Need-analyze-plain-requires
 analyze-plain-requires c κs = search needs
 
--- src/analyze.rt:71:1
+-- src/blocks.rt:71:1
 returns : tie.Need-returns
 returns c =
     let a = c .before .before .before .before .before .before .args in
     let match = c .match in
     item-label (tokensOf (now (a .tokens))) (globalsIn (now (a .rows)) (a .n)) (a .ret) (now (a .table)) (a .r) (now (a .arguments)) (match .keys1)
 
--- src/analyze.rt:71:1
+-- src/blocks.rt:71:1
 same-length : tie.Need-same-length
 same-length c = search needs
 
--- src/analyze.rt:71:1
+-- src/blocks.rt:71:1
 returns-2 : tie.Need-returns-2
 returns-2 c =
     let a = c .before .before .before .before .before .before .before .before .args in
@@ -57,11 +57,11 @@ returns-2 c =
     let analyze-call = c .analyze-call in
     analyze-call .ensures ∙ item-call (tokensOf (now (a .tokens))) (globalsIn (now (a .rows)) (a .n)) (a .ret) (now (a .table)) (a .r) (now (a .arguments)) (match .keys2)
 
--- src/analyze.rt:71:1
+-- src/blocks.rt:71:1
 same-length-2 : tie.Need-same-length-2
 same-length-2 c = search needs
 
--- src/analyze.rt:71:1
+-- src/blocks.rt:71:1
 returns-3 : tie.Need-returns-3
 returns-3 c =
     let a = c .before .before .before .before .before .before .before .before .before .before .args in
@@ -69,11 +69,11 @@ returns-3 c =
     let analyze-call-into = c .before .before .analyze-call-into in
     analyze-call-into .ensures ∙ item-call-into (tokensOf (now (a .tokens))) (globalsIn (now (a .rows)) (a .n)) (a .ret) (now (a .table)) (a .r) (now (a .arguments)) (match .keys3)
 
--- src/analyze.rt:71:1
+-- src/blocks.rt:71:1
 same-length-3 : tie.Need-same-length-3
 same-length-3 c = search needs
 
--- src/analyze.rt:71:1
+-- src/blocks.rt:71:1
 returns-4 : tie.Need-returns-4
 returns-4 c =
     let a = c .before .before .before .before .before .before .before .before .before .before .args in

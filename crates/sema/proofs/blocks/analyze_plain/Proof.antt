@@ -14,10 +14,10 @@ use Rattle.sema.specs.Globals.{globalsIn}
 use Rattle.sema.specs.Items.{named, itemOf, itemAt}
 use Rattle.sema.proofs.Records.{plain-binary, plain-unary, plain-const, plain-ret, plain-value, plain-other, item-label, item-call, item-call-into, item-plain, last-other, last-ends, end-none, end-last}
 use borrow.Author.Needs.{needs}
-use Rattle.sema.proofs.analyze.analyze_plain.Statement.{statement}
-use Rattle.sema.proofs.analyze.analyze_plain.Tie as tie
-use Rattle.sema.proofs.analyze.analyze_plain.Reads as reads
-use Rattle.sema.proofs.analyze.analyze_plain.Lts as lts
+use Rattle.sema.proofs.blocks.analyze_plain.Statement.{statement}
+use Rattle.sema.proofs.blocks.analyze_plain.Tie as tie
+use Rattle.sema.proofs.blocks.analyze_plain.Reads as reads
+use Rattle.sema.proofs.blocks.analyze_plain.Lts as lts
 use Rattle.lexer.proofs.token_at.Reads as token-at-reads
 use Rattle.sema.proofs.operations.analyze_bin_op.Reads as analyze-bin-op-reads
 use Rattle.sema.proofs.operations.analyze_const.Reads as analyze-const-reads
@@ -25,39 +25,39 @@ use Rattle.sema.proofs.operations.analyze_ret.Reads as analyze-ret-read
 use Rattle.sema.proofs.operations.analyze_ret_value.Reads as analyze-ret-value-reads
 use Rattle.sema.proofs.operations.analyze_unary_op.Reads as analyze-unary-op-reads
 
--- src/analyze.rt:55:13
+-- src/blocks.rt:55:13
 cast-w : tie.Need-cast-w
 cast-w c = search needs
 
--- src/analyze.rt:56:16
+-- src/blocks.rt:56:16
 token-at-requires : tie.Need-token-at-requires
 token-at-requires c κs = search needs
 
--- src/analyze.rt:62:14
+-- src/blocks.rt:62:14
 analyze-bin-op-requires : tie.Need-analyze-bin-op-requires
 analyze-bin-op-requires c κs = search needs
 
--- src/analyze.rt:63:14
+-- src/blocks.rt:63:14
 analyze-unary-op-requires : tie.Need-analyze-unary-op-requires
 analyze-unary-op-requires c κs = search needs
 
--- src/analyze.rt:64:14
+-- src/blocks.rt:64:14
 analyze-const-requires : tie.Need-analyze-const-requires
 analyze-const-requires c κs = search needs
 
--- src/analyze.rt:65:15
+-- src/blocks.rt:65:15
 analyze-ret-requires : tie.Need-analyze-ret-requires
 analyze-ret-requires c κs = search needs
 
--- src/analyze.rt:66:15
+-- src/blocks.rt:66:15
 analyze-ret-value-requires : tie.Need-analyze-ret-value-requires
 analyze-ret-value-requires c κs = search needs
 
--- src/analyze.rt:50:1
+-- src/blocks.rt:50:1
 same-length : tie.Need-same-length
 same-length c = search needs
 
--- src/analyze.rt:50:1
+-- src/blocks.rt:50:1
 returns : tie.Need-returns
 returns c =
     let a = c .before .before .before .before .before .before .before .before .before .args in
@@ -66,11 +66,11 @@ returns c =
     let analyze-bin-op = c .before .before .analyze-bin-op in
     analyze-bin-op .ensures ∙ plain-binary (tokensOf (now (a .tokens))) (a .ret) (now (a .table)) (a .r) (token-at .ensures) (match .keys1)
 
--- src/analyze.rt:50:1
+-- src/blocks.rt:50:1
 same-length-2 : tie.Need-same-length-2
 same-length-2 c = search needs
 
--- src/analyze.rt:50:1
+-- src/blocks.rt:50:1
 returns-2 : tie.Need-returns-2
 returns-2 c =
     let a = c .before .before .before .before .before .before .before .before .before .args in
@@ -79,11 +79,11 @@ returns-2 c =
     let analyze-unary-op = c .before .before .analyze-unary-op in
     analyze-unary-op .ensures ∙ plain-unary (tokensOf (now (a .tokens))) (a .ret) (now (a .table)) (a .r) (token-at .ensures) (match .keys2)
 
--- src/analyze.rt:50:1
+-- src/blocks.rt:50:1
 same-length-3 : tie.Need-same-length-3
 same-length-3 c = search needs
 
--- src/analyze.rt:50:1
+-- src/blocks.rt:50:1
 returns-3 : tie.Need-returns-3
 returns-3 c =
     let a = c .before .before .before .before .before .before .before .before .before .args in
@@ -92,7 +92,7 @@ returns-3 c =
     let analyze-const = c .before .before .analyze-const in
     analyze-const .ensures ∙ plain-const (tokensOf (now (a .tokens))) (a .ret) (now (a .table)) (a .r) (token-at .ensures) (match .keys3)
 
--- src/analyze.rt:50:1
+-- src/blocks.rt:50:1
 returns-4 : tie.Need-returns-4
 returns-4 c =
     let a = c .before .before .before .before .before .before .args in
@@ -100,11 +100,11 @@ returns-4 c =
     let analyze-ret = c .analyze-ret in
     analyze-ret .ensures (now (a .table)) ∙ plain-ret (tokensOf (now (a .tokens))) (a .ret) (now (a .table)) (a .r) (match .keys4)
 
--- src/analyze.rt:50:1
+-- src/blocks.rt:50:1
 same-length-4 : tie.Need-same-length-4
 same-length-4 c = search needs
 
--- src/analyze.rt:50:1
+-- src/blocks.rt:50:1
 returns-5 : tie.Need-returns-5
 returns-5 c =
     let a = c .before .before .before .before .before .before .before .args in
@@ -112,7 +112,7 @@ returns-5 c =
     let analyze-ret-value = c .analyze-ret-value in
     analyze-ret-value .ensures ∙ plain-value (tokensOf (now (a .tokens))) (a .ret) (now (a .table)) (a .r) (match .keys5)
 
--- src/analyze.rt:50:1
+-- src/blocks.rt:50:1
 returns-6 : tie.Need-returns-6
 returns-6 c =
     let a = c .before .before .before .before .before .args in

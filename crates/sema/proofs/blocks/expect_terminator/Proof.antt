@@ -14,41 +14,41 @@ use Rattle.sema.specs.Globals.{globalsIn}
 use Rattle.sema.specs.Items.{named, itemOf, itemAt}
 use Rattle.sema.proofs.Records.{plain-binary, plain-unary, plain-const, plain-ret, plain-value, plain-other, item-label, item-call, item-call-into, item-plain, last-other, last-ends, end-none, end-last}
 use borrow.Author.Needs.{needs}
-use Rattle.sema.proofs.analyze.expect_terminator.Statement.{statement}
-use Rattle.sema.proofs.analyze.expect_terminator.Tie as tie
-use Rattle.sema.proofs.analyze.expect_terminator.Reads as reads
-use Rattle.sema.proofs.analyze.expect_terminator.Lts as lts
-use Rattle.sema.proofs.analyze.record_at.Reads as record-at-reads
+use Rattle.sema.proofs.blocks.expect_terminator.Statement.{statement}
+use Rattle.sema.proofs.blocks.expect_terminator.Tie as tie
+use Rattle.sema.proofs.blocks.expect_terminator.Reads as reads
+use Rattle.sema.proofs.blocks.expect_terminator.Lts as lts
+use Rattle.sema.proofs.blocks.record_at.Reads as record-at-reads
 use Rattle.sema.proofs.symbols.refuse.Reads as refuse-reads
 
--- src/analyze.rt:136:9
+-- src/blocks.rt:136:9
 returns : tie.Need-returns
 returns c =
     let a = c .before .before .args in
     let if1 = c .if1 in
     λ t args. end-none t (now (a .items)) args (a .first) (a .count) (if1 .taken)
 
--- src/analyze.rt:138:13
+-- src/blocks.rt:138:13
 add-i : tie.Need-add-i
 add-i c = search needs
 
--- src/analyze.rt:138:13
+-- src/blocks.rt:138:13
 sub-i : tie.Need-sub-i
 sub-i c = search needs
 
--- src/analyze.rt:139:9
+-- src/blocks.rt:139:9
 record-at-requires : tie.Need-record-at-requires
 record-at-requires c κs = search needs
 
--- src/analyze.rt:141:13
+-- src/blocks.rt:141:13
 cast-w : tie.Need-cast-w
 cast-w c = search needs
 
--- src/analyze.rt:143:9
+-- src/blocks.rt:143:9
 refuse-requires : tie.Need-refuse-requires
 refuse-requires c κs = search needs
 
--- src/analyze.rt:143:9
+-- src/blocks.rt:143:9
 returns-2 : tie.Need-returns-2
 returns-2 c =
     let a = c .before .before .before .before .before .before .args in
@@ -60,11 +60,11 @@ returns-2 c =
     (last-other t (record-at .result) args (λ e. omega (arith, e, if2 .taken)) (λ e. omega (arith, e, if2 .taken))
     (λ e. omega (arith, e, if2 .taken)) (λ e. omega (arith, e, if2 .taken)))
 
--- src/analyze.rt:146:9
+-- src/blocks.rt:146:9
 refuse-requires-2 : tie.Need-refuse-requires-2
 refuse-requires-2 c κs = search needs
 
--- src/analyze.rt:146:9
+-- src/blocks.rt:146:9
 returns-3 : tie.Need-returns-3
 returns-3 c =
     let a = c .before .before .before .before .before .before .before .args in
@@ -76,7 +76,7 @@ returns-3 c =
     (last-other t (record-at .result) args (λ e. omega (arith, e, if3 .taken)) (λ e. omega (arith, e, if3 .taken))
     (λ e. omega (arith, e, if3 .taken)) (λ e. omega (arith, e, if3 .taken)))
 
--- src/analyze.rt:132:1
+-- src/blocks.rt:132:1
 returns-4 : tie.Need-returns-4
 returns-4 c =
     let a = c .before .before .before .before .before .before .args in

@@ -14,26 +14,26 @@ use Rattle.sema.specs.Globals.{globalsIn}
 use Rattle.sema.specs.Items.{named, itemOf, itemAt}
 use Rattle.sema.proofs.Records.{plain-binary, plain-unary, plain-const, plain-ret, plain-value, plain-other, item-label, item-call, item-call-into, item-plain, last-other, last-ends, end-none, end-last}
 use borrow.Author.Needs.{needs}
-use Rattle.sema.proofs.analyze.analyze_op.Statement.{statement}
-use Rattle.sema.proofs.analyze.analyze_op.Tie as tie
-use Rattle.sema.proofs.analyze.analyze_op.Reads as reads
-use Rattle.sema.proofs.analyze.analyze_op.Lts as lts
-use Rattle.sema.proofs.analyze.analyze_record.Reads as analyze-record-reads
-use Rattle.sema.proofs.analyze.record_at.Reads as record-at-reads
+use Rattle.sema.proofs.blocks.analyze_op.Statement.{statement}
+use Rattle.sema.proofs.blocks.analyze_op.Tie as tie
+use Rattle.sema.proofs.blocks.analyze_op.Reads as reads
+use Rattle.sema.proofs.blocks.analyze_op.Lts as lts
+use Rattle.sema.proofs.blocks.analyze_record.Reads as analyze-record-reads
+use Rattle.sema.proofs.blocks.record_at.Reads as record-at-reads
 
--- src/analyze.rt:127:9
+-- src/blocks.rt:127:9
 record-at-requires : tie.Need-record-at-requires
 record-at-requires c κs = search needs
 
--- src/analyze.rt:128:5
+-- src/blocks.rt:128:5
 analyze-record-requires : tie.Need-analyze-record-requires
 analyze-record-requires c κs = search needs
 
--- src/analyze.rt:112:1
+-- src/blocks.rt:112:1
 same-length : tie.Need-same-length
 same-length c = search needs
 
--- src/analyze.rt:112:1
+-- src/blocks.rt:112:1
 returns : tie.Need-returns
 returns c =
     let record-at = c .before .before .before .before .record-at in
