@@ -1,28 +1,23 @@
 -- A record's operation by its kind, and a block's last item.
-use Prim.Native.Nat.{ℕ, zero, suc, _+_, _*_, _-_, _≤_, _<_}
-use mathlib.Core.Path.{_≡_, refl, sym, ap, _∙_}
+use Prim.Native.Nat.{ℕ, zero, suc, _+_, _-_, _≤_}
+use mathlib.Core.Path.{_≡_, refl}
 use mathlib.Core.List.{List, [], _∷_}
 use mathlib.Core.Bool.{Bool, true, false}
 use native.Mathlib.Omega.{arith}
-use borrow.Author.Tests.{eq-eqb, ne-eqb, eqb-true, eqb-false}
+use borrow.Author.Tests.{ne-eqb, eqb-true, eqb-false}
 use lib.Dec.{eqb}
 use Rattle.utils.specs.Bytes.{pick}
 use Rattle.lexer.specs.Decoded.{Tok, tokenAt}
 use Rattle.lexer.specs.declared.TokenAt.{TokenAt}
 use Rattle.parser.specs.Step.{refusal}
 use Rattle.parser.specs.Runs.{typeCell}
-use Rattle.parser.specs.Body.{Item, plain, label, call, callInto}
-use Rattle.parser.specs.declared.Ty.{Ty}
-use Rattle.parser.specs.declared.Ty.the-variants as Y
+use Rattle.parser.specs.Body.{plain, label, call, callInto}
 use Rattle.parser.specs.declared.Operation.the-variants as O
-use Rattle.parser.specs.declared.Refusal.{Refusal}
 use Rattle.body.specs.declared.ItemRecord.{ItemRecord}
-use Rattle.sema.specs.Symbols.{Typed, on, stop, thenTyped}
+use Rattle.sema.specs.Symbols.{on, stop}
 use Rattle.sema.specs.Typing.{Global, binaryD, unaryD, constD, retD, retValueD, callD, callIntoD, plainD, analyzeD}
 use Rattle.sema.specs.Items.{named, typed, tyOf, variablesAt, operationOf, itemOf, itemAt}
-use Rattle.sema.specs.Blocks.{itemsAt, itemsD, endD, blockD}
-use Rattle.sema.specs.declared.Checked.{Checked}
-use Rattle.sema.specs.declared.Checked.the-variants as K
+use Rattle.sema.specs.Blocks.{itemsAt, endD}
 
 -- a type's cell is the cell that it was read from
 pub cell-of : (n : ℕ) → typeCell (tyOf n) ≡ n

@@ -3,22 +3,13 @@ use Rattle.lexer.specs.Decoded.{tokensOf}
 use Rattle.sema.specs.Blocks.{rowsD}
 use Rattle.sema.proofs.Threads.{rows-refused, rows-fine, rows-ended}
 use borrow.Author.Needs.{needs}
-use borrow.Author.Tests.{lt-ltb, le-ltb, le-leb, lt-leb, eq-eqb, ne-eqb}
 use native.Mathlib.Omega.{arith}
-use native.Mathlib.Numerals.{add-one}
-use Prim.Native.Nat.{ℕ, suc, _+_, _-_, _*_, _≤_, _<_}
-use mathlib.Core.Path.{_≡_, refl, sym, ap, _∙_}
-use mathlib.Core.Logic.{⊎-elim}
-use mathlib.Core.List.{List, [], _∷_, _++_}
-use mathlib.Core.Bool.{Bool, true, false}
-use lib.ListN.{length, drop, take, getD}
-use lib.Seq.{drop-cons}
+use Prim.Native.Nat.{_-_, _≤_}
+use mathlib.Core.Path.{_≡_, refl, _∙_}
+use lib.ListN.{length}
 use denote.Ref.{now}
 use Rattle.sema.proofs.analyze_all.Statement.{statement}
 use Rattle.sema.proofs.analyze_all.Tie as tie
-use Rattle.sema.proofs.analyze_all.Reads as reads
-use Rattle.sema.proofs.analyze_all.Lts as lts
-use Rattle.sema.proofs.function.analyze.Reads as analyze-reads
 
 abbrev Inv-loop : tie.InvT-loop
 Inv-loop tokens rows n table₀ items arguments blocks row₀ table row =

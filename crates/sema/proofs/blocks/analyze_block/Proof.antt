@@ -1,26 +1,15 @@
 use Rattle.lexer.specs.Decoded.{tokensOf}
 use Rattle.sema.specs.Globals.{globalsIn}
-use Rattle.sema.specs.Items.{named, itemOf, itemAt}
-use Rattle.sema.specs.Blocks.{itemsAt, itemsD, blockD}
+use Rattle.sema.specs.Blocks.{itemsAt, itemsD}
 use Rattle.sema.proofs.Threads.{items-refused, items-fine, items-ended}
 use borrow.Author.Needs.{needs}
-use borrow.Author.Tests.{lt-ltb, le-ltb, le-leb, lt-leb, eq-eqb, ne-eqb}
 use native.Mathlib.Omega.{arith}
-use native.Mathlib.Numerals.{add-one}
-use Prim.Native.Nat.{ℕ, suc, _+_, _-_, _*_, _≤_, _<_}
-use mathlib.Core.Path.{_≡_, refl, sym, ap, _∙_}
-use mathlib.Core.Logic.{⊎-elim}
-use mathlib.Core.List.{List, [], _∷_, _++_}
-use mathlib.Core.Bool.{Bool, true, false}
-use lib.ListN.{length, drop, take, getD}
-use lib.Seq.{drop-cons}
+use Prim.Native.Nat.{_+_}
+use mathlib.Core.Path.{_≡_, refl, _∙_}
+use lib.ListN.{length}
 use denote.Ref.{now}
 use Rattle.sema.proofs.blocks.analyze_block.Statement.{statement}
 use Rattle.sema.proofs.blocks.analyze_block.Tie as tie
-use Rattle.sema.proofs.blocks.analyze_block.Reads as reads
-use Rattle.sema.proofs.blocks.analyze_block.Lts as lts
-use Rattle.sema.proofs.blocks.analyze_op.Reads as analyze-op-reads
-use Rattle.sema.proofs.blocks.expect_terminator.Reads as expect-terminator-reads
 
 abbrev Inv-loop : tie.InvT-loop
 Inv-loop tokens rows n ret table₀ items arguments first count at₀ left₀ table at left =

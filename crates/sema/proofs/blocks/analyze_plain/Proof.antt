@@ -1,29 +1,10 @@
-use borrow.Author.Tests.{lt-ltb, le-ltb, le-leb, lt-leb, eq-eqb, ne-eqb}
-use native.Mathlib.Omega.{arith}
-use native.Mathlib.Numerals.{add-one}
-use Prim.Native.Nat.{ℕ, suc, _+_, _-_, _*_, _≤_, _<_}
-use mathlib.Core.Path.{_≡_, refl, sym, ap, _∙_}
-use mathlib.Core.Logic.{⊎-elim}
-use mathlib.Core.List.{List, [], _∷_, _++_}
-use mathlib.Core.Bool.{Bool, true, false}
-use lib.ListN.{length, drop, take, getD}
-use lib.Seq.{drop-cons}
+use mathlib.Core.Path.{_∙_}
 use denote.Ref.{now}
 use Rattle.lexer.specs.Decoded.{tokensOf}
-use Rattle.sema.specs.Globals.{globalsIn}
-use Rattle.sema.specs.Items.{named, itemOf, itemAt}
-use Rattle.sema.proofs.Records.{plain-binary, plain-unary, plain-const, plain-ret, plain-value, plain-other, item-label, item-call, item-call-into, item-plain, last-other, last-ends, end-none, end-last}
+use Rattle.sema.proofs.Records.{plain-binary, plain-unary, plain-const, plain-ret, plain-value, plain-other}
 use borrow.Author.Needs.{needs}
 use Rattle.sema.proofs.blocks.analyze_plain.Statement.{statement}
 use Rattle.sema.proofs.blocks.analyze_plain.Tie as tie
-use Rattle.sema.proofs.blocks.analyze_plain.Reads as reads
-use Rattle.sema.proofs.blocks.analyze_plain.Lts as lts
-use Rattle.lexer.proofs.token_at.Reads as token-at-reads
-use Rattle.sema.proofs.operations.analyze_bin_op.Reads as analyze-bin-op-reads
-use Rattle.sema.proofs.operations.analyze_const.Reads as analyze-const-reads
-use Rattle.sema.proofs.operations.analyze_ret.Reads as analyze-ret-reads
-use Rattle.sema.proofs.operations.analyze_ret_value.Reads as analyze-ret-value-reads
-use Rattle.sema.proofs.operations.analyze_unary_op.Reads as analyze-unary-op-reads
 
 -- src/blocks.rt:55:13
 cast-w : tie.Need-cast-w

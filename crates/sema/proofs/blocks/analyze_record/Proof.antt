@@ -1,26 +1,11 @@
-use borrow.Author.Tests.{lt-ltb, le-ltb, le-leb, lt-leb, eq-eqb, ne-eqb}
-use native.Mathlib.Omega.{arith}
-use native.Mathlib.Numerals.{add-one}
-use Prim.Native.Nat.{ℕ, suc, _+_, _-_, _*_, _≤_, _<_}
-use mathlib.Core.Path.{_≡_, refl, sym, ap, _∙_}
-use mathlib.Core.Logic.{⊎-elim}
-use mathlib.Core.List.{List, [], _∷_, _++_}
-use mathlib.Core.Bool.{Bool, true, false}
-use lib.ListN.{length, drop, take, getD}
-use lib.Seq.{drop-cons}
+use mathlib.Core.Path.{_∙_}
 use denote.Ref.{now}
 use Rattle.lexer.specs.Decoded.{tokensOf}
 use Rattle.sema.specs.Globals.{globalsIn}
-use Rattle.sema.specs.Items.{named, itemOf, itemAt}
-use Rattle.sema.proofs.Records.{plain-binary, plain-unary, plain-const, plain-ret, plain-value, plain-other, item-label, item-call, item-call-into, item-plain, last-other, last-ends, end-none, end-last}
+use Rattle.sema.proofs.Records.{item-label, item-call, item-call-into, item-plain}
 use borrow.Author.Needs.{needs}
 use Rattle.sema.proofs.blocks.analyze_record.Statement.{statement}
 use Rattle.sema.proofs.blocks.analyze_record.Tie as tie
-use Rattle.sema.proofs.blocks.analyze_record.Reads as reads
-use Rattle.sema.proofs.blocks.analyze_record.Lts as lts
-use Rattle.sema.proofs.blocks.analyze_plain.Reads as analyze-plain-reads
-use Rattle.sema.proofs.calls.analyze_call.Reads as analyze-call-reads
-use Rattle.sema.proofs.calls.analyze_call_into.Reads as analyze-call-into-reads
 
 -- src/blocks.rt:86:13
 cast-w : tie.Need-cast-w

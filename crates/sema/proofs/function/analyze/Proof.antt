@@ -1,24 +1,9 @@
 use Rattle.sema.specs.Blocks.{typeFunctionD}
 use Rattle.sema.proofs.Steps.{typed-refused, typed-fine}
-use borrow.Author.Tests.{lt-ltb, le-ltb, le-leb, lt-leb, eq-eqb, ne-eqb}
-use native.Mathlib.Omega.{arith}
-use native.Mathlib.Numerals.{add-one}
-use Prim.Native.Nat.{ℕ, suc, _+_, _-_, _*_, _≤_, _<_}
-use mathlib.Core.Path.{_≡_, refl, sym, ap, _∙_}
-use mathlib.Core.Logic.{⊎-elim}
-use mathlib.Core.List.{List, [], _∷_, _++_}
-use mathlib.Core.Bool.{Bool, true, false}
-use lib.ListN.{length, drop, take, getD}
-use lib.Seq.{drop-cons}
-use denote.Ref.{now}
+use mathlib.Core.Path.{_∙_}
 use borrow.Author.Needs.{needs}
 use Rattle.sema.proofs.function.analyze.Statement.{statement}
 use Rattle.sema.proofs.function.analyze.Tie as tie
-use Rattle.sema.proofs.function.analyze.Reads as reads
-use Rattle.sema.proofs.function.analyze.Lts as lts
-use Rattle.sema.proofs.function.analyze_blocks.Reads as analyze-blocks-reads
-use Rattle.sema.proofs.function.enter_row.Reads as enter-row-reads
-use Rattle.utils.proofs.clear.Reads as clear-reads
 
 -- src/function.rt:172:5
 clear-requires : tie.Need-clear-requires

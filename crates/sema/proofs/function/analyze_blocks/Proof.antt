@@ -1,29 +1,17 @@
 use lib.Seq.{length-sets}
 use Rattle.lexer.specs.Decoded.{tokensOf}
-use Rattle.functions.specs.Rows.{retAt}
 use Rattle.graph.proofs.Callers.{blocks-most}
 use Rattle.sema.specs.Globals.{globalsIn}
 use Rattle.sema.specs.Blocks.{firstBlockAt, blockCountAt, blocksAt, blocksD}
 use Rattle.sema.proofs.Threads.{all-remaining}
-use borrow.Author.Tests.{lt-ltb, le-ltb, le-leb, lt-leb, eq-eqb, ne-eqb}
-use native.Mathlib.Omega.{arith}
-use native.Mathlib.Numerals.{add-one}
-use Prim.Native.Nat.{ℕ, suc, _+_, _-_, _*_, _≤_, _<_}
-use mathlib.Core.Path.{_≡_, refl, sym, ap, _∙_}
-use mathlib.Core.Logic.{⊎-elim}
-use mathlib.Core.List.{List, [], _∷_, _++_}
-use mathlib.Core.Bool.{Bool, true, false}
-use lib.ListN.{length, drop, take, getD}
-use lib.Seq.{drop-cons}
+use Prim.Native.Nat.{ℕ}
+use mathlib.Core.Path.{refl, ap, _∙_}
+use mathlib.Core.List.{List}
+use lib.ListN.{getD}
 use denote.Ref.{now}
 use borrow.Author.Needs.{needs}
 use Rattle.sema.proofs.function.analyze_blocks.Statement.{statement}
 use Rattle.sema.proofs.function.analyze_blocks.Tie as tie
-use Rattle.sema.proofs.function.analyze_blocks.Reads as reads
-use Rattle.sema.proofs.function.analyze_blocks.Lts as lts
-use Rattle.graph.proofs.RPOWorklist.new.Reads as new-reads
-use Rattle.sema.proofs.calls.result_type.Reads as result-type-reads
-use Rattle.sema.proofs.function.analyze_remaining.Reads as analyze-remaining-reads
 
 -- src/function.rt:136:9
 result-type-requires : tie.Need-result-type-requires

@@ -4,23 +4,13 @@ use Rattle.sema.specs.Globals.{globalsIn}
 use Rattle.sema.specs.Blocks.{blocksAt, blocksD}
 use Rattle.sema.proofs.Threads.{fewer, blocks-refused, blocks-fine, blocks-ended}
 use borrow.Author.Needs.{needs}
-use borrow.Author.Tests.{lt-ltb, le-ltb, le-leb, lt-leb, eq-eqb, ne-eqb}
 use native.Mathlib.Omega.{arith}
-use native.Mathlib.Numerals.{add-one}
-use Prim.Native.Nat.{ℕ, suc, _+_, _-_, _*_, _≤_, _<_}
-use mathlib.Core.Path.{_≡_, refl, sym, ap, _∙_}
-use mathlib.Core.Logic.{⊎-elim}
-use mathlib.Core.List.{List, [], _∷_, _++_}
-use mathlib.Core.Bool.{Bool, true, false}
-use lib.ListN.{length, drop, take, getD}
-use lib.Seq.{drop-cons}
+use Prim.Native.Nat.{_-_, _≤_}
+use mathlib.Core.Path.{_≡_, sym, _∙_}
+use lib.ListN.{length}
 use denote.Ref.{now}
 use Rattle.sema.proofs.function.analyze_remaining.Statement.{statement}
 use Rattle.sema.proofs.function.analyze_remaining.Tie as tie
-use Rattle.sema.proofs.function.analyze_remaining.Reads as reads
-use Rattle.sema.proofs.function.analyze_remaining.Lts as lts
-use Rattle.graph.proofs.RPOWorklist.pop.Reads as pop-reads
-use Rattle.sema.proofs.function.analyze_recorded.Reads as analyze-recorded-reads
 
 abbrev Inv-loop : tie.InvT-loop
 Inv-loop tokens rows n ret table₀ items arguments blocks first order left₀ table left =

@@ -1,22 +1,13 @@
 use Rattle.sema.specs.Blocks.{formalsFrom, formalsD}
 use Rattle.sema.proofs.Threads.{formals-refused, formals-fine, formals-ended}
 use borrow.Author.Needs.{needs}
-use borrow.Author.Tests.{lt-ltb, le-ltb, le-leb, lt-leb, eq-eqb, ne-eqb}
 use native.Mathlib.Omega.{arith}
-use native.Mathlib.Numerals.{add-one}
-use Prim.Native.Nat.{ℕ, suc, _+_, _-_, _*_, _≤_, _<_}
-use mathlib.Core.Path.{_≡_, refl, sym, ap, _∙_}
-use mathlib.Core.Logic.{⊎-elim}
-use mathlib.Core.List.{List, [], _∷_, _++_}
-use mathlib.Core.Bool.{Bool, true, false}
-use lib.ListN.{length, drop, take, getD}
-use lib.Seq.{drop-cons}
+use Prim.Native.Nat.{_+_, _*_}
+use mathlib.Core.Path.{_≡_, refl, _∙_}
+use lib.ListN.{length}
 use denote.Ref.{now}
 use Rattle.sema.proofs.function.enter_formals.Statement.{statement}
 use Rattle.sema.proofs.function.enter_formals.Tie as tie
-use Rattle.sema.proofs.function.enter_formals.Reads as reads
-use Rattle.sema.proofs.function.enter_formals.Lts as lts
-use Rattle.sema.proofs.symbols.insert.Reads as insert-reads
 
 abbrev Inv-loop : tie.InvT-loop
 Inv-loop table₀ token rows first count w at₀ left₀ table at left =

@@ -1,21 +1,6 @@
-use borrow.Author.Tests.{lt-ltb, le-ltb, le-leb, lt-leb, eq-eqb, ne-eqb}
-use native.Mathlib.Omega.{arith}
-use native.Mathlib.Numerals.{add-one}
-use Prim.Native.Nat.{ℕ, suc, _+_, _-_, _*_, _≤_, _<_}
-use mathlib.Core.Path.{_≡_, refl, sym, ap, _∙_}
-use mathlib.Core.Logic.{⊎-elim}
-use mathlib.Core.List.{List, [], _∷_, _++_}
-use mathlib.Core.Bool.{Bool, true, false}
-use lib.ListN.{length, drop, take, getD}
-use lib.Seq.{drop-cons}
-use denote.Ref.{now}
 use borrow.Author.Needs.{needs}
 use Rattle.sema.proofs.function.enter_row.Statement.{statement}
 use Rattle.sema.proofs.function.enter_row.Tie as tie
-use Rattle.sema.proofs.function.enter_row.Reads as reads
-use Rattle.sema.proofs.function.enter_row.Lts as lts
-use Rattle.sema.proofs.calls.at_most_16.Reads as at-most-16-reads
-use Rattle.sema.proofs.function.enter_formals.Reads as enter-formals-reads
 
 -- src/function.rt:50:14
 mul-at : tie.Need-mul-at
