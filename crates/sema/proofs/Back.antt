@@ -1,11 +1,11 @@
 -- Records are read back: what crates/body stores of an item is decoded to that item.
-use Prim.Native.Nat.{ℕ, zero, suc, _+_, _*_, _-_}
-use mathlib.Core.Path.{_≡_, refl, ap, _∙_}
+use Prim.Native.Nat.{ℕ, zero, suc, _+_, _*_, _-_, _≤_}
+use mathlib.Core.Path.{_≡_, refl, sym, ap, _∙_}
 use mathlib.Core.List.{List, [], _∷_, _++_, append-assoc}
 use native.Mathlib.Omega.{arith}
 use borrow.Author.Tests.{ne-eqb}
-use native.Mathlib.Nat.{add-zero}
-use lib.ListN.{length, drop, getD}
+use native.Mathlib.Nat.{add-zero, sub-zero}
+use lib.ListN.{length, take, drop, getD}
 use Rattle.utils.specs.Bytes.{pick}
 use Rattle.parser.specs.Runs.{typeCell, variablesCells}
 use Rattle.parser.specs.Body.{Item, label, plain, call, callInto, argumentsIn}
@@ -15,8 +15,8 @@ use Rattle.parser.specs.declared.Variable.{Variable}
 use Rattle.parser.specs.declared.Operation.{Operation}
 use Rattle.parser.specs.declared.Operation.the-variants as O
 use Rattle.body.specs.Records.{operationRecord, recordOf, recordCells, recordAt, itemsCells, argumentsCells}
-use Rattle.sema.specs.Items.{tyOf, variablesAt, operationOf, itemOf}
-use Rattle.sema.specs.Blocks.{itemsAt}
+use Rattle.sema.specs.Items.{tyOf, variablesAt, operationOf, itemOf, itemAt}
+use Rattle.sema.specs.Blocks.{itemsAt, formalsFrom}
 
 pub type-back : (ty : Ty) → tyOf (typeCell ty) ≡ ty
 unfolding tyOf pick
@@ -122,3 +122,37 @@ items-back (i ∷ is) items args first used rest more h g =
     let v = variables-back xs args used (argumentsCells is ++ more)
     (g ∙ append-assoc (variablesCells xs) (argumentsCells is) more) in
     rw (r .0, item-back i used args (v .0), items-back is items args (first + 1) (used + length xs) rest more (r .1) (v .1))
+
+-- some of them, as a block's record says: m items from the k-th on
+items-after : (k : ℕ) (items args : List ℕ) (first n : ℕ) → drop k (itemsAt items args first n) ≡ itemsAt items args (first + k) (n - k)
+unfolding itemsAt
+items-after zero items args first n = rw (add-zero, sub-zero)
+items-after (suc k) items args first zero = let m : zero - suc k ≡ 0 = omega arith in rw m
+items-after (suc k) items args first (suc n) =
+    let m : first + suc k ≡ first + 1 + k = omega arith in
+    let l : suc n - suc k ≡ n - k = omega arith in
+    rw (m, l) (items-after k items args (first + 1) n)
+
+items-before : (m : ℕ) (items args : List ℕ) (first n : ℕ) → m ≤ n → take m (itemsAt items args first n) ≡ itemsAt items args first m
+unfolding itemsAt
+items-before zero items args first n h = refl
+items-before (suc m) items args first zero h = absurd (omega arith)
+items-before (suc m) items args first (suc n) h = ap (λ (is : List Item). itemAt items args first ∷ is)
+    (items-before m items args (first + 1) n (omega arith))
+
+pub block-back : (is : List Item) (items args : List ℕ) (first k m : ℕ) → itemsAt items args first (length is) ≡ is
+    → k + m ≤ length is → itemsAt items args (first + k) m ≡ take m (drop k is)
+block-back is items args first k m e h =
+    sym (items-before m items args (first + k) (length is - k) (omega arith))
+    ∙ ap (take m) (sym (items-after k items args first (length is)) ∙ ap (drop k) e)
+
+-- the formals of a row
+pub formals-back : (vs : List Variable) (rows : List ℕ) (at : ℕ) (rest : List ℕ) → drop at rows ≡ variablesCells vs ++ rest
+    → formalsFrom rows at (length vs) ≡ vs
+unfolding formalsFrom variablesCells
+formals-back [] rows at rest h = refl
+formals-back (v ∷ vs) rows at rest h =
+    let p = cell-back at rows h in
+    let q = cell-back (at + 1) rows (p .1) in
+    let m : at + 2 ≡ at + 1 + 1 = omega arith in
+    rw (p .0, q .0, type-back (v .ty), formals-back vs rows (at + 2) rest (rw m (q .1)))

@@ -27,8 +27,8 @@ itemsD ts globals ret t [] = on t
 itemsD ts globals ret t (i ∷ is) =
     thenTyped (analyzeD ts globals ret t i) (λ t1. itemsD ts globals ret t1 is)
 
--- "A block without terminator: void function gets a `ret` with its last operation's token; otherwise 21." The `ret`s stand
--- among the items already (crates/parser/specs/Body.antt, closedItems).
+-- "A block without terminator: void function gets a `ret` with its last operation's token; otherwise 21." The `ret`s
+-- stand among the items already (crates/parser/specs/Body.antt, closedItems).
 unfoldable pub endD : List ℕ → List Item → Typed
 endD t [] = on t
 endD t (i ∷ []) = pick (isTerminator i) (on t) (stop t (refusal 21 (itemToken i) 0))
