@@ -7,3 +7,5 @@ pub mod Typing
 pub mod Items
 -- the functions by name
 pub mod Globals
+-- a block, a function, all functions
+pub mod Blocks

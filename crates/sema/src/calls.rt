@@ -58,7 +58,8 @@ fn look_arguments(table: &[u32], token: usize, arguments: &[u32], first: u32, co
     Checked::Fine
 }
 
-// 17 for the first argument whose type is not the formal's; the formals' types stand at every second cell from `formal` on.
+// 17 for the first argument whose type is not the formal's; the formals' types stand at every second cell from `formal`
+// on.
 fn compare_arguments(
     table: &[u32],
     token: usize,
@@ -70,7 +71,8 @@ fn compare_arguments(
 ) -> Checked
     requires { ⌜ formal + count * 2 ≤ length (now rows) ⌝ }
     ensures { λ r. ⌜ typed (now (table .entry)) r
-        ≡ sameAll (now (table .entry)) token (typesOf (now (table .entry)) (variablesAt (now (arguments .entry)) first count))
+        ≡ sameAll (now (table .entry)) token
+        (typesOf (now (table .entry)) (variablesAt (now (arguments .entry)) first count))
         (typesAt (now (rows .entry)) formal count) ⌝ }
 {
     let mut at = first as usize;
@@ -93,7 +95,7 @@ fn compare_arguments(
 }
 
 // A row has room for 16 formals.
-fn at_most_16(n: u32) -> u32
+pub(crate) fn at_most_16(n: u32) -> u32
     ensures { λ r. ⌜ (r ≡ atMost16 n) × (r ≤ 16) ⌝ }
 {
     if n <= 16 {
@@ -130,7 +132,7 @@ fn analyze_arguments(
 }
 
 // The result type of the function in row i.
-fn result_type(rows: &[u32], i: usize) -> u32
+pub(crate) fn result_type(rows: &[u32], i: usize) -> u32
     requires { ⌜ (i < 64) × (2881 ≤ length (now rows)) ⌝ }
     ensures { λ r. ⌜ r ≡ getD (now (rows .entry)) (retAt i) 0 ⌝ }
 {
@@ -149,8 +151,9 @@ pub fn analyze_call(
     count: u32,
 ) -> Checked
     requires { ⌜ (n ≤ 64) × (2881 ≤ length (now rows)) ⌝ }
-    ensures { λ r. ⌜ typed (now (table .entry)) r ≡ callD (now (table .entry)) (globalsIn (now (rows .entry)) n (callee .0))
-        token callee (variablesAt (now (arguments .entry)) first count) ⌝ }
+    ensures { λ r. ⌜ typed (now (table .entry)) r
+        ≡ callD (now (table .entry)) (globalsIn (now (rows .entry)) n (callee .0)) token callee
+        (variablesAt (now (arguments .entry)) first count) ⌝ }
 {
     match find_function(rows, n, callee) {
         FoundRow::Absent => symbols::refuse(16, token, 0, 0, callee),

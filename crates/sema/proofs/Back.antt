@@ -1,0 +1,158 @@
+-- Records are read back: what crates/body stores of an item is decoded to that item.
+use Prim.Native.Nat.{ℕ, zero, suc, _+_, _*_, _-_, _≤_}
+use mathlib.Core.Path.{_≡_, refl, sym, ap, _∙_}
+use mathlib.Core.List.{List, [], _∷_, _++_, append-assoc}
+use native.Mathlib.Omega.{arith}
+use borrow.Author.Tests.{ne-eqb}
+use native.Mathlib.Nat.{add-zero, sub-zero}
+use lib.ListN.{length, take, drop, getD}
+use Rattle.utils.specs.Bytes.{pick}
+use Rattle.parser.specs.Runs.{typeCell, variablesCells}
+use Rattle.parser.specs.Body.{Item, label, plain, call, callInto, argumentsIn}
+use Rattle.parser.specs.declared.Ty.{Ty}
+use Rattle.parser.specs.declared.Ty.the-variants as Y
+use Rattle.parser.specs.declared.Variable.{Variable}
+use Rattle.parser.specs.declared.Operation.{Operation}
+use Rattle.parser.specs.declared.Operation.the-variants as O
+use Rattle.body.specs.Records.{operationRecord, recordOf, recordCells, recordAt, itemsCells, argumentsCells}
+use Rattle.sema.specs.Items.{tyOf, variablesAt, operationOf, itemOf, itemAt}
+use Rattle.sema.specs.Blocks.{itemsAt, formalsFrom}
+
+pub type-back : (ty : Ty) → tyOf (typeCell ty) ≡ ty
+unfolding tyOf pick
+type-back Y.Placeholder = refl
+type-back Y.Int = refl
+type-back Y.Bool = refl
+type-back Y.Void = refl
+type-back (Y.Fn n) =
+    let m : n + 4 - 4 ≡ n = omega arith in
+    rw (
+      ne-eqb (n + 4) 0 (λ e. omega (arith, e)),
+      ne-eqb (n + 4) 1 (λ e. omega (arith, e)),
+      ne-eqb (n + 4) 2 (λ e. omega (arith, e)),
+      ne-eqb (n + 4) 3 (λ e. omega (arith, e)),
+      m,
+    )
+
+pub operation-back : (o : Operation) → operationOf (operationRecord o) ≡ o
+unfolding operationOf operationRecord pick
+operation-back (O.BinaryOp w v x y) = rw (type-back (v .ty))
+operation-back (O.UnaryOp w v x) = rw (type-back (v .ty))
+operation-back (O.Const w v) = rw (type-back (v .ty))
+operation-back (O.Jump w l) = refl
+operation-back (O.Branch w x l m) = refl
+operation-back (O.Ret w) = refl
+operation-back (O.RetValue w x) = refl
+operation-back (O.Print w x) = refl
+operation-back (O.Nop w) = refl
+
+plain-back : (o : Operation) (used : ℕ) (args : List ℕ)
+    → itemOf (recordOf used (plain o)) args ≡ plain (operationOf (operationRecord o))
+unfolding itemOf recordOf operationRecord pick
+plain-back (O.BinaryOp w v x y) used args = refl
+plain-back (O.UnaryOp w v x) used args = refl
+plain-back (O.Const w v) used args = refl
+plain-back (O.Jump w l) used args = refl
+plain-back (O.Branch w x l m) used args = refl
+plain-back (O.Ret w) used args = refl
+plain-back (O.RetValue w x) used args = refl
+plain-back (O.Print w x) used args = refl
+plain-back (O.Nop w) used args = refl
+
+-- a call's arguments have to stand where its record says
+pub item-back : (i : Item) (used : ℕ) (args : List ℕ) → variablesAt args used (length (argumentsIn i)) ≡ argumentsIn i
+    → itemOf (recordOf used i) args ≡ i
+unfolding itemOf recordOf pick
+item-back (label w l) used args h = refl
+item-back (plain o) used args h = plain-back o used args ∙ ap plain (operation-back o)
+item-back (call w g xs) used args h = rw h
+item-back (callInto w v g xs) used args h = rw (h, type-back (v .ty))
+
+-- Cells that stand from an index on. --------------------------------------------------------------------------------------
+
+module _ {a : ℕ} {more : List ℕ} where
+  pub cell-back : (k : ℕ) (cells : List ℕ) → drop k cells ≡ a ∷ more → (getD cells k 0 ≡ a) × (drop (k + 1) cells ≡ more)
+  cell-back zero [] h = absurd (let z : _≡_ {A = ℕ} 0 1 = cc in omega arith)
+  cell-back zero (x ∷ xs) h = (cc, cc)
+  cell-back (suc k) [] h = absurd (let z : _≡_ {A = ℕ} 0 1 = cc in omega arith)
+  cell-back (suc k) (x ∷ xs) h = let m : suc k + 1 ≡ suc (k + 1) = omega arith in rw m (cell-back k xs h)
+
+-- the run of variables, and what stands behind it
+pub variables-back : (vs : List Variable) (cells : List ℕ) (at : ℕ) (rest : List ℕ) → drop (at * 2) cells ≡ variablesCells vs ++ rest
+    → (variablesAt cells at (length vs) ≡ vs) × (drop ((at + length vs) * 2) cells ≡ rest)
+unfolding variablesAt variablesCells
+variables-back [] cells at rest h = (refl, rw add-zero h)
+variables-back (v ∷ vs) cells at rest h =
+    let p = cell-back (at * 2) cells h in
+    let q = cell-back (at * 2 + 1) cells (p .1) in
+    let m : at * 2 + 1 + 1 ≡ (at + 1) * 2 = omega arith in
+    let r = variables-back vs cells (at + 1) rest (rw (← m) (q .1)) in
+    let n : (at + suc (length vs)) * 2 ≡ (at + 1 + length vs) * 2 = omega arith in
+    (rw (p .0, q .0, type-back (v .ty), r .0), rw n (r .1))
+
+-- the items of records, with their arguments
+record-back : (i : Item) (items : List ℕ) (first used : ℕ) (rest : List ℕ)
+    → drop (first * 8) items ≡ recordCells (recordOf used i) ++ rest
+    → (recordAt items first ≡ recordOf used i) × (drop ((first + 1) * 8) items ≡ rest)
+record-back i items first used rest h =
+    let k = first * 8 in
+    let e1 = cell-back k items h in
+    let e2 = cell-back (k + 1) items (e1 .1) in
+    let e3 = cell-back (k + 2) items (next 1 (e2 .1)) in
+    let e4 = cell-back (k + 3) items (next 2 (e3 .1)) in
+    let e5 = cell-back (k + 4) items (next 3 (e4 .1)) in
+    let e6 = cell-back (k + 5) items (next 4 (e5 .1)) in
+    let e7 = cell-back (k + 6) items (next 5 (e6 .1)) in
+    let e8 = cell-back (k + 7) items (next 6 (e7 .1)) in
+    let m : (first + 1) * 8 ≡ k + 7 + 1 = omega arith in
+    (rw (e1 .0, e2 .0, e3 .0, e4 .0, e5 .0, e6 .0, e7 .0, e8 .0), rw m (e8 .1))
+  where
+    next : {l : List ℕ} (j : ℕ) → drop (first * 8 + j + 1) items ≡ l → drop (first * 8 + (j + 1)) items ≡ l
+    next j g = let m : first * 8 + (j + 1) ≡ first * 8 + j + 1 = omega arith in rw m g
+
+pub items-back : (is : List Item) (items args : List ℕ) (first used : ℕ) (rest more : List ℕ)
+    → drop (first * 8) items ≡ itemsCells used is ++ rest → drop (used * 2) args ≡ argumentsCells is ++ more
+    → itemsAt items args first (length is) ≡ is
+unfolding itemsAt itemsCells argumentsCells
+items-back [] items args first used rest more h g = refl
+items-back (i ∷ is) items args first used rest more h g =
+    let xs = argumentsIn i in
+    let r = record-back i items first used (itemsCells (used + length xs) is ++ rest)
+    (h ∙ append-assoc (recordCells (recordOf used i)) (itemsCells (used + length xs) is) rest) in
+    let v = variables-back xs args used (argumentsCells is ++ more)
+    (g ∙ append-assoc (variablesCells xs) (argumentsCells is) more) in
+    rw (r .0, item-back i used args (v .0), items-back is items args (first + 1) (used + length xs) rest more (r .1) (v .1))
+
+-- some of them, as a block's record says: m items from the k-th on
+items-after : (k : ℕ) (items args : List ℕ) (first n : ℕ) → drop k (itemsAt items args first n) ≡ itemsAt items args (first + k) (n - k)
+unfolding itemsAt
+items-after zero items args first n = rw (add-zero, sub-zero)
+items-after (suc k) items args first zero = let m : zero - suc k ≡ 0 = omega arith in rw m
+items-after (suc k) items args first (suc n) =
+    let m : first + suc k ≡ first + 1 + k = omega arith in
+    let l : suc n - suc k ≡ n - k = omega arith in
+    rw (m, l) (items-after k items args (first + 1) n)
+
+items-before : (m : ℕ) (items args : List ℕ) (first n : ℕ) → m ≤ n → take m (itemsAt items args first n) ≡ itemsAt items args first m
+unfolding itemsAt
+items-before zero items args first n h = refl
+items-before (suc m) items args first zero h = absurd (omega arith)
+items-before (suc m) items args first (suc n) h = ap (λ (is : List Item). itemAt items args first ∷ is)
+    (items-before m items args (first + 1) n (omega arith))
+
+pub block-back : (is : List Item) (items args : List ℕ) (first k m : ℕ) → itemsAt items args first (length is) ≡ is
+    → k + m ≤ length is → itemsAt items args (first + k) m ≡ take m (drop k is)
+block-back is items args first k m e h =
+    sym (items-before m items args (first + k) (length is - k) (omega arith))
+    ∙ ap (take m) (sym (items-after k items args first (length is)) ∙ ap (drop k) e)
+
+-- the formals of a row
+pub formals-back : (vs : List Variable) (rows : List ℕ) (at : ℕ) (rest : List ℕ) → drop at rows ≡ variablesCells vs ++ rest
+    → formalsFrom rows at (length vs) ≡ vs
+unfolding formalsFrom variablesCells
+formals-back [] rows at rest h = refl
+formals-back (v ∷ vs) rows at rest h =
+    let p = cell-back at rows h in
+    let q = cell-back (at + 1) rows (p .1) in
+    let m : at + 2 ≡ at + 1 + 1 = omega arith in
+    rw (p .0, q .0, type-back (v .ty), formals-back vs rows (at + 2) rest (rw m (q .1)))

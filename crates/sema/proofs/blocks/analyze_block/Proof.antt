@@ -1,0 +1,118 @@
+use Rattle.lexer.specs.Decoded.{tokensOf}
+use Rattle.sema.specs.Globals.{globalsIn}
+use Rattle.sema.specs.Blocks.{itemsAt, itemsD}
+use Rattle.sema.proofs.Threads.{items-refused, items-fine, items-ended}
+use borrow.Author.Needs.{needs}
+use native.Mathlib.Omega.{arith}
+use Prim.Native.Nat.{_+_}
+use mathlib.Core.Path.{_≡_, refl, _∙_}
+use lib.ListN.{length}
+use denote.Ref.{now}
+use Rattle.sema.proofs.blocks.analyze_block.Statement.{statement}
+use Rattle.sema.proofs.blocks.analyze_block.Tie as tie
+
+abbrev Inv-loop : tie.InvT-loop
+Inv-loop tokens rows n ret table₀ items arguments first count at₀ left₀ table at left =
+    (at + left ≡ first + count) × (length table ≡ length table₀)
+    × (itemsD (tokensOf tokens) (globalsIn rows n) ret table (itemsAt items arguments at left)
+    ≡ itemsD (tokensOf tokens) (globalsIn rows n) ret table₀ (itemsAt items arguments first count))
+
+abbrev μ-loop : tie.MeasureT-loop
+μ-loop tokens rows n ret table₀ items arguments first count at₀ left₀ table at left = left
+
+-- src/blocks.rt:169:5
+loop-holds : tie.Need-loop-holds Inv-loop μ-loop
+loop-holds c = (refl, refl, refl)
+
+-- src/blocks.rt:170:15
+analyze-op-requires : tie.Need-analyze-op-requires Inv-loop μ-loop
+analyze-op-requires c κs = search needs
+
+-- src/blocks.rt:171:30
+enum-known-e : tie.Need-enum-known-e Inv-loop μ-loop
+enum-known-e c = search needs
+
+-- src/blocks.rt:172:17
+same-length : tie.Need-same-length Inv-loop μ-loop
+same-length c = search needs
+
+-- src/blocks.rt:172:17
+returns : tie.Need-returns Inv-loop μ-loop
+returns c =
+    let a = c .before .before .before .before .before .before .before .before .before .before .before .before .before .before .args in
+    let loop = c .before .before .before .before .before .before .before .before .loop in
+    let loop-test = c .before .before .before .before .before .before .before .loop-test in
+    let analyze-op = c .before .before .before .before .before .analyze-op in
+    let e = c .before .e in
+    items-refused (tokensOf (now (a .tokens))) (globalsIn (now (a .rows)) (a .n)) (a .ret) (now (a .table))
+    (itemsAt (now (a .items)) (now (a .arguments)) (a .first) (a .count)) (loop .table) (now (a .items)) (now (a .arguments))
+    (loop .at) (loop .left) (loop .inv .2) (loop-test .taken) (analyze-op .ensures) (e .given .1)
+
+-- src/blocks.rt:175:17
+enum-told : tie.Need-enum-told Inv-loop μ-loop
+enum-told c = search needs
+
+-- src/blocks.rt:175:17
+add-at : tie.Need-add-at Inv-loop μ-loop
+add-at c = search needs
+
+-- src/blocks.rt:176:17
+sub-left : tie.Need-sub-left Inv-loop μ-loop
+sub-left c = search needs
+
+-- src/blocks.rt:169:5
+loop-less : tie.Need-loop-less Inv-loop μ-loop
+loop-less c = search needs
+
+-- src/blocks.rt:169:5
+loop-again : tie.Need-loop-again Inv-loop μ-loop
+loop-again c =
+    let a = c .before .before .before .before .before .before .before .before .before .before .before .before .before .args in
+    let loop = c .before .before .before .before .before .before .before .loop in
+    let loop-test = c .before .before .before .before .before .before .loop-test in
+    let analyze-op = c .before .before .before .before .analyze-op in
+    let enum-told = c .enum-told in (
+      omega arith,
+      analyze-op .kept .1 .1 .1 .1 .0 ∙ loop .inv .1,
+      items-fine (tokensOf (now (a .tokens))) (globalsIn (now (a .rows)) (a .n)) (a .ret) (now (a .table))
+          (itemsAt (now (a .items)) (now (a .arguments)) (a .first) (a .count)) (loop .table) (now (a .items)) (now (a .arguments))
+          (loop .at) (loop .left) (loop .inv .2) (loop-test .taken) (analyze-op .ensures) (enum-told .given .1),
+    )
+
+-- src/blocks.rt:180:5
+expect-terminator-requires : tie.Need-expect-terminator-requires Inv-loop μ-loop
+expect-terminator-requires c κs = search needs
+
+-- src/blocks.rt:151:1
+same-length-2 : tie.Need-same-length-2 Inv-loop μ-loop
+same-length-2 c = search needs
+
+-- src/blocks.rt:151:1
+returns-2 : tie.Need-returns-2 Inv-loop μ-loop
+returns-2 c =
+    let a = c .before .before .before .before .before .before .before .before .args in
+    let loop = c .before .before .loop in
+    let expect-terminator = c .expect-terminator in
+    expect-terminator .ensures (loop .table) (now (a .arguments)) ∙ items-ended (tokensOf (now (a .tokens))) (globalsIn (now (a .rows)) (a .n)) (a .ret) (now (a .table))
+    (itemsAt (now (a .items)) (now (a .arguments)) (a .first) (a .count)) (loop .table) (now (a .items)) (now (a .arguments))
+    (loop .at) (loop .left) (loop .inv .2) (omega arith)
+
+pub analyze-block-spec : {M : Type 1} → statement M
+analyze-block-spec =
+    tie.close
+    (tie.spec
+    Inv-loop
+    μ-loop
+    loop-holds
+    analyze-op-requires
+    enum-known-e
+    same-length
+    returns
+    enum-told
+    add-at
+    sub-left
+    loop-less
+    loop-again
+    expect-terminator-requires
+    same-length-2
+    returns-2)

@@ -1,0 +1,153 @@
+use Rattle.lexer.specs.Decoded.{tokensOf}
+use Rattle.graph.specs.Worklist.{remaining}
+use Rattle.sema.specs.Globals.{globalsIn}
+use Rattle.sema.specs.Blocks.{blocksAt, blocksD}
+use Rattle.sema.proofs.Threads.{fewer, blocks-refused, blocks-fine, blocks-ended}
+use borrow.Author.Needs.{needs}
+use native.Mathlib.Omega.{arith}
+use Prim.Native.Nat.{_-_, _≤_}
+use mathlib.Core.Path.{_≡_, sym, _∙_}
+use lib.ListN.{length}
+use denote.Ref.{now}
+use Rattle.sema.proofs.function.analyze_remaining.Statement.{statement}
+use Rattle.sema.proofs.function.analyze_remaining.Tie as tie
+
+abbrev Inv-loop : tie.InvT-loop
+Inv-loop tokens rows n ret table₀ items arguments blocks first order left₀ table left =
+    (left .blocks ≤ 256) × (length table ≡ length table₀)
+    × (blocksD (tokensOf tokens) (globalsIn rows n) ret table (blocksAt items arguments blocks first (remaining order left))
+    ≡ blocksD (tokensOf tokens) (globalsIn rows n) ret table₀ (blocksAt items arguments blocks first (remaining order left₀)))
+
+abbrev μ-loop : tie.MeasureT-loop
+μ-loop tokens rows n ret table₀ items arguments blocks first order left₀ table left = left .blocks - left .taken
+
+-- src/function.rt:99:5
+loop-holds : tie.Need-loop-holds Inv-loop μ-loop
+loop-holds c = search needs
+
+-- src/function.rt:100:15
+pop-requires : tie.Need-pop-requires Inv-loop μ-loop
+pop-requires c κs = search needs
+
+-- src/function.rt:102:17
+enum-told : tie.Need-enum-told Inv-loop μ-loop
+enum-told c = search needs
+
+-- src/function.rt:102:17
+same-length : tie.Need-same-length Inv-loop μ-loop
+same-length c = search needs
+
+-- src/function.rt:102:17
+returns : tie.Need-returns Inv-loop μ-loop
+returns c =
+    let a = c .before .before .before .before .before .before .before .before .before .before .args in
+    let pre = c .before .before .before .before .before .before .before .before .before .before .pre in
+    let loop = c .before .before .before .loop in
+    let pop = c .before .before .pop in
+    let enum-told = c .enum-told in
+    blocks-ended (tokensOf (now (a .tokens))) (globalsIn (now (a .rows)) (a .n)) (a .ret) (now (a .table))
+    (blocksAt (now (a .items)) (now (a .arguments)) (now (a .blocks)) (a .first) (remaining (now (a .order)) (a .work)))
+    (loop .table) (now (a .items)) (now (a .arguments)) (now (a .blocks)) (a .first) (now (a .order)) (loop .left)
+    (loop .inv .0) (pre .2) (loop .inv .2) (sym (pop .ensures) ∙ enum-told .given .1)
+
+-- src/function.rt:104:27
+enum-known-b : tie.Need-enum-known-b Inv-loop μ-loop
+enum-known-b c = search needs
+
+-- src/function.rt:105:42
+cast-k : tie.Need-cast-k Inv-loop μ-loop
+cast-k c = search needs
+
+-- src/function.rt:105:25
+add-k : tie.Need-add-k Inv-loop μ-loop
+add-k c = search needs
+
+-- src/function.rt:106:23
+analyze-recorded-requires : tie.Need-analyze-recorded-requires Inv-loop μ-loop
+analyze-recorded-requires c κs = search needs
+
+-- src/function.rt:107:38
+enum-known-e : tie.Need-enum-known-e Inv-loop μ-loop
+enum-known-e c = search needs
+
+-- src/function.rt:108:25
+same-length-2 : tie.Need-same-length-2 Inv-loop μ-loop
+same-length-2 c = search needs
+
+-- src/function.rt:108:25
+returns-2 : tie.Need-returns-2 Inv-loop μ-loop
+returns-2 c =
+    let a = c .before .before .before .before .before .before .before .before .before .before .before .before .before .before .before .before .before .before .before .args in
+    let pre = c .before .before .before .before .before .before .before .before .before .before .before .before .before .before .before .before .before .before .before .pre in
+    let loop = c .before .before .before .before .before .before .before .before .before .before .before .before .loop in
+    let pop = c .before .before .before .before .before .before .before .before .before .before .before .pop in
+    let b = c .before .before .before .before .before .before .before .before .before .b in
+    let analyze-recorded = c .before .before .before .before .before .analyze-recorded in
+    let e = c .before .e in
+    blocks-refused (tokensOf (now (a .tokens))) (globalsIn (now (a .rows)) (a .n)) (a .ret) (now (a .table))
+    (blocksAt (now (a .items)) (now (a .arguments)) (now (a .blocks)) (a .first) (remaining (now (a .order)) (a .work)))
+    (loop .table) (now (a .items)) (now (a .arguments)) (now (a .blocks)) (a .first) (now (a .order)) (loop .left)
+    (loop .inv .0) (pre .2) (loop .inv .2) (sym (pop .ensures) ∙ b .given .1) (analyze-recorded .ensures) (e .given .1)
+
+-- src/function.rt:111:25
+enum-told-2 : tie.Need-enum-told-2 Inv-loop μ-loop
+enum-told-2 c = search needs
+
+-- src/function.rt:99:5
+loop-less : tie.Need-loop-less Inv-loop μ-loop
+loop-less c =
+    let a = c .before .before .before .before .before .before .before .before .before .before .before .before .before .before .before .before .before .before .args in
+    let pre = c .before .before .before .before .before .before .before .before .before .before .before .before .before .before .before .before .before .before .pre in
+    let loop = c .before .before .before .before .before .before .before .before .before .before .before .loop in
+    let pop = c .before .before .before .before .before .before .before .before .before .before .pop in
+    let b = c .before .before .before .before .before .before .before .before .b in
+    let popped-is = sym (pop .ensures) ∙ b .given .1 in
+    (fewer (tokensOf (now (a .tokens))) (globalsIn (now (a .rows)) (a .n)) (a .ret) (now (a .table))
+    (blocksAt (now (a .items)) (now (a .arguments)) (now (a .blocks)) (a .first) (remaining (now (a .order)) (a .work)))
+    (loop .table) (now (a .items)) (now (a .arguments)) (now (a .blocks)) (a .first) (now (a .order)) (loop .left)
+    (loop .inv .0) (pre .2) (loop .inv .2) popped-is) .1
+
+-- src/function.rt:99:5
+loop-again : tie.Need-loop-again Inv-loop μ-loop
+loop-again c =
+    let a = c .before .before .before .before .before .before .before .before .before .before .before .before .before .before .before .before .before .before .args in
+    let pre = c .before .before .before .before .before .before .before .before .before .before .before .before .before .before .before .before .before .before .pre in
+    let loop = c .before .before .before .before .before .before .before .before .before .before .before .loop in
+    let pop = c .before .before .before .before .before .before .before .before .before .before .pop in
+    let b = c .before .before .before .before .before .before .before .before .b in
+    let analyze-recorded = c .before .before .before .before .analyze-recorded in
+    let enum-told2 = c .enum-told2 in
+    let popped-is = sym (pop .ensures) ∙ b .given .1 in
+    let less = fewer (tokensOf (now (a .tokens))) (globalsIn (now (a .rows)) (a .n)) (a .ret) (now (a .table))
+    (blocksAt (now (a .items)) (now (a .arguments)) (now (a .blocks)) (a .first) (remaining (now (a .order)) (a .work)))
+    (loop .table) (now (a .items)) (now (a .arguments)) (now (a .blocks)) (a .first) (now (a .order)) (loop .left)
+    (loop .inv .0) (pre .2) (loop .inv .2) popped-is in (
+      omega (arith, less .0, loop .inv .0),
+      analyze-recorded .kept .1 .1 .1 .1 .0 ∙ loop .inv .1,
+      blocks-fine (tokensOf (now (a .tokens))) (globalsIn (now (a .rows)) (a .n)) (a .ret) (now (a .table))
+          (blocksAt (now (a .items)) (now (a .arguments)) (now (a .blocks)) (a .first) (remaining (now (a .order)) (a .work)))
+          (loop .table) (now (a .items)) (now (a .arguments)) (now (a .blocks)) (a .first) (now (a .order)) (loop .left)
+          (loop .inv .0) (pre .2) (loop .inv .2) popped-is (analyze-recorded .ensures) (enum-told2 .given .1),
+    )
+
+pub analyze-remaining-spec : {M : Type 1} → statement M
+analyze-remaining-spec =
+    tie.close
+    (tie.spec
+    Inv-loop
+    μ-loop
+    loop-holds
+    pop-requires
+    enum-told
+    same-length
+    returns
+    enum-known-b
+    cast-k
+    add-k
+    analyze-recorded-requires
+    enum-known-e
+    same-length-2
+    returns-2
+    enum-told-2
+    loop-less
+    loop-again)

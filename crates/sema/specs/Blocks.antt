@@ -1,0 +1,99 @@
+-- Blocks, functions, and all functions (document 01, "Typing"; Sema::analyze of parser.rs).
+use Prim.Native.Nat.{ℕ, zero, suc, _+_, _*_}
+use mathlib.Core.List.{List, [], _∷_}
+use lib.ListN.{length, getD}
+use Rattle.utils.specs.Bytes.{pick, padTo}
+use Rattle.graph.specs.Walk.{blockOrder}
+use Rattle.graph.specs.Records.{recorded, blocksIn}
+use Rattle.lexer.specs.Decoded.{Tok}
+use Rattle.parser.specs.Step.{refusal}
+use Rattle.parser.specs.Runs.{typeCell}
+use Rattle.parser.specs.Body.{Item, isTerminator, itemToken}
+use Rattle.parser.specs.declared.Variable.{Variable}
+use Rattle.functions.specs.Rows.{rowAt, retAt, countAt, formalsAt, atMost16}
+use Rattle.sema.specs.Symbols.{Typed, on, stop, thenTyped, enterD}
+use Rattle.sema.specs.Typing.{Global, analyzeD}
+use Rattle.sema.specs.Items.{typed, itemAt}
+use Rattle.sema.specs.Globals.{globalsIn}
+
+-- The items of `count` records from record `first` on. Nothing is asked of the cells: a cell past the end is 0.
+unfoldable pub itemsAt : List ℕ → List ℕ → ℕ → ℕ → List Item
+itemsAt items args first zero = []
+itemsAt items args first (suc count) = itemAt items args first ∷ itemsAt items args (first + 1) count
+
+-- one after the other, up to the first refusal
+unfoldable pub itemsD : List Tok → (ℕ → Global) → ℕ → List ℕ → List Item → Typed
+itemsD ts globals ret t [] = on t
+itemsD ts globals ret t (i ∷ is) =
+    thenTyped (analyzeD ts globals ret t i) (λ t1. itemsD ts globals ret t1 is)
+
+-- "A block without terminator: void function gets a `ret` with its last operation's token; otherwise 21." The `ret`s
+-- stand among the items already (crates/parser/specs/Body.antt, closedItems).
+unfoldable pub endD : List ℕ → List Item → Typed
+endD t [] = on t
+endD t (i ∷ []) = pick (isTerminator i) (on t) (stop t (refusal 21 (itemToken i) 0))
+endD t (i ∷ j ∷ is) = endD t (j ∷ is)
+
+unfoldable pub blockD : List Tok → (ℕ → Global) → ℕ → List ℕ → List Item → Typed
+blockD ts globals ret t is = thenTyped (itemsD ts globals ret t is) (λ t1. endD t1 is)
+
+-- Functions. ---------------------------------------------------------------------------------------------------------
+
+-- "Formals are entered first." Their token is the function's name.
+unfoldable pub formalsD : List ℕ → ℕ → List Variable → Typed
+formalsD t token [] = on t
+formalsD t token (v ∷ vs) = thenTyped (enterD t token (v .id) (typeCell (v .ty))) (λ t1. formalsD t1 token vs)
+
+-- one block after the other, up to the first refusal
+unfoldable pub blocksD : List Tok → (ℕ → Global) → ℕ → List ℕ → List (List Item) → Typed
+blocksD ts globals ret t [] = on t
+blocksD ts globals ret t (b ∷ bs) = thenTyped (blockD ts globals ret t b) (λ t1. blocksD ts globals ret t1 bs)
+
+-- a function: its result type, its name's token, its formals, and its blocks in the order in which they are typed
+unfoldable pub typeFunctionD : List Tok → (ℕ → Global) → ℕ → ℕ → List Variable → List (List Item) → List ℕ → Typed
+typeFunctionD ts globals ret token formals blocks t =
+    thenTyped (formalsD t token formals) (λ t1. blocksD ts globals ret t1 blocks)
+
+-- What the cells hold. -----------------------------------------------------------------------------------------------
+
+-- a row's cells for the first block and how many there are (crates/functions/specs/Rows.antt)
+abbrev pub firstBlockAt : ℕ → ℕ
+firstBlockAt i = 11 + i * 45
+
+abbrev pub blockCountAt : ℕ → ℕ
+blockCountAt i = 12 + i * 45
+
+-- n formals, a name and a type each
+unfoldable pub formalsFrom : List ℕ → ℕ → ℕ → List Variable
+formalsFrom rows at zero = []
+formalsFrom rows at (suc n) = typed (getD rows at 0) (getD rows (at + 1) 0) ∷ formalsFrom rows (at + 2) n
+
+abbrev pub formalsIn : List ℕ → ℕ → List Variable
+formalsIn rows i = formalsFrom rows (formalsAt i) (atMost16 (getD rows (countAt i) 0))
+
+-- the items of a block record: its first two cells say where they begin and how many they are
+abbrev pub blockItems : List ℕ → List ℕ → List ℕ → ℕ → List Item
+blockItems items args blocks k = itemsAt items args (getD blocks (k * 8) 0) (getD blocks (k * 8 + 1) 0)
+
+-- the blocks of these numbers, counted from the record `first`
+unfoldable pub blocksAt : List ℕ → List ℕ → List ℕ → ℕ → List ℕ → List (List Item)
+blocksAt items args blocks first [] = []
+blocksAt items args blocks first (v ∷ vs) =
+    blockItems items args blocks (first + v) ∷ blocksAt items args blocks first vs
+
+-- the blocks of a function in the walk's order
+abbrev pub inOrder : List ℕ → List ℕ → List ℕ → ℕ → ℕ → List (List Item)
+inOrder items args blocks first count =
+    blocksAt items args blocks first (blockOrder (recorded blocks first) (blocksIn count))
+
+-- The function of row i, among n, in a table that is cleared first.
+abbrev pub rowD : List Tok → List ℕ → ℕ → List ℕ → List ℕ → List ℕ → ℕ → List ℕ → Typed
+rowD ts rows n items args blocks i t =
+    typeFunctionD ts (globalsIn rows n) (getD rows (retAt i) 0) (getD rows (rowAt i) 0) (formalsIn rows i)
+    (inOrder items args blocks (getD rows (firstBlockAt i) 0) (getD rows (blockCountAt i) 0)) (padTo (length t) [])
+
+-- "Functions are taken in text order": the m functions from row i on, up to the first refusal.
+unfoldable pub rowsD : List Tok → List ℕ → ℕ → List ℕ → List ℕ → List ℕ → ℕ → ℕ → List ℕ → Typed
+rowsD ts rows n items args blocks i zero t = on t
+rowsD ts rows n items args blocks i (suc m) t =
+    thenTyped (rowD ts rows n items args blocks i t) (λ t1. rowsD ts rows n items args blocks (i + 1) m t1)

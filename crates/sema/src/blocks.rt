@@ -1,0 +1,181 @@
+// A record's operation, a block's, and whether the block ends as it should.
+ghost use mathlib.Core.Path.{_≡_};
+ghost use mathlib.Core.List.{List};
+ghost use Prim.Native.Nat.{ℕ, _+_, _*_, _≤_, _<_};
+ghost use lib.ListN.{length, getD};
+ghost use Rattle.lexer.specs.Decoded.{tokensOf};
+ghost use Rattle.body.specs.Records.{recordAt};
+ghost use Rattle.sema.specs.Symbols.{typed};
+ghost use Rattle.sema.specs.Typing.{plainD, analyzeD};
+ghost use Rattle.sema.specs.Items.{operationOf, itemOf, itemAt};
+ghost use Rattle.sema.specs.Globals.{globalsIn};
+ghost use Rattle.sema.specs.Blocks.{itemsAt, endD, blockD};
+use crate::Checked;
+use crate::calls;
+use crate::operations;
+use crate::symbols;
+use body::ItemRecord;
+use lexer::token_at;
+use pieces::Identifier;
+
+// A cell, or 0 past the end.
+pub(crate) fn cell_at(cells: &[u32], at: usize) -> u32
+    ensures { λ r. ⌜ r ≡ getD (now (cells .entry)) at 0 ⌝ }
+{
+    if at < cells.len() {
+        return cells[at];
+    }
+    0
+}
+
+// A record, with 0 for every cell past the end.
+fn record_at(items: &[u32], i: usize) -> ItemRecord
+    requires { ⌜ i ≤ 8589934592 ⌝ }
+    ensures { λ r. ⌜ r ≡ recordAt (now (items .entry)) i ⌝ }
+{
+    let at = i * 8;
+    ItemRecord {
+        kind: cell_at(items, at),
+        token: cell_at(items, at + 1),
+        dest: cell_at(items, at + 2),
+        dty: cell_at(items, at + 3),
+        left: cell_at(items, at + 4),
+        lty: cell_at(items, at + 5),
+        right: cell_at(items, at + 6),
+        rty: cell_at(items, at + 7),
+    }
+}
+
+// A record that is neither a label nor a call.
+fn analyze_plain(tokens: &[u32], ret: u32, table: &mut [u32], r: ItemRecord) -> Checked
+    ensures { λ s. ⌜ typed (now (table .exit)) s
+        ≡ plainD (tokensOf (now (tokens .entry))) ret (now (table .entry)) (operationOf r) ⌝ }
+{
+    let kind = r.kind;
+    let w = r.token as usize;
+    let word = token_at(tokens, w).kind;
+    let result = Identifier(r.dest);
+    let ty = r.dty;
+    let left = Identifier(r.left);
+    let right = Identifier(r.right);
+    match kind {
+        2 => operations::analyze_bin_op(table, word, w, result, ty, left, right),
+        3 => operations::analyze_unary_op(table, word, w, result, ty, left),
+        4 => operations::analyze_const(table, word, w, result, ty),
+        11 => operations::analyze_ret(ret, w),
+        12 => operations::analyze_ret_value(table, ret, w, left),
+        _ => Checked::Fine,
+    }
+}
+
+fn analyze_record(
+    tokens: &[u32],
+    rows: &[u32],
+    n: usize,
+    ret: u32,
+    table: &mut [u32],
+    r: ItemRecord,
+    arguments: &[u32],
+) -> Checked
+    requires { ⌜ (n ≤ 64) × (2881 ≤ length (now rows)) ⌝ }
+    ensures { λ s. ⌜ typed (now (table .exit)) s
+        ≡ analyzeD (tokensOf (now (tokens .entry))) (globalsIn (now (rows .entry)) n) ret (now (table .entry))
+        (itemOf r (now (arguments .entry))) ⌝ }
+{
+    let kind = r.kind;
+    let w = r.token as usize;
+    let result = Identifier(r.dest);
+    let ty = r.dty;
+    let callee = Identifier(r.left);
+    let first = r.right;
+    let count = r.rty;
+    match kind {
+        1 => Checked::Fine,
+        5 => calls::analyze_call(table, w, rows, n, callee, arguments, first, count),
+        6 => calls::analyze_call_into(
+            table,
+            w,
+            rows,
+            n,
+            result,
+            ty,
+            callee,
+            arguments,
+            first,
+            count,
+        ),
+        _ => analyze_plain(tokens, ret, table, r),
+    }
+}
+
+// `ret` is the result type of the function that the item stands in.
+pub fn analyze_op(
+    tokens: &[u32],
+    rows: &[u32],
+    n: usize,
+    ret: u32,
+    table: &mut [u32],
+    items: &[u32],
+    arguments: &[u32],
+    i: usize,
+) -> Checked
+    requires { ⌜ (n ≤ 64) × (2881 ≤ length (now rows)) × (i ≤ 8589934592) ⌝ }
+    ensures { λ s. ⌜ typed (now (table .exit)) s
+        ≡ analyzeD (tokensOf (now (tokens .entry))) (globalsIn (now (rows .entry)) n) ret (now (table .entry))
+        (itemAt (now (items .entry)) (now (arguments .entry)) i) ⌝ }
+{
+    let r = record_at(items, i);
+    analyze_record(tokens, rows, n, ret, table, r, arguments)
+}
+
+// The kinds from 9 to 12 end a block.
+fn expect_terminator(items: &[u32], first: u32, count: u32) -> Checked
+    ensures { λ s. ⌜ ((t args : List ℕ) → typed t s ≡ endD t (itemsAt (now (items .entry)) args first count)) ⌝ }
+{
+    if count == 0 {
+        return Checked::Fine;
+    }
+    let i = first as usize + count as usize - 1;
+    let last = record_at(items, i);
+    let kind = last.kind;
+    let w = last.token as usize;
+    if kind < 9 {
+        return symbols::refuse(21, w, 0, 0, Identifier(0));
+    }
+    if 12 < kind {
+        return symbols::refuse(21, w, 0, 0, Identifier(0));
+    }
+    Checked::Fine
+}
+
+pub fn analyze_block(
+    tokens: &[u32],
+    rows: &[u32],
+    n: usize,
+    ret: u32,
+    table: &mut [u32],
+    items: &[u32],
+    arguments: &[u32],
+    first: u32,
+    count: u32,
+) -> Checked
+    requires { ⌜ (n ≤ 64) × (2881 ≤ length (now rows)) ⌝ }
+    ensures { λ s. ⌜ typed (now (table .exit)) s
+        ≡ blockD (tokensOf (now (tokens .entry))) (globalsIn (now (rows .entry)) n) ret (now (table .entry))
+        (itemsAt (now (items .entry)) (now (arguments .entry)) first count) ⌝ }
+{
+    let mut at = first as usize;
+    let mut left = count;
+    while 0 < left {
+        match analyze_op(tokens, rows, n, ret, table, items, arguments, at) {
+            Checked::Refused(e) => {
+                return Checked::Refused(e);
+            }
+            Checked::Fine => {
+                at += 1;
+                left -= 1;
+            }
+        }
+    }
+    expect_terminator(items, first, count)
+}

@@ -1,0 +1,178 @@
+// A function: its formals, then its blocks in the walk's order.
+ghost use mathlib.Core.Path.{_≡_};
+ghost use mathlib.Core.List.{List};
+ghost use Prim.Native.Nat.{ℕ, _+_, _*_, _≤_, _<_};
+ghost use lib.ListN.{length, getD};
+ghost use Rattle.lexer.specs.Decoded.{tokensOf};
+ghost use Rattle.functions.specs.Rows.{rowAt, retAt};
+ghost use Rattle.graph.specs.Worklist.{remaining};
+ghost use Rattle.sema.specs.Symbols.{typed};
+ghost use Rattle.sema.specs.Globals.{globalsIn};
+ghost use Rattle.sema.specs.Blocks.{firstBlockAt, blockCountAt, formalsFrom, formalsIn, formalsD};
+ghost use Rattle.sema.specs.Blocks.{blockD, blocksD, blockItems, blocksAt, inOrder, rowD};
+use crate::Checked;
+use crate::blocks;
+use crate::calls;
+use crate::symbols;
+use graph::Popped;
+use graph::RPOWorklist;
+use pieces::Identifier;
+
+// Enters the formals from the cell `first` on.
+fn enter_formals(table: &mut [u32], token: u32, rows: &[u32], first: usize, count: u32) -> Checked
+    requires { ⌜ first + count * 2 ≤ length (now rows) ⌝ }
+    ensures { λ r. ⌜ typed (now (table .exit)) r
+        ≡ formalsD (now (table .entry)) token (formalsFrom (now (rows .entry)) first count) ⌝ }
+{
+    let w = token as usize;
+    let mut at = first;
+    let mut left = count;
+    while 0 < left {
+        match symbols::insert(table, w, Identifier(rows[at]), rows[at + 1]) {
+            Checked::Refused(e) => {
+                return Checked::Refused(e);
+            }
+            Checked::Fine => {
+                at += 2;
+                left -= 1;
+            }
+        }
+    }
+    Checked::Fine
+}
+
+// The function's name is the token of its formals.
+fn enter_row(table: &mut [u32], rows: &[u32], row: usize) -> Checked
+    requires { ⌜ (row < 64) × (2881 ≤ length (now rows)) ⌝ }
+    ensures { λ r. ⌜ typed (now (table .exit)) r
+        ≡ formalsD (now (table .entry)) (getD (now (rows .entry)) (rowAt row) 0) (formalsIn (now (rows .entry)) row) ⌝ }
+{
+    let at = row * 45;
+    let token = rows[1 + at];
+    let count = calls::at_most_16(rows[13 + at]);
+    enter_formals(table, token, rows, 14 + at, count)
+}
+
+// The block of a record.
+fn analyze_recorded(
+    tokens: &[u32],
+    rows: &[u32],
+    n: usize,
+    ret: u32,
+    table: &mut [u32],
+    items: &[u32],
+    arguments: &[u32],
+    blocks: &[u32],
+    k: usize,
+) -> Checked
+    requires { ⌜ (n ≤ 64) × (2881 ≤ length (now rows)) × (k ≤ 8589934592) ⌝ }
+    ensures { λ r. ⌜ typed (now (table .exit)) r
+        ≡ blockD (tokensOf (now (tokens .entry))) (globalsIn (now (rows .entry)) n) ret (now (table .entry))
+        (blockItems (now (items .entry)) (now (arguments .entry)) (now (blocks .entry)) k) ⌝ }
+{
+    let at = k * 8;
+    let first = blocks::cell_at(blocks, at);
+    let count = blocks::cell_at(blocks, at + 1);
+    blocks::analyze_block(tokens, rows, n, ret, table, items, arguments, first, count)
+}
+
+// The blocks that the worklist still has.
+fn analyze_remaining(
+    tokens: &[u32],
+    rows: &[u32],
+    n: usize,
+    ret: u32,
+    table: &mut [u32],
+    items: &[u32],
+    arguments: &[u32],
+    blocks: &[u32],
+    first: u32,
+    order: &[u32; 256],
+    work: RPOWorklist,
+) -> Checked
+    requires { ⌜ (n ≤ 64) × (2881 ≤ length (now rows)) × (length (now order) ≡ 256) × (work .blocks ≤ 256) ⌝ }
+    ensures { λ r. ⌜ typed (now (table .exit)) r
+        ≡ blocksD (tokensOf (now (tokens .entry))) (globalsIn (now (rows .entry)) n) ret (now (table .entry))
+        (blocksAt (now (items .entry)) (now (arguments .entry)) (now (blocks .entry)) first
+        (remaining (now (order .entry)) work)) ⌝ }
+{
+    let mut left = work;
+    loop {
+        match left.pop(order) {
+            Popped::Empty => {
+                return Checked::Fine;
+            }
+            Popped::Block(b, rest) => {
+                let k = first as usize + b.0 as usize;
+                match analyze_recorded(tokens, rows, n, ret, table, items, arguments, blocks, k) {
+                    Checked::Refused(e) => {
+                        return Checked::Refused(e);
+                    }
+                    Checked::Fine => {
+                        left = rest;
+                    }
+                }
+            }
+        }
+    }
+}
+
+fn analyze_blocks(
+    tokens: &[u32],
+    rows: &[u32],
+    n: usize,
+    row: usize,
+    table: &mut [u32],
+    items: &[u32],
+    arguments: &[u32],
+    blocks: &[u32],
+) -> Checked
+    requires { ⌜ (n ≤ 64) × (row < 64) × (2881 ≤ length (now rows)) ⌝ }
+    ensures { λ r. ⌜ typed (now (table .exit)) r
+        ≡ blocksD (tokensOf (now (tokens .entry))) (globalsIn (now (rows .entry)) n)
+        (getD (now (rows .entry)) (retAt row) 0) (now (table .entry))
+        (inOrder (now (items .entry)) (now (arguments .entry)) (now (blocks .entry))
+        (getD (now (rows .entry)) (firstBlockAt row) 0) (getD (now (rows .entry)) (blockCountAt row) 0)) ⌝ }
+{
+    let ret = calls::result_type(rows, row);
+    let first = rows[11 + row * 45];
+    let count = rows[12 + row * 45];
+    let mut order = [0u32; 256];
+    let work = RPOWorklist::new(blocks, first, count, &mut order);
+    analyze_remaining(
+        tokens,
+        rows,
+        n,
+        ret,
+        table,
+        items,
+        arguments,
+        blocks,
+        first,
+        &order,
+        work,
+    )
+}
+
+// One table of names per function.
+pub fn analyze(
+    tokens: &[u32],
+    rows: &[u32],
+    n: usize,
+    row: usize,
+    table: &mut [u32],
+    items: &[u32],
+    arguments: &[u32],
+    blocks: &[u32],
+) -> Checked
+    requires { ⌜ (n ≤ 64) × (row < 64) × (2881 ≤ length (now rows)) ⌝ }
+    ensures { λ r. ⌜ typed (now (table .exit)) r
+        ≡ rowD (tokensOf (now (tokens .entry))) (now (rows .entry)) n (now (items .entry)) (now (arguments .entry))
+        (now (blocks .entry)) row (now (table .entry)) ⌝ }
+{
+    utils::clear(table);
+    match enter_row(table, rows, row) {
+        Checked::Refused(e) => Checked::Refused(e),
+        Checked::Fine => analyze_blocks(tokens, rows, n, row, table, items, arguments, blocks),
+    }
+}
