@@ -36,18 +36,18 @@ pub run-none : (table cells : List ℕ) (at n : ℕ) → n ≡ 0 → typedRun ta
 unfolding typedRun
 run-none table cells at n h = rw h
 
-pub items-more : (table rows : List ℕ) (n : ℕ) (cells : List ℕ) (first count : ℕ) → 0 < count
-    → typedItems table rows n cells first count
-    ≡ typedItems table rows n (sets cells (first * 8) (recordCells (typedRecord table rows n (recordAt cells first)))) (first + 1)
-    (count - 1)
+pub items-more : (table : List ℕ) (callees : ℕ → ℕ) (cells : List ℕ) (first count : ℕ) → 0 < count
+    → typedItems table callees cells first count
+    ≡ typedItems table callees (sets cells (first * 8) (recordCells (typedRecord table callees (recordAt cells first))))
+    (first + 1) (count - 1)
 unfolding typedItems
-items-more table rows n cells first zero h = absurd (omega arith)
-items-more table rows n cells first (suc count) h = let m : suc count - 1 ≡ count = omega arith in rw m
+items-more table callees cells first zero h = absurd (omega arith)
+items-more table callees cells first (suc count) h = let m : suc count - 1 ≡ count = omega arith in rw m
 
-pub items-none : (table rows : List ℕ) (n : ℕ) (cells : List ℕ) (first count : ℕ) → count ≡ 0
-    → typedItems table rows n cells first count ≡ cells
+pub items-none : (table : List ℕ) (callees : ℕ → ℕ) (cells : List ℕ) (first count : ℕ) → count ≡ 0
+    → typedItems table callees cells first count ≡ cells
 unfolding typedItems
-items-none table rows n cells first count h = rw h
+items-none table callees cells first count h = rw h
 
 pub calls-more : (table items cells : List ℕ) (first count : ℕ) → 0 < count
     → typedCalls table items cells first count

@@ -25,16 +25,16 @@ calleeFrom rows i (suc n) name =
 abbrev pub calleeOf : List ℕ → ℕ → ℕ → ℕ
 calleeOf rows n name = calleeFrom rows 0 n name
 
--- 2 binary, 3 unary, 5 and 6 calls (crates/body/specs/Records.antt)
+-- `callees` gives a callee's type. 2 binary, 3 unary, 5 and 6 calls (crates/body/specs/Records.antt)
 unfoldable pub isCall : ℕ → Bool
 isCall kind = pick (eqb kind 5) true (eqb kind 6)
 
-unfoldable pub typedRecord : List ℕ → List ℕ → ℕ → ItemRecord → ItemRecord
-typedRecord table rows n r =
+unfoldable pub typedRecord : List ℕ → (ℕ → ℕ) → ItemRecord → ItemRecord
+typedRecord table callees r =
     let k = r .kind in
     let left = typeOf table (r .left) in
     let right = typeOf table (r .right) in
-    let callee = calleeOf rows n (r .left) in
+    let callee = callees (r .left) in
     pick (eqb k 2) (itemRecord k (r .token) (r .dest) (r .dty) (r .left) left (r .right) right)
     (pick (eqb k 3) (itemRecord k (r .token) (r .dest) (r .dty) (r .left) left (r .right) (r .rty))
     (pick (isCall k) (itemRecord k (r .token) (r .dest) (r .dty) (r .left) callee (r .right) (r .rty))
@@ -50,11 +50,11 @@ abbrev pub typedArguments : List ℕ → List ℕ → ItemRecord → List ℕ
 typedArguments table cells r = pick (isCall (r .kind)) (typedRun table cells (r .right) (r .rty)) cells
 
 -- the items of a function, and their arguments
-unfoldable pub typedItems : List ℕ → List ℕ → ℕ → List ℕ → ℕ → ℕ → List ℕ
-typedItems table rows n cells first zero = cells
-typedItems table rows n cells first (suc count) =
-    typedItems table rows n
-    (sets cells (first * 8) (recordCells (typedRecord table rows n (recordAt cells first)))) (first + 1) count
+unfoldable pub typedItems : List ℕ → (ℕ → ℕ) → List ℕ → ℕ → ℕ → List ℕ
+typedItems table callees cells first zero = cells
+typedItems table callees cells first (suc count) =
+    typedItems table callees
+    (sets cells (first * 8) (recordCells (typedRecord table callees (recordAt cells first)))) (first + 1) count
 
 unfoldable pub typedCalls : List ℕ → List ℕ → List ℕ → ℕ → ℕ → List ℕ
 typedCalls table items cells first zero = cells

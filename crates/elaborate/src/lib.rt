@@ -46,7 +46,7 @@ fn is_call(kind: u32) -> bool
 // An item with the types of its operands.
 fn typed_record(r: ItemRecord, table: &[u32], rows: &[u32], n: usize) -> ItemRecord
     requires { ⌜ (n ≤ 64) × (2881 ≤ length (now rows)) × ((i : ℕ) → i < n → getD (now rows) (typeAt i) 0 ≤ 64) ⌝ }
-    ensures { λ res. ⌜ res ≡ typedRecord (now (table .entry)) (now (rows .entry)) n r ⌝ }
+    ensures { λ res. ⌜ res ≡ typedRecord (now (table .entry)) (calleeOf (now (rows .entry)) n) r ⌝ }
 {
     let kind = r.kind;
     let token = r.token;
@@ -158,7 +158,7 @@ fn elaborate_items(
     requires { ⌜ (n ≤ 64) × (2881 ≤ length (now rows)) × ((i : ℕ) → i < n → getD (now rows) (typeAt i) 0 ≤ 64)
         × ((first + count) * 8 ≤ length (now items)) ⌝ }
     ensures { λ _. ⌜ now (items .exit)
-        ≡ typedItems (now (table .entry)) (now (rows .entry)) n (now (items .entry)) first count ⌝ }
+        ≡ typedItems (now (table .entry)) (calleeOf (now (rows .entry)) n) (now (items .entry)) first count ⌝ }
 {
     let mut at = first;
     let mut left = count;
@@ -183,7 +183,7 @@ pub fn elaborate(
     requires { ⌜ (n ≤ 64) × (2881 ≤ length (now rows)) × ((i : ℕ) → i < n → getD (now rows) (typeAt i) 0 ≤ 64)
         × ((first + count) * 8 ≤ length (now items)) ⌝ }
     ensures { λ _. ⌜ now (items .exit)
-        ≡ typedItems (now (table .entry)) (now (rows .entry)) n (now (items .entry)) first count ⌝ }
+        ≡ typedItems (now (table .entry)) (calleeOf (now (rows .entry)) n) (now (items .entry)) first count ⌝ }
     ensures { λ _. ⌜ now (arguments .exit)
         ≡ typedCalls (now (table .entry)) (now (items .entry)) (now (arguments .entry)) first count ⌝ }
 {

@@ -1,6 +1,6 @@
 use lib.Seq.{length-sets}
 use Rattle.elaborate.proofs.Turns.{items-more, items-none, calls-more, calls-none}
-use Rattle.elaborate.specs.Types.{typedItems, typedCalls, typedArguments}
+use Rattle.elaborate.specs.Types.{calleeOf, typedItems, typedCalls, typedArguments}
 use Rattle.body.specs.Records.{recordAt}
 use Rattle.utils.specs.Bytes.{pick}
 use borrow.Author.Needs.{needs}
@@ -26,7 +26,7 @@ use Rattle.elaborate.proofs.typed_record.Reads as typed-record-reads
 abbrev Inv-loop : tie.InvT-loop
 Inv-loop table rows n items₀ first count at₀ left₀ items at left =
     (at + left ≡ first + count) × (length items ≡ length items₀)
-    × (typedItems table rows n items at left ≡ typedItems table rows n items₀ first count)
+    × (typedItems table (calleeOf rows n) items at left ≡ typedItems table (calleeOf rows n) items₀ first count)
 
 abbrev μ-loop : tie.MeasureT-loop
 μ-loop table rows n items₀ first count at₀ left₀ items at left = left
@@ -69,7 +69,7 @@ loop-again c =
     let typed-record = c .before .before .before .typed-record in
     let put-record = c .before .before .put-record in
     let items = c .before .items in
-    let m = items-more (now (a .table)) (now (a .rows)) (a .n) (loop .items) (loop .at) (loop .left) (loop-test .taken) in (
+    let m = items-more (now (a .table)) (calleeOf (now (a .rows)) (a .n)) (loop .items) (loop .at) (loop .left) (loop-test .taken) in (
       omega arith,
       put-record .kept .0 ∙ loop .inv .1,
       rw (put-record .ensures, typed-record .ensures, record-at .ensures) (sym m ∙ loop .inv .2),
@@ -84,7 +84,7 @@ returns : tie.Need-returns Inv-loop μ-loop
 returns c =
     let a = c .before .before .before .before .before .args in
     let loop = c .before .loop in
-    sym (items-none (now (a .table)) (now (a .rows)) (a .n) (loop .items) (loop .at) (loop .left) (omega arith)) ∙ loop .inv .2
+    sym (items-none (now (a .table)) (calleeOf (now (a .rows)) (a .n)) (loop .items) (loop .at) (loop .left) (omega arith)) ∙ loop .inv .2
 
 pub elaborate-items-spec : {M : Type 1} → statement M
 elaborate-items-spec =
