@@ -10,7 +10,7 @@ use Rattle.utils.specs.Bytes.{pick, bytes, sameBytes}
 use Rattle.graph.specs.Cases as walking
 use Rattle.lexer.specs.Read.{readOf}
 use Rattle.lexer.specs.Decoded.{Tok, tokensOf}
-use Rattle.parser.specs.Cases as parsing
+use Rattle.functions.specs.Cases as parsing
 use Rattle.parser.specs.Runs.{formalD, formalsFromD, formalsD}
 use Rattle.parser.specs.declared.Refusal.{Refusal}
 use Rattle.parser.specs.declared.Consumed.{Consumed}
