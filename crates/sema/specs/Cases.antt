@@ -1,5 +1,5 @@
--- Document 01's cases that typing decides, and the edges of each rule: one table with one claim, shown by computation. A
--- row is a text, and what it gives: 0, or a refusal's number, token, what was wanted and what was found.
+-- Document 01's cases that typing decides, and the edges of each rule: one table with one claim, shown by computation.
+-- A row is a text, and what it gives: 0, or a refusal's number, token, what was wanted and what was found.
 use Prim.Native.Nat.{ℕ}
 use Prim.Native.String.{String}
 use mathlib.Core.Path.{_≡_, refl}
