@@ -1,5 +1,5 @@
--- The items that cells hold (crates/body/specs/Records.antt), for those who read them: a record and, for a call, the run of
--- its arguments.
+-- The items that cells hold (crates/body/specs/Records.antt), for those who read them: a record and, for a call, the
+-- run of its arguments.
 use Prim.Native.Nat.{ℕ, zero, suc, _+_, _*_, _-_}
 use mathlib.Core.List.{List, [], _∷_}
 use lib.Dec.{eqb}

@@ -9,3 +9,7 @@ pub mod Items
 pub mod Globals
 -- a block, a function, all functions
 pub mod Blocks
+-- all functions, as they were parsed
+pub mod Program
+-- texts with their refusals: one table, one claim
+pub mod Cases

@@ -1,5 +1,5 @@
--- "One table of names per function: entering a name with another type is 15, reading one absent is 16." The table is a list
--- of type cells by name number, 0 where the name is absent: 1 int, 2 bool (crates/parser/specs/Runs.antt).
+-- "One table of names per function: entering a name with another type is 15, reading one absent is 16." The table is a
+-- list of type cells by name number, 0 where the name is absent: 1 int, 2 bool (crates/parser/specs/Runs.antt).
 use Prim.Native.Nat.{ℕ}
 use mathlib.Core.List.{List}
 use lib.Dec.{eqb}

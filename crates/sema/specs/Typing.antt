@@ -33,8 +33,9 @@ thenThree t token result left right wantedResult wantedOperands =
     (thenSame t token left wantedOperands
     (thenSame t token right wantedOperands (on t)))
 
--- Binary: left, right looked up; result entered; result type, left, right compared. `eq`: right against left, then result.
--- The kinds are those of the operators' words: 5 to 9 arithmetic, 12 `eq`, 13 to 16 comparisons, 18 and 19 `and`, `or`.
+-- Binary: left, right looked up; result entered; result type, left, right compared. `eq`: right against left, then
+-- result. The kinds are those of the operators' words: 5 to 9 arithmetic, 12 `eq`, 13 to 16 comparisons, 18 and 19
+-- `and`, `or`.
 unfoldable pub operandsD : List ℕ → ℕ → ℕ → ℕ → ℕ → ℕ → Typed
 operandsD t kind token result left right =
     pick (leb kind 9) (thenThree t token result left right int int)

@@ -216,17 +216,9 @@ pub fn analyze_call_into(
             }
             match symbols::expect_type(token, ty, ret) {
                 Checked::Refused(e) => Checked::Refused(e),
-                Checked::Fine => enter_result(
-                    table,
-                    token,
-                    rows,
-                    i,
-                    result,
-                    ty,
-                    arguments,
-                    first,
-                    count,
-                ),
+                Checked::Fine => {
+                    enter_result(table, token, rows, i, result, ty, arguments, first, count)
+                }
             }
         }
     }

@@ -1,0 +1,107 @@
+-- Document 01's cases that typing decides, and the edges of each rule: one table with one claim, shown by computation.
+-- A row is a text, and what it gives: 0, or a refusal's number, token, what was wanted and what was found.
+use Prim.Native.Nat.{ℕ}
+use Prim.Native.String.{String}
+use mathlib.Core.Path.{_≡_, refl}
+use mathlib.Core.List.{List, [], _∷_}
+use mathlib.Core.Bool.{Bool, true, false}
+use lib.ListN.{replicate}
+use Rattle.utils.specs.Bytes.{pick, bytes, sameBytes}
+use Rattle.graph.specs.Cases as walking
+use Rattle.lexer.specs.Read.{readOf}
+use Rattle.lexer.specs.Decoded.{Tok, tokensOf}
+use Rattle.functions.specs.Cases as parsing
+use Rattle.parser.specs.Runs.{formalD, formalsFromD, formalsD}
+use Rattle.parser.specs.declared.Refusal.{Refusal}
+use Rattle.parser.specs.declared.Consumed.{Consumed}
+use Rattle.parser.specs.declared.Consumed.the-variants as C
+use Rattle.functions.specs.Known.{formalTypes, typeNumber, typesAfter, expectedType}
+use Rattle.functions.specs.Functions.{Program, thenHeader, thenFormals, optionalFormals, optionalType, enteredD}
+use Rattle.functions.specs.Functions.{thenEntered, signatureD, headerD, thenBuilt, builtD, thenFunction, functionD}
+use Rattle.functions.specs.Functions.{functionsD}
+use Rattle.functions.specs.Functions.{programD as parsedD}
+use Rattle.sema.specs.Symbols.{thenEnd, thenTyped, enterD, thenLook, thenSame}
+use Rattle.sema.specs.Typing.{thenThree, operandsD, binaryD, operandD, unaryD, constD, retValueD, retD, presentD}
+use Rattle.sema.specs.Typing.{typesOf, sameAll, argumentsD, thenGlobal, callD, callIntoD, plainD, analyzeD}
+use Rattle.sema.specs.Blocks.{itemsD, endD, blockD, blocksD, typeFunctionD}
+use Rattle.sema.specs.Blocks.{formalsD as enteredFormalsD}
+use Rattle.sema.specs.Program.{globalsOf, numbered, programD}
+use Rattle.sema.specs.declared.Checked.{Checked}
+use Rattle.sema.specs.declared.Checked.the-variants as K
+
+-- To unfold this is to unfold the whole definition.
+unfoldable pub opened : ℕ
+unfolding
+    walking.opened parsing.opened formalD formalsFromD formalsD formalTypes typeNumber typesAfter expectedType thenHeader
+    thenFormals optionalFormals optionalType enteredD thenEntered signatureD headerD thenBuilt builtD thenFunction
+    functionD functionsD thenEnd thenTyped enterD thenLook thenSame thenThree operandsD binaryD operandD unaryD constD
+    retValueD retD presentD typesOf sameAll argumentsD thenGlobal callD callIntoD plainD analyzeD itemsD endD blockD
+    enteredFormalsD blocksD typeFunctionD globalsOf numbered programD
+opened = 0
+
+facts : Refusal → List ℕ
+facts e = e .number ∷ e .token ∷ e .wanted ∷ e .found ∷ []
+
+checked : Checked → List ℕ
+checked K.Fine = 0 ∷ []
+checked (K.Refused e) = facts e
+
+ended : List Tok → Program → Consumed → List ℕ
+ended ts u (C.At next) = checked (programD ts (u .functions) (u .functions) (replicate 8 0) .end)
+ended ts u (C.Refused e) = facts e
+
+typing : String → List ℕ
+typing s =
+    let ts = tokensOf (readOf (bytes s) .tokens) in
+    let u = parsedD ts in
+    ended ts u (u .end)
+
+pub record Case : Type 0 where
+  pub text : String
+  pub gives : List ℕ
+
+abbrev case : String → List ℕ → Case
+case s g = record { text = s; gives = g }
+
+unfoldable cases : List Case
+cases =
+    case "@f { x: int = const 1; ret; }" (0 ∷ [])
+    -- `const` is compared before it is entered
+    ∷ case "@f { x: int = const true; }" (17 ∷ 7 ∷ 1 ∷ 2 ∷ [])
+    ∷ case "@f { x: int = const 1; x: bool = const true; }" (15 ∷ 14 ∷ 1 ∷ 2 ∷ [])
+    ∷ case "@f { x: int = const 1; x: bool = const 2; }" (17 ∷ 14 ∷ 2 ∷ 1 ∷ [])
+    -- operands are looked up before the result is entered
+    ∷ case "@f { x: int = id x; }" (16 ∷ 6 ∷ 0 ∷ 0 ∷ [])
+    -- the result's type first; `eq`: right against left
+    ∷ case "@f { a: bool = const true; c: bool = add a a; }" (17 ∷ 13 ∷ 1 ∷ 2 ∷ [])
+    ∷ case "@f { a: int = const 1; b: bool = const true; c: int = eq a b; }" (17 ∷ 20 ∷ 1 ∷ 2 ∷ [])
+    -- a call's result is entered before its arguments
+    ∷ case "@f { x: int = call @g x; } @g(a: int): int { ret a; }" (0 ∷ [])
+    ∷ case "@f { x: int = call @g; }" (16 ∷ 6 ∷ 0 ∷ 0 ∷ [])
+    ∷ case "@f { x: int = call @f; }" (18 ∷ 6 ∷ 0 ∷ 0 ∷ [])
+    ∷ case "@f: int { call @f; }" (19 ∷ 4 ∷ 0 ∷ 0 ∷ [])
+    ∷ case "@f { call @g; } @g(a: int) { ret; }" (20 ∷ 2 ∷ 1 ∷ 0 ∷ [])
+    ∷ case "@f(a: bool) { call @g a; } @g(a: int) { ret; }" (17 ∷ 7 ∷ 1 ∷ 2 ∷ [])
+    -- `ret`; `print` and `br` are never looked up
+    ∷ case "@f { ret x; }" (16 ∷ 2 ∷ 0 ∷ 0 ∷ [])
+    ∷ case "@f(x: int) { ret x; }" (18 ∷ 7 ∷ 0 ∷ 0 ∷ [])
+    ∷ case "@f: int { ret; }" (19 ∷ 4 ∷ 0 ∷ 0 ∷ [])
+    ∷ case "@f { print q; br q .a .a; .a: nop; }" (0 ∷ [])
+    -- a block without terminator
+    ∷ case "@f { nop; }" (0 ∷ [])
+    ∷ case "@f: int { nop; }" (21 ∷ 4 ∷ 0 ∷ 0 ∷ [])
+    -- formals, with the function's name
+    ∷ case "@f(x: int, x: bool) { ret; }" (15 ∷ 0 ∷ 1 ∷ 2 ∷ [])
+    -- the walk's order
+    ∷ case "@f { br q .a .b; .a: x: int = id y; .b: z: int = id w; }" (16 ∷ 13 ∷ 0 ∷ 0 ∷ [])
+    ∷ case "@f { br q .b .a; .a: x: int = id y; .b: z: int = id w; }" (16 ∷ 22 ∷ 0 ∷ 0 ∷ [])
+    ∷ []
+
+right : List Case → Bool
+right [] = true
+right (c ∷ cs) = let more = right cs in pick (sameBytes (typing (c .text)) (c .gives)) more false
+
+-- THE CLAIM
+all-right : right cases ≡ true
+unfolding opened cases right typing ended checked facts
+all-right = refl

@@ -1,0 +1,47 @@
+-- Typing of a text's functions as they were parsed (crates/functions/specs/Functions.antt), before any cells.
+use Prim.Native.Nat.{ℕ}
+use mathlib.Core.List.{List, [], _∷_}
+use lib.Dec.{eqb}
+use lib.ListN.{length, getD, take, drop}
+use Rattle.utils.specs.Bytes.{pick, padTo}
+use Rattle.graph.specs.Walk.{blockOrder}
+use Rattle.lexer.specs.Decoded.{Tok}
+use Rattle.parser.specs.Runs.{typeCell}
+use Rattle.parser.specs.Body.{Item}
+use Rattle.parser.specs.Blocks.{Block, fresh}
+use Rattle.parser.specs.Edges.{successors}
+use Rattle.functions.specs.Known.{formalTypes}
+use Rattle.functions.specs.Functions.{Header, Function, blocksIn}
+use Rattle.sema.specs.Symbols.{Typed, on, thenTyped}
+use Rattle.sema.specs.Typing.{Global, absent, global}
+use Rattle.sema.specs.Blocks.{typeFunctionD}
+
+-- the functions by name: the first of that name
+unfoldable pub globalsOf : List Function → ℕ → Global
+globalsOf [] name = absent
+globalsOf (f ∷ fs) name =
+    let more = globalsOf fs name in
+    pick (eqb (f .head .name .0) name) (global (typeCell (f .head .ret)) (formalTypes (f .head .formals))) more
+
+abbrev pub itemsIn : List Item → Block → List Item
+itemsIn is b = take (b .operations) (drop (b .first) is)
+
+-- the blocks of these numbers
+unfoldable pub numbered : List Item → List Block → List ℕ → List (List Item)
+numbered is bs [] = []
+numbered is bs (v ∷ vs) = itemsIn is (getD bs v (fresh [] 0)) ∷ numbered is bs vs
+
+-- a body's blocks in the walk's order
+abbrev pub orderedBlocks : List Item → List (List Item)
+orderedBlocks is =
+    let bs = blocksIn is in
+    numbered is bs (blockOrder (λ v. getD (successors bs bs) v []) (length bs))
+
+-- "Functions are taken in text order": these, of all.
+unfoldable pub programD : List Tok → List Function → List Function → List ℕ → Typed
+programD ts all [] t = on t
+programD ts all (f ∷ fs) t =
+    thenTyped
+    (typeFunctionD ts (globalsOf all) (typeCell (f .head .ret)) (f .token) (f .head .formals) (orderedBlocks (f .items))
+    (padTo (length t) []))
+    (λ t1. programD ts all fs t1)
