@@ -12,7 +12,7 @@ use Rattle.parser.specs.declared.Refusal.{Refusal}
 use Rattle.parser.specs.declared.Variable.{Variable}
 use Rattle.parser.specs.declared.Consumed.{Consumed}
 use Rattle.parser.specs.declared.Consumed.the-variants as C
-use Rattle.body.specs.Records.{recordOf, recordCells, argumentsCount}
+use Rattle.body.specs.Records.{recordOf, recordCells}
 use Rattle.link.specs.Cells.{blockCells}
 use Rattle.functions.specs.Functions.{Function, Program, blocksIn, programD}
 use Rattle.functions.specs.Rows.{rowCells}
@@ -22,7 +22,8 @@ use Rattle.messages.specs.Messages.{messageOf}
 use Rattle.elaborate.specs.Types.{typeOf, typedRecord}
 use Rattle.sema.specs.declared.Checked.{Checked}
 use Rattle.sema.specs.declared.Checked.the-variants as K
-use Rattle.checker.specs.Typed.{Tables, typedFunctions}
+use Rattle.sema.specs.Program.{programD as typedD}
+use Rattle.checker.specs.Typed.{untyped, tablesOf}
 
 -- The answer and the contents of every slice.
 pub record Checking : Type 0 where
@@ -132,14 +133,12 @@ accepting r ts fs tables =
 
 -- The phases. -------------------------------------------------------------------------------------------------------
 
-abbrev pub typedOr : List ℕ → Reading → List Tok → List Function → List (List ℕ) → Checked → Checking
-typedOr text r ts fs tables K.Fine = accepting r ts fs tables
-typedOr text r ts fs tables (K.Refused e) = refusedAt text r ts e
+abbrev pub typedOr : List ℕ → Reading → List Tok → List Function → Checked → Checking
+typedOr text r ts fs K.Fine = accepting r ts fs (tablesOf ts fs (r .answer .names) fs)
+typedOr text r ts fs (K.Refused e) = refusedAt text r ts e
 
 abbrev pub parsedOr : List ℕ → Reading → List Tok → List Function → Consumed → Checking
-parsedOr text r ts fs (C.At next) =
-    let typing = typedFunctions ts fs fs in
-    typedOr text r ts fs (typing .tables) (typing .end)
+parsedOr text r ts fs (C.At next) = typedOr text r ts fs (typedD ts fs fs (untyped (r .answer .names)) .end)
 parsedOr text r ts fs (C.Refused e) = refusedAt text r ts e
 
 -- THE DEFINITION
