@@ -1,5 +1,5 @@
--- Texts with a refusal and the message that the Rust writes: one table with one claim, shown by computation. A refusal is
--- its number, its token's index, what was wanted, what was found, and a name's number.
+-- Texts with a refusal and the message that the Rust writes: one table with one claim, shown by computation. A refusal
+-- is its number, its token's index, what was wanted, what was found, and a name's number.
 use Prim.Native.Nat.{ℕ}
 use Prim.Native.String.{String}
 use mathlib.Core.Path.{_≡_, refl}

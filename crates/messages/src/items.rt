@@ -23,7 +23,8 @@ fn put_at_token(buf: &mut [u8], at: usize, kind: u32, value: u32) -> usize
 fn put_at_name(buf: &mut [u8], at: usize, text: &[u8], names: &[u32], name: u32) -> usize
     requires { ⌜ (at + 69 ≤ length (now buf)) × ShortNames (now text) (now names) ⌝ }
     ensures { λ r. ⌜ (r ≡ at + length (atName (nameOf (now (text .entry)) (now (names .entry)) name)))
-        × (now (buf .exit) ≡ sets (now (buf .entry)) at (atName (nameOf (now (text .entry)) (now (names .entry)) name))) × (r ≤ at + 69) ⌝ }
+        × (now (buf .exit) ≡ sets (now (buf .entry)) at (atName (nameOf (now (text .entry)) (now (names .entry)) name)))
+        × (r ≤ at + 69) ⌝ }
 {
     let p1 = utils::put(buf, at, b"at ");
     words::put_quoted_name(buf, p1, text, names, name)
@@ -41,7 +42,9 @@ pub(crate) fn put_item(
 ) -> usize
     requires { ⌜ (at + 69 ≤ length (now buf)) × ShortNames (now text) (now names) ⌝ }
     ensures { λ r. ⌜ (r ≡ at + length (itemOf (now (text .entry)) (now (names .entry)) kind value number name))
-        × (now (buf .exit) ≡ sets (now (buf .entry)) at (itemOf (now (text .entry)) (now (names .entry)) kind value number name)) × (r ≤ at + 69) ⌝ }
+        × (now (buf .exit) ≡ sets (now (buf .entry)) at
+        (itemOf (now (text .entry)) (now (names .entry)) kind value number name))
+        × (r ≤ at + 69) ⌝ }
 {
     if number < 13 {
         return put_at_token(buf, at, kind, value);
