@@ -13,7 +13,8 @@ use lib.ListN.{length, getD, replicate, take, drop}
 use Rattle.pieces.proofs.Compare.{part-slice}
 use Rattle.utils.specs.Bytes.{pick, bytes}
 use Rattle.pieces.proofs.Digits.{pick-both}
-use Rattle.messages.specs.Messages.{words, rowAt, rowsFrom, rowsFit}
+use Rattle.messages.specs.Messages.{words}
+use Rattle.messages.specs.Rows.{rowAt, rowsFrom, rowsFit}
 
 pub past : (n k i : ℕ) (t : List ℕ) → n ≤ i → getD (rowsFrom n k t) i [] ≡ []
 unfolding rowsFrom

@@ -1,8 +1,7 @@
 // ITEM: Token::error of lexer.rs, and the names that ir.rs and parser.rs report with.
 ghost use mathlib.Core.Path.{_≡_};
-ghost use mathlib.Core.List.{_++_};
-ghost use Prim.Native.Nat.{ℕ, _+_, _*_, _≤_, _<_};
-ghost use lib.ListN.{length, getD};
+ghost use Prim.Native.Nat.{_+_, _≤_};
+ghost use lib.ListN.{length};
 ghost use lib.Seq.{sets};
 ghost use Rattle.lexer.specs.Decoded.{nameOf};
 ghost use Rattle.messages.specs.Messages.{atToken, atName, itemOf, ShortNames};

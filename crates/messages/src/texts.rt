@@ -1,8 +1,7 @@
 // TEXT: what each number says.
 ghost use mathlib.Core.Path.{_≡_};
-ghost use mathlib.Core.List.{_++_};
-ghost use Prim.Native.Nat.{ℕ, _+_, _*_, _≤_, _<_};
-ghost use lib.ListN.{length, getD};
+ghost use Prim.Native.Nat.{_+_, _≤_};
+ghost use lib.ListN.{length};
 ghost use lib.Seq.{sets};
 ghost use Rattle.lexer.specs.Decoded.{nameOf};
 ghost use Rattle.messages.specs.Messages.{expected, missing, unexpected, otherType, otherCount, fixed, textOf};

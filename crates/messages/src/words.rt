@@ -1,14 +1,14 @@
 // Display of lexer.rs and ir.rs. A function that puts something stores it from a place on, and hands back the place
 // after it.
 ghost use mathlib.Core.Path.{_≡_};
-ghost use mathlib.Core.List.{[], _++_};
-ghost use Prim.Native.Nat.{ℕ, _+_, _*_, _≤_, _<_};
+ghost use mathlib.Core.List.{[]};
+ghost use Prim.Native.Nat.{_+_, _≤_};
 ghost use lib.ListN.{length, getD};
 ghost use lib.Seq.{sets};
 ghost use mathlib.Core.Bool.{true};
 ghost use Rattle.lexer.specs.Decoded.{nameOf};
-ghost use Rattle.messages.specs.Messages.{words, wordOf, signed, shown, typeWord, quoted, rowsFrom, rowsFit};
-ghost use Rattle.messages.specs.Messages.{ShortNames};
+ghost use Rattle.messages.specs.Messages.{wordOf, signed, shown, typeWord, quoted, ShortNames};
+ghost use Rattle.messages.specs.Rows.{rowsFrom, rowsFit};
 use pieces::Identifier;
 
 // The words in the order of their kinds. A row is a length, and eleven bytes for the letters.
