@@ -1,4 +1,5 @@
--- The rows of the code's table of words: what a row holds, and the law that the rows are the words, shown by computation.
+-- The rows of the code's table of words: what a row holds, and the law that the rows are the words, shown by
+-- computation.
 use Prim.Native.Nat.{ℕ, zero, suc, _+_, _-_, _*_, _≤_, _<_}
 use Prim.Native.String.{String}
 use mathlib.Core.Path.{_≡_, refl}
@@ -12,7 +13,8 @@ use lib.ListN.{length, getD, replicate, take, drop}
 use Rattle.pieces.proofs.Compare.{part-slice}
 use Rattle.utils.specs.Bytes.{pick, bytes}
 use Rattle.pieces.proofs.Digits.{pick-both}
-use Rattle.messages.specs.Messages.{words, rowAt, rowsFrom, rowsFit}
+use Rattle.messages.specs.Messages.{words}
+use Rattle.messages.specs.Rows.{rowAt, rowsFrom, rowsFit}
 
 pub past : (n k i : ℕ) (t : List ℕ) → n ≤ i → getD (rowsFrom n k t) i [] ≡ []
 unfolding rowsFrom
@@ -31,7 +33,8 @@ within (suc n) k (suc i) t h =
 pub fits : (n k i : ℕ) (t : List ℕ) → i < n → rowsFit n k t ≡ true → getD t ((k + i) * 12) 0 ≤ 11
 unfolding rowsFit
 fits zero k i t h e = absurd (omega arith)
-fits (suc n) k zero t h e = rw add-zero (leb-true _ _ (pick-both (leb (getD t (k * 12) 0) 11) (rowsFit n (k + 1) t) e .0))
+fits (suc n) k zero t h e =
+    rw add-zero (leb-true _ _ (pick-both (leb (getD t (k * 12) 0) 11) (rowsFit n (k + 1) t) e .0))
 fits (suc n) k (suc i) t h e =
     let q : k + suc i ≡ k + 1 + i = omega arith in
     rw q (fits n (k + 1) i t (omega arith) (pick-both (leb (getD t (k * 12) 0) 11) (rowsFit n (k + 1) t) e .1))

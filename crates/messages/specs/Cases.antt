@@ -58,7 +58,7 @@ cases =
     ∷ case "@f { nop;\n\n" (plain 6 4) "[line 3] Error at end of file: Local identifier expected."
     ∷ case "f" (plain 7 0) "[line 1] Error at 'local_0': Global identifier expected."
     ∷ case "@f { call .g; }" (plain 7 3) "[line 1] Error at 'label_1': Global identifier expected."
-    ∷ case "" (plain 7 0) "[line 1] Error at end of file: Global identifier expected."
+    ∷ case "@f { call" (plain 7 3) "[line 1] Error at end of file: Global identifier expected."
     ∷ case "@f { jmp @f; }" (plain 8 3) "[line 1] Error at 'global_0': Label identifier expected."
     -- 9 to 12
     ∷ case "@f: void { nop; }" (plain 9 2) "[line 1] Error at 'local_1': Type expected."
@@ -68,7 +68,7 @@ cases =
     ∷ case "@f { ret; nop; }" (plain 12 4) "[line 1] Error at 'nop': Basic block must start with a label."
     -- 13 to 16: names as the text spells them
     ∷ case "@f { .a: nop; .ab: nop;\n.ab: nop; }" (plain 13 10) "[line 2] Error at '.ab': Duplicate label found."
-    ∷ case "@f { br x .a .bc; }" (facts 14 2 0 0 3) "[line 1] Error : Branch target '.bc' is missing"
+    ∷ case "@f { .a: br x .a .bc; }" (facts 14 4 0 0 3) "[line 1] Error : Branch target '.bc' is missing"
     ∷ case "@f { nop; } @f: int { nop; }" (facts 15 5 4 4 0)
     "[line 1] Error at '@f': Unexpected type 'fn'. Expected 'fn'."
     ∷ case "@f { xy: int = const 1;\nxy: bool = const true; }" (facts 15 14 1 2 1)
@@ -76,9 +76,9 @@ cases =
     ∷ case "@f { x: int = id yz; }" (facts 16 6 0 0 2) "[line 1] Error at 'yz': Undefined identifier."
     ∷ case "@f { call @g_1; }" (facts 16 2 0 0 1) "[line 1] Error at '@g_1': Undefined identifier."
     -- 17 to 21
-    ∷ case "@f { x: int = call @f; }" (facts 17 6 5 1 0) "[line 1] Error at 'call': 'fn' type expected; 'int' found"
-    ∷ case "@f { x: int = not y; }" (facts 17 6 3 0 0)
-    "[line 1] Error at 'not': 'void' type expected; 'placeholder' found"
+    ∷ case "@f { x: bool = const -1; }" (facts 17 7 2 1 0) "[line 1] Error at '-1': 'bool' type expected; 'int' found"
+    ∷ case "@f { x: int = const 1;\n\nx: int = not x; }" (facts 17 13 2 1 0)
+    "[line 3] Error at 'not': 'bool' type expected; 'int' found"
     ∷ case "@f { x: int = call @f; }" (plain 18 6) "[line 1] Error at 'call': Void functions cannot return a value."
     ∷ case "@f: int { ret; }" (plain 19 4) "[line 1] Error at 'ret': Non-void functions must return a value."
     ∷ case "@f(a: int) { call @f; }" (facts 20 7 1 0 0) "[line 1] Error at 'call': 1 arguments expected, got 0"
@@ -88,6 +88,9 @@ cases =
     "[line 1] Error at 'nop': Block terminator expected to be jump, br, or ret."
     ∷ case "@f: int { x: int = const -1; }" (plain 21 9)
     "[line 1] Error at '-1': Block terminator expected to be jump, br, or ret."
+    -- the other words for types, which no text gives 17 with
+    ∷ case "@f { call @f; }" (facts 17 2 3 0 0) "[line 1] Error at 'call': 'void' type expected; 'placeholder' found"
+    ∷ case "@f { call @f; }" (facts 17 2 67 4 0) "[line 1] Error at 'call': 'fn' type expected; 'fn' found"
     -- the numbers that are not the Rust's
     ∷ case "\n@f { }" (plain 22 0) "[line 2] Error : empty block."
     ∷ case "@f" (plain 35 0) "[line 1] Error : too many functions."

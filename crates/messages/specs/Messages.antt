@@ -1,12 +1,10 @@
 -- Document 01, "Numbers the reader answers with", for the refusals of parsing and typing, 5 to 22 and 35 to 38: the
 -- message of each, `[line N] Error ITEM: TEXT` and a newline. 5 to 21 are the Rust's bytes; the others' TEXT is the
 -- table's WORD and a full stop.
-use Prim.Native.Nat.{ℕ, zero, suc, _+_, _-_, _*_, _≤_}
+use Prim.Native.Nat.{ℕ, _-_, _≤_}
 use mathlib.Core.List.{List, [], _∷_, _++_}
-use mathlib.Core.Bool.{Bool, true, false}
-use lib.Dec.{eqb, ltb, leb}
+use lib.Dec.{eqb, ltb}
 use lib.ListN.{length, getD}
-use lib.Seq.{slice}
 use Rattle.utils.specs.Bytes.{pick, bytes}
 use Rattle.utils.specs.Message.{decimal, reported}
 use Rattle.lexer.specs.Decoded.{Tok, tokenAt, nameOf}
@@ -181,16 +179,3 @@ messageOf text ts names e = messageAt text names (tokenAt ts (e .token)) e
 -- What the code asks of the names' cells: no name is longer than 64 bytes (document 01's limit).
 abbrev pub ShortNames : List ℕ → List ℕ → Type 0
 ShortNames text names = (i : ℕ) → length (nameOf text names i) ≤ 64
-
--- How the code holds the words: in rows of twelve bytes, a length and eleven for the letters.
-abbrev pub rowAt : List ℕ → ℕ → List ℕ
-rowAt t k = slice (k * 12 + 1) (k * 12 + 1 + getD t (k * 12) 0) t
-
-unfoldable pub rowsFrom : ℕ → ℕ → List ℕ → List (List ℕ)
-rowsFrom zero k t = []
-rowsFrom (suc n) k t = rowAt t k ∷ rowsFrom n (k + 1) t
-
--- no word is longer than its room
-unfoldable pub rowsFit : ℕ → ℕ → List ℕ → Bool
-rowsFit zero k t = true
-rowsFit (suc n) k t = let more = rowsFit n (k + 1) t in pick (leb (getD t (k * 12) 0) 11) more false

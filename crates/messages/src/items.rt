@@ -1,8 +1,7 @@
 // ITEM: Token::error of lexer.rs, and the names that ir.rs and parser.rs report with.
 ghost use mathlib.Core.Path.{_≡_};
-ghost use mathlib.Core.List.{_++_};
-ghost use Prim.Native.Nat.{ℕ, _+_, _*_, _≤_, _<_};
-ghost use lib.ListN.{length, getD};
+ghost use Prim.Native.Nat.{_+_, _≤_};
+ghost use lib.ListN.{length};
 ghost use lib.Seq.{sets};
 ghost use Rattle.lexer.specs.Decoded.{nameOf};
 ghost use Rattle.messages.specs.Messages.{atToken, atName, itemOf, ShortNames};
@@ -23,7 +22,8 @@ fn put_at_token(buf: &mut [u8], at: usize, kind: u32, value: u32) -> usize
 fn put_at_name(buf: &mut [u8], at: usize, text: &[u8], names: &[u32], name: u32) -> usize
     requires { ⌜ (at + 69 ≤ length (now buf)) × ShortNames (now text) (now names) ⌝ }
     ensures { λ r. ⌜ (r ≡ at + length (atName (nameOf (now (text .entry)) (now (names .entry)) name)))
-        × (now (buf .exit) ≡ sets (now (buf .entry)) at (atName (nameOf (now (text .entry)) (now (names .entry)) name))) × (r ≤ at + 69) ⌝ }
+        × (now (buf .exit) ≡ sets (now (buf .entry)) at (atName (nameOf (now (text .entry)) (now (names .entry)) name)))
+        × (r ≤ at + 69) ⌝ }
 {
     let p1 = utils::put(buf, at, b"at ");
     words::put_quoted_name(buf, p1, text, names, name)
@@ -41,7 +41,9 @@ pub(crate) fn put_item(
 ) -> usize
     requires { ⌜ (at + 69 ≤ length (now buf)) × ShortNames (now text) (now names) ⌝ }
     ensures { λ r. ⌜ (r ≡ at + length (itemOf (now (text .entry)) (now (names .entry)) kind value number name))
-        × (now (buf .exit) ≡ sets (now (buf .entry)) at (itemOf (now (text .entry)) (now (names .entry)) kind value number name)) × (r ≤ at + 69) ⌝ }
+        × (now (buf .exit) ≡ sets (now (buf .entry)) at
+        (itemOf (now (text .entry)) (now (names .entry)) kind value number name))
+        × (r ≤ at + 69) ⌝ }
 {
     if number < 13 {
         return put_at_token(buf, at, kind, value);

@@ -1,8 +1,7 @@
 // TEXT: what each number says.
 ghost use mathlib.Core.Path.{_≡_};
-ghost use mathlib.Core.List.{_++_};
-ghost use Prim.Native.Nat.{ℕ, _+_, _*_, _≤_, _<_};
-ghost use lib.ListN.{length, getD};
+ghost use Prim.Native.Nat.{_+_, _≤_};
+ghost use lib.ListN.{length};
 ghost use lib.Seq.{sets};
 ghost use Rattle.lexer.specs.Decoded.{nameOf};
 ghost use Rattle.messages.specs.Messages.{expected, missing, unexpected, otherType, otherCount, fixed, textOf};
@@ -21,7 +20,9 @@ fn put_expected(buf: &mut [u8], at: usize, kind: u32) -> usize
 fn put_missing(buf: &mut [u8], at: usize, text: &[u8], names: &[u32], name: u32) -> usize
     requires { ⌜ (at + 91 ≤ length (now buf)) × ShortNames (now text) (now names) ⌝ }
     ensures { λ r. ⌜ (r ≡ at + length (missing (nameOf (now (text .entry)) (now (names .entry)) name)))
-        × (now (buf .exit) ≡ sets (now (buf .entry)) at (missing (nameOf (now (text .entry)) (now (names .entry)) name))) × (r ≤ at + 91) ⌝ }
+        × (now (buf .exit) ≡ sets (now (buf .entry)) at
+        (missing (nameOf (now (text .entry)) (now (names .entry)) name)))
+        × (r ≤ at + 91) ⌝ }
 {
     let p1 = utils::put(buf, at, b"Branch target ");
     let p2 = words::put_quoted_name(buf, p1, text, names, name);
@@ -104,7 +105,9 @@ pub(crate) fn put_text(
 ) -> usize
     requires { ⌜ (at + 91 ≤ length (now buf)) × ShortNames (now text) (now names) ⌝ }
     ensures { λ r. ⌜ (r ≡ at + length (textOf (now (text .entry)) (now (names .entry)) number wanted found name))
-        × (now (buf .exit) ≡ sets (now (buf .entry)) at (textOf (now (text .entry)) (now (names .entry)) number wanted found name)) × (r ≤ at + 91) ⌝ }
+        × (now (buf .exit) ≡ sets (now (buf .entry)) at
+        (textOf (now (text .entry)) (now (names .entry)) number wanted found name))
+        × (r ≤ at + 91) ⌝ }
 {
     match number {
         5 => put_expected(buf, at, wanted),

@@ -1,14 +1,14 @@
-// Display of lexer.rs and ir.rs. A function that puts something stores it from a place on, and hands back the place after
-// it.
+// Display of lexer.rs and ir.rs. A function that puts something stores it from a place on, and hands back the place
+// after it.
 ghost use mathlib.Core.Path.{_≡_};
-ghost use mathlib.Core.List.{[], _++_};
-ghost use Prim.Native.Nat.{ℕ, _+_, _*_, _≤_, _<_};
+ghost use mathlib.Core.List.{[]};
+ghost use Prim.Native.Nat.{_+_, _≤_};
 ghost use lib.ListN.{length, getD};
 ghost use lib.Seq.{sets};
 ghost use mathlib.Core.Bool.{true};
 ghost use Rattle.lexer.specs.Decoded.{nameOf};
-ghost use Rattle.messages.specs.Messages.{words, wordOf, signed, shown, typeWord, quoted, rowsFrom, rowsFit};
-ghost use Rattle.messages.specs.Messages.{ShortNames};
+ghost use Rattle.messages.specs.Messages.{wordOf, signed, shown, typeWord, quoted, ShortNames};
+ghost use Rattle.messages.specs.Rows.{rowsFrom, rowsFit};
 use pieces::Identifier;
 
 // The words in the order of their kinds. A row is a length, and eleven bytes for the letters.
@@ -142,7 +142,8 @@ pub(crate) fn put_quoted_type(buf: &mut [u8], at: usize, cell: u32) -> usize
 fn put_name(buf: &mut [u8], at: usize, text: &[u8], names: &[u32], name: u32) -> usize
     requires { ⌜ (at + 64 ≤ length (now buf)) × ShortNames (now text) (now names) ⌝ }
     ensures { λ r. ⌜ (r ≡ at + length (nameOf (now (text .entry)) (now (names .entry)) name))
-        × (now (buf .exit) ≡ sets (now (buf .entry)) at (nameOf (now (text .entry)) (now (names .entry)) name)) × (r ≤ at + 64) ⌝ }
+        × (now (buf .exit) ≡ sets (now (buf .entry)) at (nameOf (now (text .entry)) (now (names .entry)) name))
+        × (r ≤ at + 64) ⌝ }
 {
     let part = lexer::get_name(text, names, Identifier(name));
     utils::put(buf, at, part)
@@ -157,7 +158,8 @@ pub(crate) fn put_quoted_name(
 ) -> usize
     requires { ⌜ (at + 66 ≤ length (now buf)) × ShortNames (now text) (now names) ⌝ }
     ensures { λ r. ⌜ (r ≡ at + length (quoted (nameOf (now (text .entry)) (now (names .entry)) name)))
-        × (now (buf .exit) ≡ sets (now (buf .entry)) at (quoted (nameOf (now (text .entry)) (now (names .entry)) name))) × (r ≤ at + 66) ⌝ }
+        × (now (buf .exit) ≡ sets (now (buf .entry)) at (quoted (nameOf (now (text .entry)) (now (names .entry)) name)))
+        × (r ≤ at + 66) ⌝ }
 {
     let p1 = utils::put(buf, at, b"'");
     let p2 = put_name(buf, p1, text, names, name);
