@@ -1,6 +1,6 @@
--- Document 01's cases marked * for check: one table with one claim, shown by computation. (Their blocks and edges are in
--- crates/functions/specs/Cases.antt.) A row is a text and what it gives: a refusal's number, line, place and message; or
--- 0, how many tokens and functions it has, and of each item its kind and the types in its cells.
+-- Document 01's cases marked * for check: one table with one claim, shown by computation. (Their blocks and edges are
+-- in crates/functions/specs/Cases.antt.) A row is a text and what it gives: a refusal's number, line, place and
+-- message; or 0, how many tokens and functions it has, and of each item its kind and the types in its cells.
 use Prim.Native.Nat.{ℕ, _+_}
 use Prim.Native.String.{String}
 use mathlib.Core.Path.{_≡_, refl}
@@ -15,8 +15,8 @@ use Rattle.messages.specs.Cases as messages
 use Rattle.sema.specs.Cases as typing
 use Rattle.elaborate.specs.Types.{isCall, typedRecord}
 use Rattle.checker.specs.Typed.{tablesOf}
-use Rattle.checker.specs.Check.{Checking, calleeIn, typedItemsCells, typedVariables, typedArgumentsCells, rowsCells}
-use Rattle.checker.specs.Check.{allItems, allArguments, allBlocks, allPredecessors, checkOf}
+use Rattle.checker.specs.Check.{Checking, calleeIn, typedItemsCells, typedVariables, typedArgumentsCells}
+use Rattle.checker.specs.Check.{rowsCells, allItems, allArguments, allBlocks, allPredecessors, checkOf}
 
 -- To unfold this is to unfold the whole definition.
 unfoldable pub opened : ℕ

@@ -61,7 +61,8 @@ refusing number line place message =
 -- "The line and place are those of the token the Rust reports with."
 abbrev pub refusedAt : List ℕ → Reading → List Tok → Refusal → Checking
 refusedAt text r ts e =
-    refusing (e .number) (tokenAt ts (e .token) .line .0) (tokenAt ts (e .token) .place) (messageOf text ts (r .names) e)
+    let t = tokenAt ts (e .token) in
+    refusing (e .number) (t .line .0) (t .place) (messageOf text ts (r .names) e)
 
 -- The cells of an accepted text. ------------------------------------------------------------------------------------
 

@@ -24,7 +24,8 @@ use Rattle.parser.specs.declared.Consumed.the-variants as C
 use Rattle.link.specs.Cells.{bit}
 use Rattle.functions.specs.Known.{formalTypes, typeNumber, typesAfter, expectedType}
 use Rattle.functions.specs.Functions.{thenHeader, thenFormals, thenEntered, optionalFormals, optionalType}
-use Rattle.functions.specs.Functions.{enteredD, signatureD, headerD, thenBuilt, builtD, thenFunction, functionD, functionsD}
+use Rattle.functions.specs.Functions.{enteredD, signatureD, headerD, thenBuilt, builtD}
+use Rattle.functions.specs.Functions.{thenFunction, functionD, functionsD}
 use Rattle.functions.specs.Functions.{Function, Program, blocksIn, programD}
 use Rattle.functions.specs.Answer.{edgesIn}
 

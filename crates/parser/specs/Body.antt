@@ -80,7 +80,7 @@ argumentsIn (plain o) = []
 argumentsIn (call w g xs) = xs
 argumentsIn (callInto w v g xs) = xs
 
--- One operation from its first token, a call with its arguments. --------------------------------------------------------
+-- One operation from its first token, a call with its arguments. ----------------------------------------------------
 
 pub data ItemAt : Type 0 where
   item : Item → ℕ → ItemAt

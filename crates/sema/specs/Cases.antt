@@ -32,7 +32,8 @@ use Rattle.sema.specs.declared.Checked.the-variants as K
 -- To unfold this is to unfold the whole definition.
 unfoldable pub opened : ℕ
 unfolding
-    walking.opened parsing.opened formalD formalsFromD formalsD formalTypes typeNumber typesAfter expectedType thenHeader
+    walking.opened parsing.opened formalD formalsFromD formalsD formalTypes typeNumber typesAfter
+    expectedType thenHeader
     thenFormals optionalFormals optionalType enteredD thenEntered signatureD headerD thenBuilt builtD thenFunction
     functionD functionsD thenEnd thenTyped enterD thenLook thenSame thenThree operandsD binaryD operandD unaryD constD
     retValueD retD presentD typesOf sameAll argumentsD thenGlobal callD callIntoD plainD analyzeD itemsD endD blockD
