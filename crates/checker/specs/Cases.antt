@@ -13,10 +13,10 @@ use Rattle.link.specs.Cells.{blockCells, predecessorCells}
 use Rattle.functions.specs.Answer.{countsFrom}
 use Rattle.messages.specs.Cases as messages
 use Rattle.sema.specs.Cases as typing
-use Rattle.elaborate.specs.Types.{isCall, typedRecord}
+use Rattle.functions.specs.Laid.{rowsCells, allBlocks, allPredecessors}
+use Rattle.elaborate.specs.Types.{calleeIn, isCall, typedRecord, typedItemsCells, typedVariables, typedArgumentsCells}
 use Rattle.checker.specs.Typed.{tablesOf}
-use Rattle.checker.specs.Check.{Checking, calleeIn, typedItemsCells, typedVariables, typedArgumentsCells}
-use Rattle.checker.specs.Check.{rowsCells, allItems, allArguments, allBlocks, allPredecessors, checkOf}
+use Rattle.checker.specs.Check.{Checking, allItems, allArguments, checkOf}
 
 -- To unfold this is to unfold the whole definition.
 unfoldable pub opened : ℕ

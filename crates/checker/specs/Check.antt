@@ -1,25 +1,21 @@
 -- What a text checks as: number, line, place, message, counts, and what every slice holds, unpadded, of the text alone.
 -- "All lexing is before all parsing, all parsing (with labels and edges of each function) before all typing."
-use Prim.Native.Nat.{ℕ, _+_}
+use Prim.Native.Nat.{ℕ}
 use mathlib.Core.List.{List, [], _∷_, _++_}
 use lib.Dec.{eqb}
 use lib.ListN.{length}
-use Rattle.utils.specs.Bytes.{pick, padTo}
+use Rattle.utils.specs.Bytes.{pick}
 use Rattle.lexer.specs.Read.{Reading, readOf}
 use Rattle.lexer.specs.Decoded.{Tok, tokensOf, tokenAt}
-use Rattle.parser.specs.Body.{Item, argumentsIn}
 use Rattle.parser.specs.declared.Refusal.{Refusal}
-use Rattle.parser.specs.declared.Variable.{Variable}
 use Rattle.parser.specs.declared.Consumed.{Consumed}
 use Rattle.parser.specs.declared.Consumed.the-variants as C
-use Rattle.body.specs.Records.{recordOf, recordCells}
-use Rattle.link.specs.Cells.{blockCells}
-use Rattle.functions.specs.Functions.{Function, Program, blocksIn, programD}
-use Rattle.functions.specs.Rows.{rowCells}
-use Rattle.functions.specs.Answer.{edgesIn, predecessorsIn, counts, countsWith, countsFrom}
+use Rattle.functions.specs.Functions.{Function, Program, programD}
+use Rattle.functions.specs.Laid.{rowsCells, allBlocks, allPredecessors}
+use Rattle.functions.specs.Answer.{counts, countsWith, countsFrom}
 use Rattle.functions.specs.declared.Counts.{Counts}
 use Rattle.messages.specs.Messages.{messageOf}
-use Rattle.elaborate.specs.Types.{typeOf, typedRecord}
+use Rattle.elaborate.specs.Types.{calleeIn, typedItemsCells, typedArgumentsCells}
 use Rattle.sema.specs.declared.Checked.{Checked}
 use Rattle.sema.specs.declared.Checked.the-variants as K
 use Rattle.sema.specs.Program.{programD as typedD}
@@ -66,34 +62,7 @@ refusedAt text r ts e =
 
 -- The cells of an accepted text. ------------------------------------------------------------------------------------
 
--- a callee's type: a function type's cell is its number and 4
-unfoldable pub calleeIn : List Function → ℕ → ℕ
-calleeIn [] name = 0
-calleeIn (f ∷ fs) name =
-    let more = calleeIn fs name in
-    pick (eqb (f .head .name .0) name) (f .head .type + 4) more
-
--- items with the types of their operands, and arguments with theirs
-unfoldable pub typedItemsCells : List ℕ → (ℕ → ℕ) → ℕ → List Item → List ℕ
-typedItemsCells table callees used [] = []
-typedItemsCells table callees used (i ∷ is) =
-    recordCells (typedRecord table callees (recordOf used i))
-    ++ typedItemsCells table callees (used + length (argumentsIn i)) is
-
-unfoldable pub typedVariables : List ℕ → List Variable → List ℕ
-typedVariables table [] = []
-typedVariables table (v ∷ vs) = v .id .0 ∷ typeOf table (v .id .0) ∷ typedVariables table vs
-
-unfoldable pub typedArgumentsCells : List ℕ → List Item → List ℕ
-typedArgumentsCells table [] = []
-typedArgumentsCells table (i ∷ is) = typedVariables table (argumentsIn i) ++ typedArgumentsCells table is
-
 -- function by function, each behind those that are counted
-unfoldable pub rowsCells : List Tok → List ℕ → Counts → List Function → List ℕ
-rowsCells ts names n [] = []
-rowsCells ts names n (f ∷ fs) =
-    padTo 45 (rowCells ts names f (n .items) (n .blocks)) ++ rowsCells ts names (countsWith n f) fs
-
 unfoldable pub allItems : (ℕ → ℕ) → Counts → List Function → List (List ℕ) → List ℕ
 allItems callees n [] tables = []
 allItems callees n (f ∷ fs) [] = []
@@ -104,16 +73,6 @@ unfoldable pub allArguments : List Function → List (List ℕ) → List ℕ
 allArguments [] tables = []
 allArguments (f ∷ fs) [] = []
 allArguments (f ∷ fs) (t ∷ ts) = typedArgumentsCells t (f .items) ++ allArguments fs ts
-
-unfoldable pub allBlocks : Counts → List Function → List ℕ
-allBlocks n [] = []
-allBlocks n (f ∷ fs) =
-    let is = f .items in
-    blockCells (n .items) (n .predecessors) 0 (edgesIn is) (edgesIn is) (blocksIn is) ++ allBlocks (countsWith n f) fs
-
-unfoldable pub allPredecessors : List Function → List ℕ
-allPredecessors [] = []
-allPredecessors (f ∷ fs) = predecessorsIn (f .items) ++ allPredecessors fs
 
 abbrev pub accepting : Reading → List Tok → List Function → List (List ℕ) → Checking
 accepting r ts fs tables =
@@ -135,11 +94,11 @@ accepting r ts fs tables =
 -- The phases. -------------------------------------------------------------------------------------------------------
 
 abbrev pub typedOr : List ℕ → Reading → List Tok → List Function → Checked → Checking
-typedOr text r ts fs K.Fine = accepting r ts fs (tablesOf ts fs (r .answer .names) fs)
+typedOr text r ts fs K.Fine = accepting r ts fs (tablesOf ts fs fs)
 typedOr text r ts fs (K.Refused e) = refusedAt text r ts e
 
 abbrev pub parsedOr : List ℕ → Reading → List Tok → List Function → Consumed → Checking
-parsedOr text r ts fs (C.At next) = typedOr text r ts fs (typedD ts fs fs (untyped (r .answer .names)) .end)
+parsedOr text r ts fs (C.At next) = typedOr text r ts fs (typedD ts fs fs untyped .end)
 parsedOr text r ts fs (C.Refused e) = refusedAt text r ts e
 
 -- THE DEFINITION

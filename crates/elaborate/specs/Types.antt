@@ -1,14 +1,17 @@
 -- Once a function is typed, the operands of its operations get their types: those that their names have in the table of
 -- names, and a callee its function type. The operand kept in `ret`, `print`, `br` stays of placeholder type.
 use Prim.Native.Nat.{ℕ, zero, suc, _+_, _*_}
-use mathlib.Core.List.{List, [], _∷_}
+use mathlib.Core.List.{List, [], _∷_, _++_}
 use mathlib.Core.Bool.{Bool, true, false}
 use lib.Dec.{eqb}
-use lib.ListN.{getD, set}
+use lib.ListN.{length, getD, set}
 use lib.Seq.{sets}
 use Rattle.utils.specs.Bytes.{pick}
-use Rattle.body.specs.Records.{itemRecord, recordAt, recordCells}
+use Rattle.parser.specs.Body.{Item, argumentsIn}
+use Rattle.parser.specs.declared.Variable.{Variable}
+use Rattle.body.specs.Records.{itemRecord, recordOf, recordAt, recordCells}
 use Rattle.body.specs.declared.ItemRecord.{ItemRecord}
+use Rattle.functions.specs.Functions.{Function}
 use Rattle.functions.specs.Rows.{nameAt, typeAt}
 
 -- a name's type
@@ -16,14 +19,11 @@ abbrev pub typeOf : List ℕ → ℕ → ℕ
 typeOf table name = getD table name 0
 
 -- a callee's type: a function type's cell is its number and 4
-unfoldable pub calleeFrom : List ℕ → ℕ → ℕ → ℕ → ℕ
-calleeFrom rows i zero name = 0
-calleeFrom rows i (suc n) name =
-    let more = calleeFrom rows (i + 1) n name in
-    pick (eqb (getD rows (nameAt i) 0) name) (getD rows (typeAt i) 0 + 4) more
-
-abbrev pub calleeOf : List ℕ → ℕ → ℕ → ℕ
-calleeOf rows n name = calleeFrom rows 0 n name
+unfoldable pub calleeIn : List Function → ℕ → ℕ
+calleeIn [] name = 0
+calleeIn (f ∷ fs) name =
+    let more = calleeIn fs name in
+    pick (eqb (f .head .name .0) name) (f .head .type + 4) more
 
 -- `callees` gives a callee's type. 2 binary, 3 unary, 5 and 6 calls (crates/body/specs/Records.antt)
 unfoldable pub isCall : ℕ → Bool
@@ -39,6 +39,33 @@ typedRecord table callees r =
     (pick (eqb k 3) (itemRecord k (r .token) (r .dest) (r .dty) (r .left) left (r .right) (r .rty))
     (pick (isCall k) (itemRecord k (r .token) (r .dest) (r .dty) (r .left) callee (r .right) (r .rty))
     r))
+
+-- items with the types of their operands, and arguments with theirs
+unfoldable pub typedItemsCells : List ℕ → (ℕ → ℕ) → ℕ → List Item → List ℕ
+typedItemsCells table callees used [] = []
+typedItemsCells table callees used (i ∷ is) =
+    recordCells (typedRecord table callees (recordOf used i))
+    ++ typedItemsCells table callees (used + length (argumentsIn i)) is
+
+unfoldable pub typedVariables : List ℕ → List Variable → List ℕ
+typedVariables table [] = []
+typedVariables table (v ∷ vs) = v .id .0 ∷ typeOf table (v .id .0) ∷ typedVariables table vs
+
+unfoldable pub typedArgumentsCells : List ℕ → List Item → List ℕ
+typedArgumentsCells table [] = []
+typedArgumentsCells table (i ∷ is) = typedVariables table (argumentsIn i) ++ typedArgumentsCells table is
+
+-- The same on cells. ----------------------------------------------------------------------------------------------
+
+-- a callee's type, by the rows of the header table
+unfoldable pub calleeFrom : List ℕ → ℕ → ℕ → ℕ → ℕ
+calleeFrom rows i zero name = 0
+calleeFrom rows i (suc n) name =
+    let more = calleeFrom rows (i + 1) n name in
+    pick (eqb (getD rows (nameAt i) 0) name) (getD rows (typeAt i) 0 + 4) more
+
+abbrev pub calleeOf : List ℕ → ℕ → ℕ → ℕ
+calleeOf rows n name = calleeFrom rows 0 n name
 
 -- the arguments of a call: so many from the argument `at` on
 unfoldable pub typedRun : List ℕ → List ℕ → ℕ → ℕ → List ℕ

@@ -9,6 +9,8 @@ pub mod Rows
 pub mod Heads
 -- the whole answer
 pub mod Answer
+-- what the slices hold of all functions, and their limits
+pub mod Laid
 -- two readings of one function: what is related to what
 pub mod Moved
 -- texts with what they give: one table, one claim
