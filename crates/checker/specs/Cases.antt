@@ -1,7 +1,7 @@
 -- Document 01's cases marked * for check: one table with one claim, shown by computation. (Their blocks and edges are
 -- in crates/functions/specs/Cases.antt.) A row is a text and what it gives: a refusal's number, line, place and
 -- message; or 0, how many tokens and functions it has, and of each item its kind and the types in its cells.
-use Prim.Native.Nat.{ℕ, _+_}
+use Prim.Native.Nat.{ℕ}
 use Prim.Native.String.{String}
 use mathlib.Core.Path.{_≡_, refl}
 use mathlib.Core.List.{List, [], _∷_, _++_}
@@ -15,14 +15,14 @@ use Rattle.messages.specs.Cases as messages
 use Rattle.sema.specs.Cases as typing
 use Rattle.functions.specs.Laid.{rowsCells, allBlocks, allPredecessors}
 use Rattle.elaborate.specs.Types.{calleeIn, isCall, typedRecord, typedItemsCells, typedVariables, typedArgumentsCells}
-use Rattle.checker.specs.Typed.{tablesOf}
-use Rattle.checker.specs.Check.{Checking, allItems, allArguments, checkOf}
+use Rattle.typing.specs.Outcome.{unitD, tablesOf, allItems, allArguments}
+use Rattle.checker.specs.Check.{Checking, checkOf}
 
 -- To unfold this is to unfold the whole definition.
 unfoldable pub opened : ℕ
 unfolding
     typing.opened messages.opened operationRecord recordOf blockCells predecessorCells countsFrom isCall typedRecord
-    tablesOf calleeIn typedItemsCells typedVariables typedArgumentsCells rowsCells allItems allArguments allBlocks
+    unitD tablesOf calleeIn typedItemsCells typedVariables typedArgumentsCells rowsCells allItems allArguments allBlocks
     allPredecessors checkOf
 opened = 0
 
@@ -38,19 +38,14 @@ kinds (k ∷ w ∷ []) = []
 kinds (k ∷ []) = []
 kinds [] = []
 
-abbrev fourths : List ℕ → ℕ
-fourths (a ∷ b ∷ c ∷ d ∷ s) = fourths s + 1
-fourths (a ∷ b ∷ c ∷ []) = 0
-fourths (a ∷ b ∷ []) = 0
-fourths (a ∷ []) = 0
-fourths [] = 0
-
 -- of an accepted text
 abbrev accepted : Checking → List ℕ
-accepted c = 0 ∷ fourths (c .tokens) ∷ c .counted .functions ∷ kinds (c .items)
+accepted c = 0 ∷ c .answer .tokens ∷ c .answer .functions ∷ kinds (c .unit .items)
 
 abbrev numbers : Checking → List ℕ
-numbers c = pick (eqb (c .number) 0) (accepted c) (c .number ∷ c .line ∷ c .place ∷ [])
+numbers c =
+    let a = c .answer in
+    pick (eqb (a .number) 0) (accepted c) (a .number ∷ a .line ∷ a .place ∷ [])
 
 pub record Case : Type 0 where
   pub text : String

@@ -1,7 +1,7 @@
 -- What a text checks as, in reading order.
--- the functions of a text typed, one after the other
-pub mod Typed
--- the whole answer
+-- the whole answer, of the text alone
 pub mod Check
+-- the gate and the slices' lengths
+pub mod Promise
 -- document 01's cases: one table, one claim
 pub mod Cases

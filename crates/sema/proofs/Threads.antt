@@ -21,7 +21,6 @@ use Rattle.sema.specs.Typing.{Global, analyzeD}
 use Rattle.sema.specs.Items.{named, itemAt}
 use Rattle.sema.specs.Items.{typed as variable}
 use Rattle.sema.specs.Blocks.{itemsAt, itemsD, endD, blockD, formalsFrom, formalsD, blockItems, blocksAt, blocksD}
-use Rattle.sema.specs.Blocks.{rowD, rowsD}
 use Rattle.sema.specs.declared.Checked.{Checked}
 use Rattle.sema.specs.declared.Checked.the-variants as K
 use Rattle.sema.proofs.Steps.{typed-refused, typed-fine}
@@ -142,28 +141,3 @@ pub all-remaining : (blocks : List ℕ) (first count : ℕ) (out order : List �
 all-remaining blocks first count out order w e f l =
     let m = blocks-most count in
     rw (e, f) (new-remaining (recorded blocks first) (blocksIn count) out (omega arith))
-
--- the functions
-module _ (ts : List Tok) (rows : List ℕ) (n : ℕ) (items args blocks t₀ t : List ℕ) (i : ℕ)
-    (same : rowsD ts rows n items args blocks i (n - i) t ≡ rowsD ts rows n items args blocks 0 n t₀) where
-  module _ (h : i < n) {t₁ : List ℕ} {r : Checked} (op : typed t₁ r ≡ rowD ts rows n items args blocks i t) where
-    unfoldable more-rows : List ℕ → Typed
-    more-rows t = rowsD ts rows n items args blocks (i + 1) (n - (i + 1)) t
-
-    rows-step : thenTyped (rowD ts rows n items args blocks i t) more-rows ≡ rowsD ts rows n items args blocks 0 n t₀
-    unfolding rowsD more-rows
-    rows-step =
-        let m : n - i ≡ suc (n - (i + 1)) = omega arith in
-        sym (ap (λ (k : ℕ). rowsD ts rows n items args blocks i k t) m) ∙ same
-
-    pub rows-refused : {e : Refusal} → r ≡ K.Refused e → typed t₁ (K.Refused e) ≡ rowsD ts rows n items args blocks 0 n t₀
-    rows-refused g = typed-refused t₁ (rowD ts rows n items args blocks i t) more-rows op g ∙ rows-step
-
-    pub rows-fine : r ≡ K.Fine
-        → rowsD ts rows n items args blocks (i + 1) (n - (i + 1)) t₁ ≡ rowsD ts rows n items args blocks 0 n t₀
-    unfolding more-rows
-    rows-fine g = typed-fine t₁ (rowD ts rows n items args blocks i t) more-rows op g ∙ rows-step
-
-  pub rows-ended : n ≤ i → on t ≡ rowsD ts rows n items args blocks 0 n t₀
-  unfolding rowsD
-  rows-ended h = let m : n - i ≡ 0 = omega arith in rw (← same, m)

@@ -91,9 +91,3 @@ abbrev pub rowD : List Tok → List ℕ → ℕ → List ℕ → List ℕ → Li
 rowD ts rows n items args blocks i t =
     typeFunctionD ts (globalsIn rows n) (getD rows (retAt i) 0) (getD rows (rowAt i) 0) (formalsIn rows i)
     (inOrder items args blocks (getD rows (firstBlockAt i) 0) (getD rows (blockCountAt i) 0)) (padTo (length t) [])
-
--- "Functions are taken in text order": the m functions from row i on, up to the first refusal.
-unfoldable pub rowsD : List Tok → List ℕ → ℕ → List ℕ → List ℕ → List ℕ → ℕ → ℕ → List ℕ → Typed
-rowsD ts rows n items args blocks i zero t = on t
-rowsD ts rows n items args blocks i (suc m) t =
-    thenTyped (rowD ts rows n items args blocks i t) (λ t1. rowsD ts rows n items args blocks (i + 1) m t1)

@@ -1,0 +1,50 @@
+-- The whole answer of `check`: `checkOf`, the gate, and the zeros that follow each slice's contents.
+use Prim.Native.Nat.{ℕ, _≤_}
+use mathlib.Core.Path.{_≡_}
+use mathlib.Core.List.{List}
+use mathlib.Core.Bool.{Bool, true, false}
+use lib.Dec.{ltb}
+use lib.ListN.{length}
+use Rattle.utils.specs.Bytes.{pick, padTo}
+use Rattle.functions.specs.Answer.{Slices}
+use Rattle.typing.specs.Outcome.{asLong}
+use Rattle.checker.specs.Check.{Checking, refusal, checkOf}
+use Rattle.checker.specs.declared.CheckAnswer.{CheckAnswer}
+
+abbrev pub checking : CheckAnswer → List ℕ → List ℕ → List ℕ → Slices → Checking
+checking r m t n u = record { answer = r; message = m; tokens = t; names = n; unit = u }
+
+-- slices as long as those at entry, m, t, n and u: zeros follow
+abbrev pub padded : List ℕ → List ℕ → List ℕ → Slices → Checking → Checking
+padded m t n u o =
+    checking (o .answer) (padTo (length m) (o .message)) (padTo (length t) (o .tokens)) (padTo (length n) (o .names))
+    (asLong u (o .unit))
+
+-- the cells of each slice (docs/INTERFACE.md), and 512 message bytes
+unfoldable pub sizedUnit : ℕ → ℕ → ℕ → ℕ → ℕ → Bool
+sizedUnit f i a b p =
+    pick (ltb f 2881) false (pick (ltb i 24576) false (pick (ltb a 6928) false (pick (ltb b 8192) false
+    (pick (ltb p 2048) false true))))
+
+unfoldable pub sized : ℕ → ℕ → ℕ → Bool → Bool
+sized m t n unit = pick (ltb t 16384) false (pick (ltb n 2048) false (pick (ltb m 512) false unit))
+
+abbrev pub allSized : List ℕ → List ℕ → List ℕ → Slices → Bool
+allSized m t n u =
+    sized (length m) (length t) (length n)
+    (sizedUnit (length (u .functions)) (length (u .items)) (length (u .arguments)) (length (u .blocks))
+    (length (u .predecessors)))
+
+-- The answer and the slices at exit; m, t, n and u are those at entry. 30 is given exactly when a lent slice is shorter
+-- than its size, and then nothing is written.
+unfoldable pub checkDef : List ℕ → List ℕ → List ℕ → List ℕ → Slices → Checking
+checkDef text m t n u =
+    pick (allSized m t n u) (padded m t n u (checkOf text)) (checking (refusal 30 0 0) m t n u)
+
+-- THE PROMISE of `check`, by parts with names.
+pub record Checks (text m₀ t₀ n₀ : List ℕ) (u₀ : Slices) (r : CheckAnswer) (m t n : List ℕ) (u : Slices) : Type 0 where
+  pub answer : r ≡ checkDef text m₀ t₀ n₀ u₀ .answer
+  pub message : m ≡ checkDef text m₀ t₀ n₀ u₀ .message
+  pub tokens : t ≡ checkDef text m₀ t₀ n₀ u₀ .tokens
+  pub names : n ≡ checkDef text m₀ t₀ n₀ u₀ .names
+  pub unit : u ≡ checkDef text m₀ t₀ n₀ u₀ .unit

@@ -1,0 +1,59 @@
+-- Typing on the cells of the header table's rows: what the loop over them does.
+use Prim.Native.Nat.{ℕ, zero, suc, _+_, _*_, _≤_, _<_}
+use mathlib.Core.Path.{_≡_}
+use mathlib.Core.List.{List}
+use lib.ListN.{getD}
+use Rattle.lexer.specs.Decoded.{Tok}
+use Rattle.functions.specs.Rows.{typeAt}
+use Rattle.sema.specs.Symbols.{Typed}
+use Rattle.sema.specs.Blocks.{rowD}
+use Rattle.sema.specs.declared.Checked.{Checked}
+use Rattle.sema.specs.declared.Checked.the-variants as K
+use Rattle.elaborate.specs.Types.{calleeOf, typedItems, typedCalls}
+
+-- a row's cells for the first item and how many there are (crates/functions/specs/Rows.antt)
+abbrev pub firstItemAt : ℕ → ℕ
+firstItemAt i = 9 + i * 45
+
+abbrev pub itemCountAt : ℕ → ℕ
+itemCountAt i = 10 + i * 45
+
+-- how typing ends, and the cells of items and arguments then
+pub record Done : Type 0 where
+  pub end : Checked
+  pub items : List ℕ
+  pub arguments : List ℕ
+
+abbrev pub done : Checked → List ℕ → List ℕ → Done
+done e items args = record { end = e; items = items; arguments = args }
+
+unfoldable pub thenRow : Typed → List ℕ → List ℕ → (List ℕ → Done) → Done
+thenRow this items args k = by (this .end)
+  where
+    by : Checked → Done
+    by K.Fine = k (this .table)
+    by (K.Refused e) = done (K.Refused e) items args
+
+-- The m functions from row i on, of n: each is typed, and then its operands' types are written.
+unfoldable pub typedRows : List Tok → List ℕ → ℕ → List ℕ → ℕ → ℕ → List ℕ → List ℕ → List ℕ → Done
+typedRows ts rows n blocks i zero t items args = done K.Fine items args
+typedRows ts rows n blocks i (suc m) t items args =
+    let first = getD rows (firstItemAt i) 0 in
+    let count = getD rows (itemCountAt i) 0 in
+    thenRow (rowD ts rows n items args blocks i t) items args (λ t1.
+    typedRows ts rows n blocks (i + 1) m t1 (typedItems t1 (calleeOf rows n) items first count)
+    (typedCalls t1 items args first count))
+
+-- What the rows say lies in the slice of items.
+pub record RowsFit (rows : List ℕ) (n cells : ℕ) : Type 0 where
+  pub types-few : (i : ℕ) → i < n → getD rows (typeAt i) 0 ≤ 64
+  pub items-fit : (i : ℕ) → i < n → (getD rows (firstItemAt i) 0 + getD rows (itemCountAt i) 0) * 8 ≤ cells
+
+-- The answer, and where all functions are typed, the cells. A refusal says nothing of them.
+abbrev pub HeldBy : Checked → List ℕ → List ℕ → Done → Type 0
+HeldBy K.Fine items args d = (items ≡ d .items) × (args ≡ d .arguments)
+HeldBy (K.Refused e) items args d = Unit
+
+pub record RowsHeld (r : Checked) (items args : List ℕ) (d : Done) : Type 0 where
+  pub answer : r ≡ d .end
+  pub held : HeldBy r items args d

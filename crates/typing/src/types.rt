@@ -1,0 +1,59 @@
+// Typing, function by function: the types of a function's operands are written while the table still has its names.
+ghost use mathlib.Core.Path.{_≡_};
+ghost use mathlib.Core.List.{[]};
+ghost use Prim.Native.Nat.{ℕ, _+_, _*_, _≤_, _<_};
+ghost use lib.ListN.{length, getD};
+ghost use Rattle.utils.specs.Bytes.{padTo};
+ghost use Rattle.lexer.specs.Decoded.{tokensOf};
+ghost use Rattle.typing.specs.Rows.{RowsFit, typedRows, RowsHeld};
+use sema::Checked;
+
+// All functions, in text order.
+fn type_with(
+    tokens: &[u32],
+    rows: &[u32],
+    n: usize,
+    table: &mut [u32],
+    items: &mut [u32],
+    arguments: &mut [u32],
+    blocks: &[u32],
+) -> Checked
+    requires { ⌜ (n ≤ 64) × (2881 ≤ length (now rows)) × RowsFit (now rows) n (length (now items)) ⌝ }
+    ensures { λ r. ⌜ RowsHeld r (now (items .exit)) (now (arguments .exit))
+        (typedRows (tokensOf (now (tokens .entry))) (now (rows .entry)) n (now (blocks .entry)) 0 n
+        (now (table .entry)) (now (items .entry)) (now (arguments .entry))) ⌝ }
+{
+    let mut row: usize = 0;
+    while row < n {
+        match sema::function::analyze(tokens, rows, n, row, table, items, arguments, blocks) {
+            Checked::Refused(e) => {
+                return Checked::Refused(e);
+            }
+            Checked::Fine => {
+                let first = rows[9 + row * 45] as usize;
+                let count = rows[10 + row * 45] as usize;
+                elaborate::elaborate(table, rows, n, items, first, count, arguments);
+                row += 1;
+            }
+        }
+    }
+    Checked::Fine
+}
+
+// With a table for 1,024 names.
+pub fn type_all(
+    tokens: &[u32],
+    rows: &[u32],
+    n: usize,
+    items: &mut [u32],
+    arguments: &mut [u32],
+    blocks: &[u32],
+) -> Checked
+    requires { ⌜ (n ≤ 64) × (2881 ≤ length (now rows)) × RowsFit (now rows) n (length (now items)) ⌝ }
+    ensures { λ r. ⌜ RowsHeld r (now (items .exit)) (now (arguments .exit))
+        (typedRows (tokensOf (now (tokens .entry))) (now (rows .entry)) n (now (blocks .entry)) 0 n
+        (padTo 1024 []) (now (items .entry)) (now (arguments .entry))) ⌝ }
+{
+    let mut table = [0u32; 1024];
+    type_with(tokens, rows, n, &mut table, items, arguments, blocks)
+}
