@@ -3,7 +3,7 @@ use Prim.Native.Nat.{ℕ}
 use mathlib.Core.List.{List, [], _∷_}
 use lib.Dec.{eqb}
 use lib.ListN.{length, getD, take, drop}
-use Rattle.utils.specs.Bytes.{pick, padTo}
+use Rattle.utils.specs.Bytes.{pick}
 use Rattle.graph.specs.Walk.{blockOrder}
 use Rattle.lexer.specs.Decoded.{Tok}
 use Rattle.parser.specs.Runs.{typeCell}
@@ -37,11 +37,11 @@ orderedBlocks is =
     let bs = blocksIn is in
     numbered is bs (blockOrder (λ v. getD (successors bs bs) v []) (length bs))
 
--- "Functions are taken in text order": these, of all.
+-- "Functions are taken in text order": these, of all. "One table of names per function": each begins with `blank`.
 unfoldable pub programD : List Tok → List Function → List Function → List ℕ → Typed
-programD ts all [] t = on t
-programD ts all (f ∷ fs) t =
+programD ts all [] blank = on blank
+programD ts all (f ∷ fs) blank =
     thenTyped
     (typeFunctionD ts (globalsOf all) (typeCell (f .head .ret)) (f .token) (f .head .formals) (orderedBlocks (f .items))
-    (padTo (length t) []))
-    (λ t1. programD ts all fs t1)
+    blank)
+    (λ t. programD ts all fs blank)

@@ -34,14 +34,14 @@ thenRow this items args k = by (this .end)
     by K.Fine = k (this .table)
     by (K.Refused e) = done (K.Refused e) items args
 
--- The m functions from row i on, of n: each is typed, and then its operands' types are written.
-unfoldable pub typedRows : List Tok → List ℕ → ℕ → List ℕ → ℕ → ℕ → List ℕ → List ℕ → List ℕ → Done
-typedRows ts rows n blocks i zero t items args = done K.Fine items args
-typedRows ts rows n blocks i (suc m) t items args =
+-- The m functions from row i on, of n: each is typed in a table as long as t, and then its operands' types are written.
+unfoldable pub typedRows : List Tok → List ℕ → ℕ → List ℕ → List ℕ → ℕ → ℕ → List ℕ → List ℕ → Done
+typedRows ts rows n blocks t i zero items args = done K.Fine items args
+typedRows ts rows n blocks t i (suc m) items args =
     let first = getD rows (firstItemAt i) 0 in
     let count = getD rows (itemCountAt i) 0 in
     thenRow (rowD ts rows n items args blocks i t) items args (λ t1.
-    typedRows ts rows n blocks (i + 1) m t1 (typedItems t1 (calleeOf rows n) items first count)
+    typedRows ts rows n blocks t (i + 1) m (typedItems t1 (calleeOf rows n) items first count)
     (typedCalls t1 items args first count))
 
 -- What the rows say lies in the slice of items.

@@ -20,8 +20,8 @@ fn type_with(
 ) -> Checked
     requires { ⌜ (n ≤ 64) × (2881 ≤ length (now rows)) × RowsFit (now rows) n (length (now items)) ⌝ }
     ensures { λ r. ⌜ RowsHeld r (now (items .exit)) (now (arguments .exit))
-        (typedRows (tokensOf (now (tokens .entry))) (now (rows .entry)) n (now (blocks .entry)) 0 n
-        (now (table .entry)) (now (items .entry)) (now (arguments .entry))) ⌝ }
+        (typedRows (tokensOf (now (tokens .entry))) (now (rows .entry)) n (now (blocks .entry))
+        (now (table .entry)) 0 n (now (items .entry)) (now (arguments .entry))) ⌝ }
 {
     let mut row: usize = 0;
     while row < n {
@@ -51,8 +51,8 @@ pub fn type_all(
 ) -> Checked
     requires { ⌜ (n ≤ 64) × (2881 ≤ length (now rows)) × RowsFit (now rows) n (length (now items)) ⌝ }
     ensures { λ r. ⌜ RowsHeld r (now (items .exit)) (now (arguments .exit))
-        (typedRows (tokensOf (now (tokens .entry))) (now (rows .entry)) n (now (blocks .entry)) 0 n
-        (padTo 1024 []) (now (items .entry)) (now (arguments .entry))) ⌝ }
+        (typedRows (tokensOf (now (tokens .entry))) (now (rows .entry)) n (now (blocks .entry))
+        (padTo 1024 []) 0 n (now (items .entry)) (now (arguments .entry))) ⌝ }
 {
     let mut table = [0u32; 1024];
     type_with(tokens, rows, n, &mut table, items, arguments, blocks)
