@@ -1,6 +1,7 @@
 pub mod Turns
 pub mod Stores
 pub mod Heads
+pub mod Types
 pub mod Program
 pub mod Seen
 pub mod HeaderOn

@@ -24,8 +24,10 @@ use Rattle.functions.specs.Rows.{knownFrom}
 use Rattle.functions.specs.Answer.{counts, countsWith, countsFrom, Room, Slices, slices, storedFunction, storedFrom}
 use Rattle.functions.specs.Answer.{Taken, functionRead, FunctionHeld, withCount, Held, programRead}
 use Rattle.functions.specs.declared.FunctionRead.the-variants as F
+use Rattle.functions.specs.Laid.{Fits, FitsFrom, AllFit}
 use Rattle.functions.specs.declared.Counts.{Counts}
 use Rattle.functions.specs.declared.ProgramRead.the-variants as U
+use Rattle.functions.proofs.Types.{TypesFew, more-types, types-after-up, function-type-few}
 
 module _ (ts : List Tok) where
   -- One turn, by what the calls gave; k functions are read.
@@ -82,6 +84,8 @@ module _ (ts : List Tok) (names : List ℕ) (s₀ : Slices) where
     pub stored : storedFrom ts names n s (left at types n s .functions)
         ≡ storedFrom ts names (counts 0 0 0 0 0) s₀ (programD ts .functions)
     pub number : n .functions + length (left at types n s .functions) ≡ length (programD ts .functions)
+    pub known-few : TypesFew types (knownFrom (s .functions) 0 (n .functions))
+    pub fits : FitsFrom n (left at types n s .functions) → AllFit (programD ts)
 
   pub begin : Room ts 0 (counts 0 0 0 0 0) → Going 0 0 (counts 0 0 0 0 0) s₀
   unfolding knownFrom
@@ -99,37 +103,58 @@ module _ (ts : List Tok) (names : List ℕ) (s₀ : Slices) where
         counted = refl;
         stored = refl;
         number = omega arith;
+        known-few = tt;
+        fits = λ w. w;
       }
 
   module _ {at types : ℕ} {n : Counts} {s : Slices} (g : Going at types n s) where
+    fitting : {f : Function} {s′ : Slices} → Taken ts names n f s s′ → f .head .type ≤ types → Fits n f
+    fitting w few-type =
+        let r = w .room in
+        record {
+          functions-few = w .few;
+          type-few = omega (arith, few-type, g .types-few, w .few);
+          formals-few = w .formals-few;
+          items-few = omega (arith, r .items-few, r .within .reached, r .within .few);
+          arguments-few = omega (arith, r .arguments-few, r .within .reached, r .within .few);
+          blocks-few = omega (arith, r .blocks-few, r .within .reached, r .within .few);
+          few-blocks = w .few-blocks;
+          predecessors-few =
+              omega (arith, r .predecessors-few, r .blocks-few, r .within .reached, r .within .few);
+        }
+
     -- the end token
     pub at-end : {t : TokenAt} → t ≡ tokenAt ts at → t .kind ≡ 38
         → (U.Done n ≡ programRead (programD ts))
-        × Held ts names (programD ts .functions) s₀ (withCount (n .functions) s) (programD ts .end)
-    unfolding programRead countsFrom storedFrom opened
+        × (Held ts names (programD ts .functions) s₀ (withCount (n .functions) s) (programD ts .end) × AllFit (programD ts))
+    unfolding programRead countsFrom storedFrom FitsFrom opened
     at-end q h =
         let e = functions-end ts (64 - n .functions) (knownFrom (s .functions) 0 (n .functions)) types at q h in
         let f : programD ts .end ≡ C.At at = sym (g .ends) ∙ ap (λ (p : Program). p .end) e in
         let k : n .functions ≡ length (programD ts .functions) = omega (arith, rw e at (g .number)) in
-        rw f (ap U.Done (rw e at (g .counted)), rw k (ap (withCount (length (programD ts .functions))) (rw e at (g .stored))))
+        rw f (ap U.Done (rw e at (g .counted)),
+        (rw k (ap (withCount (length (programD ts .functions))) (rw e at (g .stored))), g .fits (rw e tt)))
 
     pub at-refused : {t : TokenAt} {e : Refusal} → t ≡ tokenAt ts at → (t .kind ≡ 38 → ⊥)
         → functionD ts (leb 64 (n .functions)) (knownFrom (s .functions) 0 (n .functions)) types at ≡ noFunction e
         → (s′ : Slices)
-        → (U.Refused e ≡ programRead (programD ts)) × Held ts names (programD ts .functions) s₀ s′ (programD ts .end)
-    unfolding programRead opened
+        → (U.Refused e ≡ programRead (programD ts)) × (Held ts names (programD ts .functions) s₀ s′ (programD ts .end)
+        × AllFit (programD ts))
+    unfolding programRead FitsFrom opened
     at-refused {e = r} q h a s′ =
         let e = functions-refused ts (n .functions) (knownFrom (s .functions) 0 (n .functions)) types at (g .few) q h a in
         let f : programD ts .end ≡ C.Refused r = sym (g .ends) ∙ ap (λ (p : Program). p .end) e in
-        rw f (refl, tt)
+        rw f (refl, (tt, g .fits (rw e tt)))
 
     pub onward : {t : TokenAt} {f : Function} → t ≡ tokenAt ts at → (t .kind ≡ 38 → ⊥)
         → functionD ts (leb 64 (n .functions)) (knownFrom (s .functions) 0 (n .functions)) types at ≡ function f
         → (s′ : Slices) → Taken ts names n f s s′
         → Going (f .next) (typesAfter types (f .head .type)) (countsWith n f) s′
-    unfolding countsFrom storedFrom typesAfter opened
+    unfolding countsFrom storedFrom typesAfter FitsFrom opened
     onward {f = f} q h a s′ w =
         let e = functions-more ts (n .functions) (knownFrom (s .functions) 0 (n .functions)) types at (w .few) q h a in
+        let few-type = function-type-few ts (knownFrom (s .functions) 0 (n .functions)) types (g .known-few) (leb 64 (n .functions))
+        at a in
         let same : left at types n s
         ≡ programThen f (left (f .next) (typesAfter types (f .head .type)) (countsWith n f) s′) =
         e ∙ rw (w .seen) in
@@ -148,13 +173,20 @@ module _ (ts : List Tok) (names : List ℕ) (s₀ : Slices) where
               (left (f .next) (typesAfter types (f .head .type)) (countsWith n f) s′ .functions)) (w .stored)
               ∙ rw same at (g .stored);
           number = omega (arith, rw same at (g .number));
+          known-few =
+              rw (w .seen)
+              (more-types types (typesAfter types (f .head .type)) (knownFrom (s .functions) 0 (n .functions)) (knownOf (f .head))
+              (types-after-up types (f .head .type)) (omega (arith, few-type, types-after-up types (f .head .type)))
+              (g .known-few));
+          fits = λ v. g .fits (rw same (fitting w few-type, v));
         }
 
     -- the same by what `parse_function` answers
     pub refused-read : {t : TokenAt} {e : Refusal} → t ≡ tokenAt ts at → (t .kind ≡ 38 → ⊥) → (x : FunctionAt)
         → functionD ts (leb 64 (n .functions)) (knownFrom (s .functions) 0 (n .functions)) types at ≡ x
         → F.Refused e ≡ functionRead types n x → (s′ : Slices)
-        → (U.Refused e ≡ programRead (programD ts)) × Held ts names (programD ts .functions) s₀ s′ (programD ts .end)
+        → (U.Refused e ≡ programRead (programD ts)) × (Held ts names (programD ts .functions) s₀ s′ (programD ts .end)
+        × AllFit (programD ts))
     refused-read {e = e} q h (noFunction r) a g s′ = at-refused q h (a ∙ cc) s′
     refused-read q h (function f) a g s′ = absurd (let z : _≡_ {A = ℕ} 0 1 = cc in omega arith)
 

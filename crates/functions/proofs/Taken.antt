@@ -221,6 +221,8 @@ module _ (ts : List Tok) (names : List ℕ) (at types : ℕ) (n : Counts) (rows�
                   ap (λ (z : List ℕ). knownFrom z 0 (n .functions + 1)) row-put
                   ∙ (seen ts names f (n .items) (n .blocks) (n .functions) rows₀ (header-kept .2) (header-kept .1) rows-long);
               room = body-kept .room;
+              formals-few = header-kept .1;
+              few-blocks = body-kept .few-blocks;
             }
 
         pub held-whole : FunctionHeld ts names n (slices rows₀ items₀ arguments₀ blocks₀ preds₀)

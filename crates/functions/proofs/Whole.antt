@@ -26,7 +26,7 @@ use Rattle.body.specs.declared.BodyRead.{BodyRead}
 use Rattle.body.specs.declared.BodyRead.the-variants as B
 use Rattle.link.specs.Cells.{predecessorCells, linkedBy, linkD, Linking, LinkHeld}
 use Rattle.link.specs.Steps.{Ready}
-use Rattle.link.proofs.Laws.{blocks-counted}
+use Rattle.link.proofs.Laws.{at-most-256, blocks-counted}
 use Rattle.link.proofs.Edges.{thin-blocks, entries-few}
 use Rattle.link.proofs.Whole.{entries-are}
 use Rattle.link.specs.declared.Linked.{Linked}
@@ -175,5 +175,8 @@ module _ (ts : List Tok) (void : Bool) (named at : ℕ) (n : Counts) (items₀ i
                         omega (arith, bounds .blocks-few, behind, blocks-counted named (partsOf is) (linked-to .0));
                     predecessors-few = omega (arith, few-predecessors, room .predecessors-few);
                   };
+              few-blocks =
+                  at-most-256 (partsOf is)
+                  (omega (arith, stored .few-labels, ap length (names-closed void 0 0 (body .items))));
               on = omega (arith, bounds .blocks-few, behind);
             })

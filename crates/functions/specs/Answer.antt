@@ -88,6 +88,7 @@ pub record Built (ts : List Tok) (n : Counts) (is : List Item) (next : ℕ)
       (blockCells (n .items) (n .predecessors) 0 (edgesIn is) (edgesIn is) (blocksIn is))
   pub predecessors-are : preds ≡ sets preds₀ (n .predecessors) (predecessorsIn is)
   pub room : Room ts next (countsAfter n is)
+  pub few-blocks : length (blocksIn is) ≤ 256
   pub on : 1 ≤ next
 
 abbrev pub BuildHeld : (ts : List Tok) (n : Counts)
@@ -131,6 +132,8 @@ pub record Taken (ts : List Tok) (names : List ℕ) (n : Counts) (f : Function) 
   pub seen : knownFrom (s .functions) 0 (n .functions + 1)
       ≡ knownFrom (s₀ .functions) 0 (n .functions) ++ (knownOf (f .head) ∷ [])
   pub room : Room ts (f .next) (countsWith n f)
+  pub formals-few : length (f .head .formals) ≤ 16
+  pub few-blocks : length (blocksIn (f .items)) ≤ 256
 
 abbrev pub FunctionHeld : (ts : List Tok) (names : List ℕ) (n : Counts) (s₀ s : Slices) → FunctionAt → Type 0
 FunctionHeld ts names n s₀ s (function f) = Taken ts names n f s₀ s

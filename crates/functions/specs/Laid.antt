@@ -7,9 +7,9 @@ use Rattle.utils.specs.Bytes.{padTo}
 use Rattle.lexer.specs.Decoded.{Tok}
 use Rattle.body.specs.Records.{itemsCells, argumentsCells, argumentsCount}
 use Rattle.link.specs.Cells.{blockCells}
-use Rattle.functions.specs.Functions.{Function, blocksIn}
+use Rattle.functions.specs.Functions.{Function, Program, blocksIn}
 use Rattle.functions.specs.Rows.{rowCells}
-use Rattle.functions.specs.Answer.{edgesIn, predecessorsIn, countsWith}
+use Rattle.functions.specs.Answer.{edgesIn, predecessorsIn, counts, countsWith}
 use Rattle.functions.specs.declared.Counts.{Counts}
 
 unfoldable pub rowsCells : List Tok → List ℕ → Counts → List Function → List ℕ
@@ -49,3 +49,7 @@ pub record Fits (n : Counts) (f : Function) : Type 0 where
 unfoldable pub FitsFrom : Counts → List Function → Type 0
 FitsFrom n [] = Unit
 FitsFrom n (f ∷ fs) = Fits n f × FitsFrom (countsWith n f) fs
+
+-- All functions that were read fit, whether or not a refusal came then.
+abbrev pub AllFit : Program → Type 0
+AllFit u = FitsFrom (counts 0 0 0 0 0) (u .functions)

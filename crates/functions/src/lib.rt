@@ -13,6 +13,7 @@ ghost use Rattle.body.specs.Room.{Within};
 ghost use Rattle.functions.specs.Known.{typesAfter};
 ghost use Rattle.functions.specs.Functions.{functionD, programD};
 ghost use Rattle.functions.specs.Rows.{knownFrom};
+ghost use Rattle.functions.specs.Laid.{AllFit};
 ghost use Rattle.functions.specs.Answer.{Room, Long, slices, functionRead, FunctionHeld, programRead, Held};
 use parser::Refusal;
 use pieces::Identifier;
@@ -152,6 +153,7 @@ pub fn parse(
         (slices (now (functions .exit)) (now (items .exit)) (now (arguments .exit)) (now (blocks .exit))
         (now (predecessors .exit)))
         (programD (tokensOf (now (tokens .entry))) .end) ⌝ }
+    ensures { λ _. ⌜ AllFit (programD (tokensOf (now (tokens .entry)))) ⌝ }
 {
     let mut at: usize = 0;
     let mut types: u32 = 0;

@@ -5,6 +5,7 @@ use mathlib.Core.List.{List}
 use lib.ListN.{getD}
 use Rattle.lexer.specs.Decoded.{Tok}
 use Rattle.functions.specs.Rows.{typeAt}
+use Rattle.parser.specs.declared.Refusal.{Refusal}
 use Rattle.sema.specs.Symbols.{Typed}
 use Rattle.sema.specs.Blocks.{rowD}
 use Rattle.sema.specs.declared.Checked.{Checked}
@@ -27,12 +28,9 @@ pub record Done : Type 0 where
 abbrev pub done : Checked → List ℕ → List ℕ → Done
 done e items args = record { end = e; items = items; arguments = args }
 
-unfoldable pub thenRow : Typed → List ℕ → List ℕ → (List ℕ → Done) → Done
-thenRow this items args k = by (this .end)
-  where
-    by : Checked → Done
-    by K.Fine = k (this .table)
-    by (K.Refused e) = done (K.Refused e) items args
+unfoldable pub thenRow : Checked → Done → (Refusal → Done) → Done
+thenRow K.Fine next fail = next
+thenRow (K.Refused e) next fail = fail e
 
 -- The m functions from row i on, of n: each is typed in a table as long as t, and then its operands' types are written.
 unfoldable pub typedRows : List Tok → List ℕ → ℕ → List ℕ → List ℕ → ℕ → ℕ → List ℕ → List ℕ → Done
@@ -40,9 +38,11 @@ typedRows ts rows n blocks t i zero items args = done K.Fine items args
 typedRows ts rows n blocks t i (suc m) items args =
     let first = getD rows (firstItemAt i) 0 in
     let count = getD rows (itemCountAt i) 0 in
-    thenRow (rowD ts rows n items args blocks i t) items args (λ t1.
-    typedRows ts rows n blocks t (i + 1) m (typedItems t1 (calleeOf rows n) items first count)
-    (typedCalls t1 items args first count))
+    let r = rowD ts rows n items args blocks i t in
+    thenRow (r .end)
+    (typedRows ts rows n blocks t (i + 1) m (typedItems (r .table) (calleeOf rows n) items first count)
+    (typedCalls (r .table) items args first count))
+    (λ e. done (K.Refused e) items args)
 
 -- What the rows say lies in the slice of items.
 pub record RowsFit (rows : List ℕ) (n cells : ℕ) : Type 0 where

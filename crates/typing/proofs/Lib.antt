@@ -1,0 +1,2 @@
+-- one turn of the loop over the functions
+pub mod Turns
