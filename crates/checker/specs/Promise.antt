@@ -1,14 +1,18 @@
 -- The whole answer of `check`: `checkOf`, the gate, and the zeros that follow each slice's contents.
 use Prim.Native.Nat.{ℕ, _≤_}
 use mathlib.Core.Path.{_≡_}
-use mathlib.Core.List.{List}
+use mathlib.Core.List.{List, []}
 use mathlib.Core.Bool.{Bool, true, false}
 use lib.Dec.{ltb}
 use lib.ListN.{length}
 use Rattle.utils.specs.Bytes.{pick, padTo}
-use Rattle.functions.specs.Answer.{Slices}
+use Rattle.lexer.specs.Read.{readOf}
+use Rattle.lexer.specs.Decoded.{tokensOf}
+use Rattle.parser.specs.declared.Refusal.{Refusal}
+use Rattle.lexer.specs.declared.ReadAnswer.{ReadAnswer}
+use Rattle.functions.specs.Answer.{Long, Slices}
 use Rattle.typing.specs.Outcome.{asLong}
-use Rattle.checker.specs.Check.{Checking, refusal, checkOf}
+use Rattle.checker.specs.Check.{Checking, refusal, refusedAt, checkOf}
 use Rattle.checker.specs.declared.CheckAnswer.{CheckAnswer}
 
 abbrev pub checking : CheckAnswer → List ℕ → List ℕ → List ℕ → Slices → Checking
@@ -40,6 +44,39 @@ allSized m t n u =
 unfoldable pub checkDef : List ℕ → List ℕ → List ℕ → List ℕ → Slices → Checking
 checkDef text m t n u =
     pick (allSized m t n u) (padded m t n u (checkOf text)) (checking (refusal 30 0 0) m t n u)
+
+abbrev pub refusedBy : List ℕ → Refusal → Checking
+refusedBy text e = refusedAt text (readOf text .names) (tokensOf (readOf text .tokens)) e
+
+-- What the inner functions say: the sizes that the gate has seen; the slices that `read` has written.
+abbrev pub IfSizedUnit : Bool → ℕ → ℕ → ℕ → ℕ → ℕ → Type 0
+IfSizedUnit true f i a b p = (2881 ≤ f) × (24576 ≤ i) × (6928 ≤ a) × (8192 ≤ b) × (2048 ≤ p)
+IfSizedUnit false f i a b p = Unit
+
+abbrev pub IfSized : Bool → Bool → ℕ → ℕ → ℕ → Type 0
+IfSized true unit m t n = (512 ≤ m) × (16384 ≤ t) × (2048 ≤ n) × (unit ≡ true)
+IfSized false unit m t n = Unit
+
+pub record Lexed (text : List ℕ) (r : ReadAnswer) (m t n : List ℕ) : Type 0 where
+  pub answer : r ≡ readOf text .answer
+  pub fine : r .number ≡ 0
+  pub message : m ≡ padTo (length m) (readOf text .message)
+  pub tokens : t ≡ padTo (length t) (readOf text .tokens)
+  pub names : n ≡ padTo (length n) (readOf text .names)
+
+-- a refusal of parsing or typing, once its message is written and the tokens and names are gone
+pub record Refuses (text : List ℕ) (e : Refusal) (m₀ t₀ n₀ : List ℕ) (r : CheckAnswer) (m t n : List ℕ) : Type 0 where
+  pub answer : r ≡ refusedBy text e .answer
+  pub message : m ≡ padTo (length m₀) (refusedBy text e .message)
+  pub tokens : t ≡ padTo (length t₀) []
+  pub names : n ≡ padTo (length n₀) []
+
+pub record Sizes (m t n : List ℕ) (u : Slices) : Type 0 where
+  pub message-long : 512 ≤ length m
+  pub tokens-long : 16384 ≤ length t
+  pub names-long : 2048 ≤ length n
+  pub functions-long : 2881 ≤ length (u .functions)
+  pub long : Long (u .items) (u .arguments) (u .blocks) (u .predecessors)
 
 -- THE PROMISE of `check`, by parts with names.
 pub record Checks (text m₀ t₀ n₀ : List ℕ) (u₀ : Slices) (r : CheckAnswer) (m t n : List ℕ) (u : Slices) : Type 0 where

@@ -1,17 +1,15 @@
 // Any text to typed functions with blocks and edges, or one refusal.
 ghost use mathlib.Core.Path.{_≡_};
-ghost use Prim.Native.Nat.{ℕ, _+_, _*_, _≤_, _<_};
+ghost use Prim.Native.Nat.{ℕ, _≤_};
 ghost use lib.ListN.{length};
-ghost use Rattle.utils.specs.Bytes.{padTo};
-ghost use Rattle.lexer.specs.Decoded.{tokensOf, tokenAt};
-ghost use Rattle.body.specs.Room.{Within};
-ghost use Rattle.functions.specs.Answer.{Long, slices};
-ghost use Rattle.messages.specs.Messages.{ShortNames};
-ghost use Rattle.typing.specs.Outcome.{unitD, unitSlices, asLong};
-ghost use Rattle.checker.specs.Check.{accepted, refusal, answerOf, messageIn, checkOf};
-ghost use Rattle.checker.specs.Promise.{checking, padded, sized, sizedUnit, IfSized, IfSizedUnit, Checks};
+ghost use Rattle.functions.specs.Answer.{slices};
+ghost use Rattle.checker.specs.Check.{accepted, refusal, checkOf};
+ghost use Rattle.checker.specs.Promise.{checking, padded, Lexed, Refuses, Sizes};
+ghost use Rattle.checker.specs.Promise.{sized, sizedUnit, IfSized, IfSizedUnit, Checks};
 use functions::Counts;
 use functions::ProgramRead;
+use lexer::ReadAnswer;
+use parser::Refusal;
 
 // What `check` answers: document 01's number, line and place, and how many records each slice has.
 #[repr(C)]
@@ -26,4 +24,221 @@ pub struct CheckAnswer {
     pub arguments: u32,
     pub blocks: u32,
     pub predecessors: u32,
+}
+
+fn refused(number: u32, line: u32, place: u32) -> CheckAnswer
+    ensures { λ r. ⌜ r ≡ refusal number line place ⌝ }
+{
+    CheckAnswer {
+        number,
+        line,
+        place,
+        tokens: 0,
+        names: 0,
+        functions: 0,
+        items: 0,
+        arguments: 0,
+        blocks: 0,
+        predecessors: 0,
+    }
+}
+
+fn counted(tokens: u32, names: u32, n: Counts) -> CheckAnswer
+    requires { ⌜ (n .functions ≤ 4096) × (n .items ≤ 4096) × (n .arguments ≤ 4096) × (n .blocks ≤ 4096)
+        × (n .predecessors ≤ 4096) ⌝ }
+    ensures { λ r. ⌜ r ≡ accepted tokens names n ⌝ }
+{
+    CheckAnswer {
+        number: 0,
+        line: 0,
+        place: 0,
+        tokens,
+        names,
+        functions: n.functions as u32,
+        items: n.items as u32,
+        arguments: n.arguments as u32,
+        blocks: n.blocks as u32,
+        predecessors: n.predecessors as u32,
+    }
+}
+
+// A refusal of parsing or typing: its message, and no tokens or names.
+fn refuse(
+    text: &[u8],
+    r: ReadAnswer,
+    tokens: &mut [u32],
+    names: &mut [u32],
+    message: &mut [u8],
+    e: Refusal,
+) -> CheckAnswer
+    requires { ⌜ Lexed (now text) r (now message) (now tokens) (now names) × (512 ≤ length (now message))
+        × (16384 ≤ length (now tokens)) × (2048 ≤ length (now names)) ⌝ }
+    ensures { λ res. ⌜ Refuses (now (text .entry)) e (now (message .entry)) (now (tokens .entry)) (now (names .entry))
+        res (now (message .exit)) (now (tokens .exit)) (now (names .exit)) ⌝ }
+{
+    let last = r.tokens as usize * 4;
+    let end = r.names as usize * 2;
+    messages::put_message(text, &tokens[0..last], &names[0..end], e, message);
+    let t = lexer::token_at(&tokens[0..last], e.token);
+    utils::clear(tokens);
+    utils::clear(names);
+    refused(e.number, t.line.0, t.place)
+}
+
+// The functions of a text that is read.
+fn check_lexed(
+    text: &[u8],
+    r: ReadAnswer,
+    tokens: &mut [u32],
+    names: &mut [u32],
+    functions: &mut [u32],
+    items: &mut [u32],
+    arguments: &mut [u32],
+    blocks: &mut [u32],
+    predecessors: &mut [u32],
+    message: &mut [u8],
+) -> CheckAnswer
+    requires { ⌜ Lexed (now text) r (now message) (now tokens) (now names)
+        × Sizes (now message) (now tokens) (now names)
+        (slices (now functions) (now items) (now arguments) (now blocks) (now predecessors)) ⌝ }
+    ensures { λ res. ⌜ checking res (now (message .exit)) (now (tokens .exit)) (now (names .exit))
+        (slices (now (functions .exit)) (now (items .exit)) (now (arguments .exit)) (now (blocks .exit))
+        (now (predecessors .exit)))
+        ≡ padded (now (message .entry)) (now (tokens .entry)) (now (names .entry))
+        (slices (now (functions .entry)) (now (items .entry)) (now (arguments .entry)) (now (blocks .entry))
+        (now (predecessors .entry))) (checkOf (now (text .entry))) ⌝ }
+{
+    let last = r.tokens as usize * 4;
+    let end = r.names as usize * 2;
+    match typing::unit(
+        &tokens[0..last],
+        &names[0..end],
+        functions,
+        items,
+        arguments,
+        blocks,
+        predecessors,
+    ) {
+        ProgramRead::Refused(e) => refuse(text, r, tokens, names, message, e),
+        ProgramRead::Done(n) => counted(r.tokens, r.names, n),
+    }
+}
+
+// Slices that have their sizes.
+fn check_sized(
+    text: &[u8],
+    tokens: &mut [u32],
+    names: &mut [u32],
+    functions: &mut [u32],
+    items: &mut [u32],
+    arguments: &mut [u32],
+    blocks: &mut [u32],
+    predecessors: &mut [u32],
+    message: &mut [u8],
+) -> CheckAnswer
+    requires { ⌜ Sizes (now message) (now tokens) (now names)
+        (slices (now functions) (now items) (now arguments) (now blocks) (now predecessors)) ⌝ }
+    ensures { λ res. ⌜ checking res (now (message .exit)) (now (tokens .exit)) (now (names .exit))
+        (slices (now (functions .exit)) (now (items .exit)) (now (arguments .exit)) (now (blocks .exit))
+        (now (predecessors .exit)))
+        ≡ padded (now (message .entry)) (now (tokens .entry)) (now (names .entry))
+        (slices (now (functions .entry)) (now (items .entry)) (now (arguments .entry)) (now (blocks .entry))
+        (now (predecessors .entry))) (checkOf (now (text .entry))) ⌝ }
+{
+    let r = lexer::read(text, tokens, names, message);
+    if r.number == 0 {
+        return check_lexed(
+            text,
+            r,
+            tokens,
+            names,
+            functions,
+            items,
+            arguments,
+            blocks,
+            predecessors,
+            message,
+        );
+    }
+    typing::clear::clear_five(functions, items, arguments, blocks, predecessors);
+    refused(r.number, r.line, r.place)
+}
+
+fn fits_unit(f: usize, i: usize, a: usize, b: usize, p: usize) -> bool
+    ensures { λ r. ⌜ (r ≡ sizedUnit f i a b p) × (IfSizedUnit r f i a b p) ⌝ }
+{
+    if f < 2881 {
+        return false;
+    }
+    if i < 24576 {
+        return false;
+    }
+    if a < 6928 {
+        return false;
+    }
+    if b < 8192 {
+        return false;
+    }
+    if p < 2048 {
+        return false;
+    }
+    true
+}
+
+// Whether slices of these lengths have their sizes; `unit`: whether the other five have theirs.
+fn fits(m: usize, t: usize, n: usize, unit: bool) -> bool
+    ensures { λ r. ⌜ (r ≡ sized m t n unit) × (IfSized r unit m t n) ⌝ }
+{
+    if t < 16384 {
+        return false;
+    }
+    if n < 2048 {
+        return false;
+    }
+    if m < 512 {
+        return false;
+    }
+    unit
+}
+
+// Document 01's check of any text: typed functions with blocks and edges as cells, or a refusal and its message.
+pub fn check(
+    text: &[u8],
+    tokens: &mut [u32],
+    names: &mut [u32],
+    functions: &mut [u32],
+    items: &mut [u32],
+    arguments: &mut [u32],
+    blocks: &mut [u32],
+    predecessors: &mut [u32],
+    message: &mut [u8],
+) -> CheckAnswer
+    ensures { λ r. ⌜ Checks (now (text .entry)) (now (message .entry)) (now (tokens .entry)) (now (names .entry))
+        (slices (now (functions .entry)) (now (items .entry)) (now (arguments .entry)) (now (blocks .entry))
+        (now (predecessors .entry)))
+        r (now (message .exit)) (now (tokens .exit)) (now (names .exit))
+        (slices (now (functions .exit)) (now (items .exit)) (now (arguments .exit)) (now (blocks .exit))
+        (now (predecessors .exit))) ⌝ }
+{
+    let unit = fits_unit(
+        functions.len(),
+        items.len(),
+        arguments.len(),
+        blocks.len(),
+        predecessors.len(),
+    );
+    if fits(message.len(), tokens.len(), names.len(), unit) {
+        return check_sized(
+            text,
+            tokens,
+            names,
+            functions,
+            items,
+            arguments,
+            blocks,
+            predecessors,
+            message,
+        );
+    }
+    refused(30, 0, 0)
 }

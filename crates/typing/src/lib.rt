@@ -1,5 +1,5 @@
 // A text's functions, parsed and typed: Unit of bril-lib/src/ir.rs, once Sema of parser.rs has passed it.
-mod clear;
+pub mod clear;
 mod types;
 
 ghost use mathlib.Core.Path.{_≡_};
