@@ -1,1 +1,4 @@
+-- one turn of each loop
 pub mod Turns
+-- writing the types into cells is the list form
+pub mod Lists

@@ -8,3 +8,5 @@ pub mod HeaderOn
 pub mod Whole
 pub mod Taken
 pub mod SimFunctions
+-- what is stored on cleared slices is the list form
+pub mod Laid
