@@ -1,0 +1,99 @@
+-- What `read` leaves of a text that it accepts, as the functions of the checker take it.
+use Prim.Native.Nat.{ℕ, _+_, _*_, _-_, _≤_, _<_}
+use mathlib.Core.Path.{_≡_, refl, sym, ap, subst, _∙_}
+use mathlib.Core.List.{List, [], _∷_, _++_, append-nil}
+use native.Mathlib.Omega.{arith}
+use lib.ListN.{length, take, drop, replicate}
+use lib.Seq.{slice, take-at}
+use Rattle.utils.specs.Bytes.{padTo}
+use Rattle.pieces.specs.Refusals.{factsOf}
+use Rattle.lexer.specs.Numbered.{Outcome, tokensCells, namesCells}
+use Rattle.lexer.specs.Read.{Reading, reading, accepted, lexedFrom, readingOf, readOf}
+use Rattle.lexer.specs.Decoded.{Tok, tokensOf, tokenAt}
+use Rattle.lexer.specs.declared.ReadAnswer.{ReadAnswer}
+use Rattle.lexer.specs.declared.TokenAt.{TokenAt}
+use Rattle.lexer.specs.Sound.{Sound}
+use Rattle.lexer.proofs.Sound.{read-sound, never-cut}
+use Rattle.lexer.proofs.Accepted.{Done, refusal-number}
+use Rattle.lexer.proofs.Promise.{done-reading}
+use Rattle.lexer.proofs.Cells.{length-tokens-cells, length-names-cells, cells-token-last}
+use Rattle.body.specs.Room.{Within}
+use Rattle.messages.specs.Messages.{ShortNames}
+use Rattle.messages.proofs.Short.{short-names}
+use Rattle.checker.specs.Promise.{Lexed}
+
+unpadded : (l : List ℕ) → padTo 0 l ≡ l
+unpadded l =
+    let m : 0 - length l ≡ 0 = omega arith in
+    ap (λ (k : ℕ). l ++ replicate k 0) m ∙ append-nil l
+
+-- the first cells of a padded list are the list
+front : (n k : ℕ) (l s : List ℕ) → s ≡ padTo n l → length l ≡ k → slice 0 k s ≡ l
+front n k l s e h = ap (take k) e ∙ take-at l (replicate (n - length l) 0) k h
+
+module _ {text m t n : List ℕ} {r : ReadAnswer} (v : Lexed text r m t n) where
+  pub is-done : Done text 1 (r .tokens) (r .names)
+  unfolding readOf
+  is-done = from (lexedFrom 1 text) refl
+    where
+      from : (o : Outcome) → lexedFrom 1 text ≡ o → Done text 1 (r .tokens) (r .names)
+      from (Outcome.done ts ns) p =
+          let q = rw p at (v .answer) in
+          record {
+            ts = ts;
+            ns = ns;
+            lexed = p;
+            counted = ap (λ (a : ReadAnswer). a .tokens) q;
+            counted-names = ap (λ (a : ReadAnswer). a .names) q;
+            sound = read-sound 1 text ts ns p;
+          }
+      from (Outcome.refused e) p =
+          absurd (refusal-number e (sym (ap (λ (a : ReadAnswer). a .number) (rw p at (v .answer))) ∙ v .fine))
+      from Outcome.cut p = absurd (never-cut 1 text p)
+
+  read-as : readOf text ≡ reading (accepted (r .tokens) (r .names)) (tokensCells (is-done .ts)) (namesCells (is-done .ns)) []
+  read-as = done-reading is-done
+
+  pub read-tokens : readOf text .tokens ≡ tokensCells (is-done .ts)
+  read-tokens = ap (λ (x : Reading). x .tokens) read-as
+
+  pub read-names : readOf text .names ≡ namesCells (is-done .ns)
+  read-names = ap (λ (x : Reading). x .names) read-as
+
+  pub no-message : readOf text .message ≡ []
+  no-message = ap (λ (x : Reading). x .message) read-as
+
+  pub tokens-few : r .tokens ≤ 4096
+  tokens-few = omega (arith, is-done .counted, is-done .sound .few)
+
+  pub names-few : r .names ≤ 1024
+  names-few = omega (arith, is-done .counted-names, is-done .sound .few-names)
+
+  -- the cells in use
+  pub used-tokens : slice 0 (r .tokens * 4) t ≡ readOf text .tokens
+  used-tokens =
+      front (length t) (r .tokens * 4) (readOf text .tokens) t (v .tokens)
+      (ap length read-tokens ∙ length-tokens-cells (is-done .ts) ∙ ap (λ (k : ℕ). k * 4) (sym (is-done .counted)))
+
+  pub used-names : slice 0 (r .names * 2) n ≡ readOf text .names
+  used-names =
+      front (length n) (r .names * 2) (readOf text .names) n (v .names)
+      (ap length read-names ∙ length-names-cells (is-done .ns) ∙ ap (λ (k : ℕ). k * 2) (sym (is-done .counted-names)))
+
+  tokens-unpadded : readOf text .tokens ≡ padTo 0 (tokensCells (is-done .ts))
+  tokens-unpadded = read-tokens ∙ sym (unpadded (tokensCells (is-done .ts)))
+
+  pub within : Within (tokensOf (readOf text .tokens)) 0
+  within =
+      rw tokens-unpadded
+      (record {
+        last = length (is-done .ts) - 1;
+        ends = ap (λ (x : TokenAt). x .kind) (cells-token-last 0 (is-done .sound));
+        reached = omega arith;
+        few = omega (arith, is-done .sound .few);
+      })
+
+  pub short : ShortNames text (readOf text .names)
+  short =
+      rw (read-names ∙ sym (unpadded (namesCells (is-done .ns))))
+      (short-names text 1 0 (is-done .ts) (is-done .ns) (is-done .sound))
