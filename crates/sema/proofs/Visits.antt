@@ -19,13 +19,16 @@ use Rattle.parser.specs.declared.Refusal.{Refusal}
 use Rattle.parser.specs.declared.Variable.{Variable}
 use Rattle.parser.specs.declared.Operation.{Operation}
 use Rattle.parser.specs.declared.Operation.the-variants as O
+use Rattle.functions.specs.Functions.{Function}
 use Rattle.sema.specs.Symbols.{Typed, on, stop, thenEnd, thenTyped, facts, noName, enterD, thenLook, thenSame}
-use Rattle.sema.specs.Typing.{int, bool, void, thenThree, operandsD, binaryD, operandD, unaryD, constD, retValueD, retD}
-use Rattle.sema.specs.Typing.{Global, absent, global, presentD, typesOf, sameAll, argumentsD, thenGlobal, callD, callIntoD}
-use Rattle.sema.specs.Typing.{plainD, analyzeD}
+use Rattle.sema.specs.Typing.{int, bool, void, thenThree, operandsD, binaryD, operandD, unaryD, constD}
+use Rattle.sema.specs.Typing.{retValueD, retD, Global, absent, global, presentD, typesOf, sameAll, argumentsD}
+use Rattle.sema.specs.Typing.{thenGlobal, callD, callIntoD, plainD, analyzeD}
 use Rattle.sema.specs.Blocks.{itemsD, endD, blockD, formalsD, blocksD, typeFunctionD}
-use Rattle.sema.specs.Visits.{Look, lookOf, looksOf, operationLooks, looks, lookedIn, visit, itemsVisits, blocksVisits}
+use Rattle.sema.specs.Program.{globalsOf, orderedBlocks, programD}
+use Rattle.sema.specs.Visits.{looksOf, operationLooks, looks, lookedIn, visit, itemsVisits, blocksVisits}
 use Rattle.sema.specs.Visits.{functionVisits, itemsLooks, blocksLooks, Keeps, AllFound, ItemsFound, BlocksFound}
+use Rattle.sema.specs.Visits.{typedFunction, Final, EachFinal}
 use Rattle.sema.specs.declared.Checked.{Checked}
 use Rattle.sema.specs.declared.Checked.the-variants as K
 
@@ -342,10 +345,8 @@ call-into-found t (global ret formals) token result type callee xs h =
 
 -- The last table. ---------------------------------------------------------------------------------------------------
 
-look-same : (t t′ : List ℕ) (x : Identifier) → Keeps t t′ → (getD t (x .0) 0 ≡ 0 → ⊥) → lookOf t x ≡ lookOf t′ x
-look-same t t′ x k h = rw (k (x .0) h)
-
-looks-of-same : (t t′ : List ℕ) (xs : List Variable) → Keeps t t′ → AllFound (looksOf t xs) → looksOf t xs ≡ looksOf t′ xs
+looks-of-same : (t t′ : List ℕ) (xs : List Variable) → Keeps t t′ → AllFound (looksOf t xs)
+    → looksOf t xs ≡ looksOf t′ xs
 unfolding looksOf
 looks-of-same t t′ [] k h = refl
 looks-of-same t t′ (x ∷ xs) k h = rw (k (x .id .0) (h .0), looks-of-same t t′ xs k (h .1))
@@ -436,3 +437,25 @@ module _ (ts : List Tok) (globals : ℕ → Global) (ret : ℕ) where
       let k : Keeps (rest .table) (all .table) =
       subst (λ (u : Typed). Keeps (rest .table) (u .table)) (sym (p .1)) (keeps-same (rest .table)) in
       blocks-final blocks (this .table) (all .table) (end-of all rest (p .1) h) k
+
+-- All functions. ----------------------------------------------------------------------------------------------------
+
+function-final : (ts : List Tok) (all : List Function) (blank : List ℕ) (f : Function)
+    → typedFunction ts all blank f .end ≡ K.Fine → Final ts all blank f
+function-final ts all blank f h =
+    let p =
+    final-types ts (globalsOf all) (typeCell (f .head .ret)) (f .token) (f .head .formals) (orderedBlocks (f .items))
+    blank h in
+    record { fine = h; found = p .1; same = p .0 }
+
+-- each function of a text whose functions are typed
+pub program-final : (ts : List Tok) (all fs : List Function) (blank : List ℕ) → programD ts all fs blank .end ≡ K.Fine
+    → EachFinal ts all blank fs
+unfolding programD
+program-final ts all [] blank h = tt
+program-final ts all (f ∷ fs) blank h =
+    let this : Typed = typedFunction ts all blank f in
+    let rest : Typed = programD ts all fs blank in
+    let p = fine-then this (λ t. programD ts all fs blank) h in
+    let next : rest .end ≡ K.Fine = end-of (thenTyped this (λ t. programD ts all fs blank)) rest (p .1) h in
+    (function-final ts all blank f (p .0), program-final ts all fs blank next)

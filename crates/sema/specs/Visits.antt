@@ -11,9 +11,12 @@ use Rattle.parser.specs.Body.{Item, label, plain, call, callInto}
 use Rattle.parser.specs.declared.Variable.{Variable}
 use Rattle.parser.specs.declared.Operation.{Operation}
 use Rattle.parser.specs.declared.Operation.the-variants as O
+use Rattle.functions.specs.Functions.{Function}
 use Rattle.sema.specs.Symbols.{Typed, enterD}
 use Rattle.sema.specs.Typing.{Global, analyzeD}
-use Rattle.sema.specs.Blocks.{blockD, formalsD}
+use Rattle.sema.specs.Blocks.{blockD, formalsD, typeFunctionD}
+use Rattle.sema.specs.Program.{globalsOf, orderedBlocks}
+use Rattle.sema.specs.declared.Checked.the-variants as K
 
 -- a name that is looked up, and the type that a table has for it, 0 if none
 pub record Look : Type 0 where
@@ -97,3 +100,24 @@ ItemsFound (ls ∷ lss) = AllFound ls × ItemsFound lss
 abbrev pub BlocksFound : List (List (List Look)) → Type 0
 BlocksFound [] = Unit
 BlocksFound (lss ∷ lsss) = ItemsFound lss × BlocksFound lsss
+
+-- A function as it was parsed, of all: its typing, beginning with the table `blank`, and its visits.
+abbrev pub typedFunction : List Tok → List Function → List ℕ → Function → Typed
+typedFunction ts all blank f =
+    typeFunctionD ts (globalsOf all) (typeCell (f .head .ret)) (f .token) (f .head .formals) (orderedBlocks (f .items))
+    blank
+
+abbrev pub visitsOf : List Tok → List Function → List ℕ → Function → List (List (List Look))
+visitsOf ts all blank f =
+    functionVisits ts (globalsOf all) (typeCell (f .head .ret)) (f .token) (f .head .formals) (orderedBlocks (f .items))
+    blank
+
+-- It is typed, every operand that was looked up had a type at its visit, and the last table has that type for it.
+pub record Final (ts : List Tok) (all : List Function) (blank : List ℕ) (f : Function) : Type 0 where
+  pub fine : typedFunction ts all blank f .end ≡ K.Fine
+  pub found : BlocksFound (visitsOf ts all blank f)
+  pub same : visitsOf ts all blank f ≡ blocksLooks (typedFunction ts all blank f .table) (orderedBlocks (f .items))
+
+abbrev pub EachFinal : List Tok → List Function → List ℕ → List Function → Type 0
+EachFinal ts all blank [] = Unit
+EachFinal ts all blank (f ∷ fs) = Final ts all blank f × EachFinal ts all blank fs
