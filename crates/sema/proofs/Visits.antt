@@ -54,7 +54,8 @@ enter-keeps t token name type = by (eqb (getD t (name .0) 0) 0) refl (eqb (getD 
     by false q true x h = refl
     by false q false x h = refl
 
-pick-keeps : (t : List ℕ) (b : Bool) (u v : Typed) → Keeps t (u .table) → Keeps t (v .table) → Keeps t (pick b u v .table)
+pick-keeps : (t : List ℕ) (b : Bool) (u v : Typed) → Keeps t (u .table) → Keeps t (v .table)
+    → Keeps t (pick b u v .table)
 unfolding pick
 pick-keeps t true u v p q = p
 pick-keeps t false u v p q = q
