@@ -11,5 +11,7 @@ pub mod Globals
 pub mod Blocks
 -- all functions, as they were parsed
 pub mod Program
+-- what is looked up at each visit, and the types found there
+pub mod Visits
 -- texts with their refusals: one table, one claim
 pub mod Cases
