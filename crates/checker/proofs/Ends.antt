@@ -10,18 +10,23 @@ use lib.ListN.{length}
 use Rattle.utils.specs.Bytes.{pick, padTo}
 use Rattle.lexer.specs.Read.{Reading, reading, readOf, readDef, Reads}
 use Rattle.lexer.specs.Read as lexed
+use Rattle.lexer.specs.Numbered as lexes
 use Rattle.lexer.specs.Decoded.{Tok, tokensOf}
 use Rattle.lexer.specs.declared.ReadAnswer.{ReadAnswer}
 use Rattle.parser.specs.declared.Refusal.{Refusal}
-use Rattle.functions.specs.Answer.{Slices, slices}
+use Rattle.functions.specs.Answer.{Slices, slices, countsFrom}
 use Rattle.functions.specs.declared.Counts.{Counts}
 use Rattle.functions.specs.declared.ProgramRead.{ProgramRead}
 use Rattle.functions.specs.declared.ProgramRead.the-variants as U
-use Rattle.typing.specs.Outcome.{Outcome, checked, refused, unitD, unitRead, unitSlices, asLong, cleared}
+use Rattle.typing.specs.Outcome.{Outcome, checked, refused, unitD, unitRead, unitSlices, asLong, cleared, none}
 use Rattle.checker.specs.Check.{Checking, accepted, refusal, refusing, refusedAt, checkedOr, readAs, checkOf}
 use Rattle.checker.specs.Promise.{checking, padded, sized, sizedUnit, allSized, checkDef, refusedBy, Lexed, Refuses, Checks}
 use Rattle.checker.specs.declared.CheckAnswer.{CheckAnswer}
 use Rattle.checker.proofs.Lexed.{no-message}
+
+same-checking : {r r′ : CheckAnswer} {m m′ t t′ n n′ : List ℕ} {u u′ : Slices} → r ≡ r′ → m ≡ m′ → t ≡ t′ → n ≡ n′ → u ≡ u′
+    → checking r m t n u ≡ checking r′ m′ t′ n′ u′
+same-checking e₁ e₂ e₃ e₄ e₅ = rw (e₁, e₂, e₃, e₄, e₅)
 
 module _ (text m t n : List ℕ) (u : Slices) (r : ReadAnswer) (v : Lexed text r m t n) where
   abbrev ts : List Tok
@@ -34,18 +39,132 @@ module _ (text m t n : List ℕ) (u : Slices) (r : ReadAnswer) (v : Lexed text r
 
   -- the answer and the slices, by what the functions are
   module _ (u′ : Slices) (unit-is : u′ ≡ asLong u (unitSlices ts (readOf text .names) (unitD ts))) where
+    unit-by : (o : Outcome) → unitD ts ≡ o → u′ ≡ asLong u (unitSlices ts (readOf text .names) o)
+    unit-by o e = unit-is ∙ ap (λ (x : Outcome). asLong u (unitSlices ts (readOf text .names) x)) e
+
     accepts-by : (k : Counts) (o : Outcome) → unitD ts ≡ o → U.Done k ≡ unitRead o
         → checking (accepted (r .tokens) (r .names) k) m t n u′ ≡ padded m t n u (checkedOr text (readOf text) ts o)
     accepts-by k (checked fs) e h =
-        rw (unit-is, e, v .answer, no-message v)
-        (whole (ap (λ (x : ProgramRead). countsIn x) h) (v .message) (v .tokens) (v .names))
-      where
-        countsIn : ProgramRead → Counts
-        countsIn (U.Done c′) = c′
-        countsIn (U.Refused e′) = k
-
-        whole : {k′ : Counts} {m′ t′ n′ : List ℕ} → k ≡ k′ → m ≡ m′ → t ≡ t′ → n ≡ n′
-            → checking (accepted (readOf text .answer .tokens) (readOf text .answer .names) k) m t n _
-            ≡ checking (accepted (readOf text .answer .tokens) (readOf text .answer .names) k′) m′ t′ n′ _
-        whole a b c′ d = rw (a, b, c′, d)
+        let counts-are : k ≡ countsFrom none fs = cc in
+        same-checking (rw (v .answer, counts-are)) (v .message ∙ ap (padTo (length m)) (no-message v)) (v .tokens) (v .names)
+        (unit-by (checked fs) e)
     accepts-by k (refused e′) e h = absurd (let z : _≡_ {A = ℕ} 0 1 = cc in omega arith)
+
+    pub check-accepts : (k : Counts) → U.Done k ≡ unitRead (unitD ts)
+        → checking (accepted (r .tokens) (r .names) k) m t n u′ ≡ padded m t n u (checkOf text)
+    check-accepts k h = accepts-by k (unitD ts) refl h ∙ ap (padded m t n u) (sym goes-on)
+
+    refuses-by : (e : Refusal) (o : Outcome) → unitD ts ≡ o → U.Refused e ≡ unitRead o
+        → (res : CheckAnswer) (m′ t′ n′ : List ℕ) → Refuses text e m t n res m′ t′ n′
+        → checking res m′ t′ n′ u′ ≡ padded m t n u (checkedOr text (readOf text) ts o)
+    refuses-by e (checked fs) q h res m′ t′ n′ w = absurd (let z : _≡_ {A = ℕ} 0 1 = cc in omega arith)
+    refuses-by e (refused e′) q h res m′ t′ n′ w =
+        let same : e ≡ e′ = cc in
+        rw (← same)
+        (same-checking (w .answer) (w .message) (w .tokens) (w .names) (unit-by (refused e) (q ∙ ap refused (sym same))))
+
+    pub check-refuses : (e : Refusal) → U.Refused e ≡ unitRead (unitD ts)
+        → (res : CheckAnswer) (m′ t′ n′ : List ℕ) → Refuses text e m t n res m′ t′ n′
+        → checking res m′ t′ n′ u′ ≡ padded m t n u (checkOf text)
+    check-refuses e h res m′ t′ n′ w = refuses-by e (unitD ts) refl h res m′ t′ n′ w ∙ ap (padded m t n u) (sym goes-on)
+
+-- a text that doesn't read has no tokens and no names
+unread : (text : List ℕ) → (readOf text .answer .number ≡ 0 → ⊥) → (readOf text .tokens ≡ []) × (readOf text .names ≡ [])
+unfolding readOf
+unread text h = from (lexed.lexedFrom 1 text) h
+  where
+    from : (o : lexes.Outcome) → (lexed.readingOf o .answer .number ≡ 0 → ⊥)
+        → (lexed.readingOf o .tokens ≡ []) × (lexed.readingOf o .names ≡ [])
+    from (lexes.Outcome.done toks ns) g = absurd (g refl)
+    from (lexes.Outcome.refused e) g = (refl, refl)
+    from lexes.Outcome.cut g = absurd (g refl)
+
+-- Once `read` is done. ----------------------------------------------------------------------------------------------
+
+module _ (text t₀ n₀ m₀ : List ℕ) (r : ReadAnswer) (t n m : List ℕ) (reads : Reads text t₀ n₀ m₀ r t n m)
+    (ok : lexed.sized (length t₀) (length n₀) (length m₀) ≡ true) where
+  as-read : readDef text t₀ n₀ m₀ ≡ lexed.padded t₀ n₀ m₀ (readOf text)
+  unfolding readDef pick
+  as-read = rw ok
+
+  answer-is : r ≡ readOf text .answer
+  answer-is = reads .answer ∙ ap (λ (x : Reading). x .answer) as-read
+
+  tokens-are : t ≡ padTo (length t₀) (readOf text .tokens)
+  tokens-are = reads .tokens ∙ ap (λ (x : Reading). x .tokens) as-read
+
+  names-are : n ≡ padTo (length n₀) (readOf text .names)
+  names-are = reads .names ∙ ap (λ (x : Reading). x .names) as-read
+
+  message-is : m ≡ padTo (length m₀) (readOf text .message)
+  message-is = reads .message ∙ ap (λ (x : Reading). x .message) as-read
+
+  module _ (lt : length t ≡ length t₀) (ln : length n ≡ length n₀) (lm : length m ≡ length m₀) where
+    pub is-lexed : r .number ≡ 0 → Lexed text r m t n
+    is-lexed z =
+        record {
+          answer = answer-is;
+          fine = z;
+          message = message-is ∙ ap (λ (k : ℕ). padTo k (readOf text .message)) (sym lm);
+          tokens = tokens-are ∙ ap (λ (k : ℕ). padTo k (readOf text .tokens)) (sym lt);
+          names = names-are ∙ ap (λ (k : ℕ). padTo k (readOf text .names)) (sym ln);
+        }
+
+    pub as-at-entry : (u : Slices) → padded m t n u (checkOf text) ≡ padded m₀ t₀ n₀ u (checkOf text)
+    as-at-entry u = rw (lt, ln, lm)
+
+  pub not-lexed : (r .number ≡ 0 → ⊥) → (u u′ : Slices) → u′ ≡ cleared u
+      → checking (refusal (r .number) (r .line) (r .place)) m t n u′ ≡ padded m₀ t₀ n₀ u (checkOf text)
+  unfolding checkOf pick
+  not-lexed z u u′ e =
+      let z′ : readOf text .answer .number ≡ 0 → ⊥ = λ q. z (ap (λ (a : ReadAnswer). a .number) answer-is ∙ q) in
+      let k = unread text z′ in
+      rw (ne-eqb _ _ z′)
+      (same-checking (rw answer-is) message-is (tokens-are ∙ ap (padTo (length t₀)) (k .0))
+      (names-are ∙ ap (padTo (length n₀)) (k .1)) e)
+
+-- The gate. ---------------------------------------------------------------------------------------------------------
+
+by-parts : {text m₀ t₀ n₀ : List ℕ} {u₀ : Slices} {r : CheckAnswer} {m t n : List ℕ} {u : Slices}
+    → checking r m t n u ≡ checkDef text m₀ t₀ n₀ u₀ → Checks text m₀ t₀ n₀ u₀ r m t n u
+by-parts e =
+    record {
+      answer = ap (λ (x : Checking). x .answer) e;
+      message = ap (λ (x : Checking). x .message) e;
+      tokens = ap (λ (x : Checking). x .tokens) e;
+      names = ap (λ (x : Checking). x .names) e;
+      unit = ap (λ (x : Checking). x .unit) e;
+    }
+
+as-whole : {text m₀ t₀ n₀ : List ℕ} {u₀ : Slices} {r : CheckAnswer} {m t n : List ℕ} {u : Slices}
+    → Checks text m₀ t₀ n₀ u₀ r m t n u → checking r m t n u ≡ checkDef text m₀ t₀ n₀ u₀
+as-whole c′ = same-checking (c′ .answer) (c′ .message) (c′ .tokens) (c′ .names) (c′ .unit)
+
+module _ (text m t n : List ℕ) (u : Slices) (unit ok : Bool)
+    (unit-is : unit ≡ sizedUnit (length (u .functions)) (length (u .items)) (length (u .arguments)) (length (u .blocks))
+    (length (u .predecessors))) (ok-is : ok ≡ sized (length m) (length t) (length n) unit) where
+  sized-is : ok ≡ allSized m t n u
+  sized-is = ok-is ∙ ap (λ (b : Bool). sized (length m) (length t) (length n) b) unit-is
+
+  pub works : ok ≡ true → (r : CheckAnswer) (m′ t′ n′ : List ℕ) (u′ : Slices)
+      → checking r m′ t′ n′ u′ ≡ padded m t n u (checkOf text) → Checks text m t n u r m′ t′ n′ u′
+  unfolding checkDef pick
+  works h r m′ t′ n′ u′ e = by-parts (e ∙ rw (← sized-is, h))
+
+  pub shorts : ok ≡ false → (r : CheckAnswer) → r ≡ refusal 30 0 0 → Checks text m t n u r m t n u
+  unfolding checkDef pick
+  shorts h r e = by-parts (rw (← sized-is, h, e))
+
+-- TWO PERMITTED ANSWERS ARE EQUAL
+pub permitted-equal : {text m₀ t₀ n₀ : List ℕ} {u₀ : Slices} {r r′ : CheckAnswer} {m t n m′ t′ n′ : List ℕ} {u u′ : Slices}
+    → Checks text m₀ t₀ n₀ u₀ r m t n u → Checks text m₀ t₀ n₀ u₀ r′ m′ t′ n′ u′
+    → checking r m t n u ≡ checking r′ m′ t′ n′ u′
+permitted-equal a b = as-whole a ∙ sym (as-whole b)
+
+-- EQUAL TEXTS AND LENGTHS GIVE EQUAL ANSWERS, whatever the slices held before
+pub same-text : {text m₀ t₀ n₀ m₁ t₁ n₁ : List ℕ} {u₀ u₁ : Slices} {r r′ : CheckAnswer} {m t n m′ t′ n′ : List ℕ} {u u′ : Slices}
+    → allSized m₀ t₀ n₀ u₀ ≡ true → length m₀ ≡ length m₁ → length t₀ ≡ length t₁ → length n₀ ≡ length n₁
+    → cleared u₀ ≡ cleared u₁
+    → Checks text m₀ t₀ n₀ u₀ r m t n u → Checks text m₁ t₁ n₁ u₁ r′ m′ t′ n′ u′
+    → checking r m t n u ≡ checking r′ m′ t′ n′ u′
+same-text = ?same-text

@@ -1,6 +1,6 @@
 -- The functions of a text, parsed and typed, and what the five slices hold then.
 -- "All parsing (with labels and edges of each function) before all typing."
-use Prim.Native.Nat.{ℕ}
+use Prim.Native.Nat.{ℕ, _≤_}
 use mathlib.Core.Path.{_≡_}
 use mathlib.Core.List.{List, [], _∷_, _++_}
 use lib.ListN.{length}
@@ -95,6 +95,12 @@ cleared s₀ = asLong s₀ (slices [] [] [] [] [])
 abbrev pub unitRead : Outcome → ProgramRead
 unitRead (checked fs) = U.Done (countsFrom none fs)
 unitRead (refused e) = U.Refused e
+
+-- how many records there are
+abbrev pub Counted : ProgramRead → Type 0
+Counted (U.Done n) =
+    (n .functions ≤ 64) × (n .items ≤ 3072) × (n .arguments ≤ 3464) × (n .blocks ≤ 1024) × (n .predecessors ≤ 2048)
+Counted (U.Refused e) = Unit
 
 -- Before a refusal's slices are cleared nothing is said of them.
 abbrev pub UnitHeld : List Tok → List ℕ → Slices → Slices → Outcome → Type 0

@@ -8,7 +8,7 @@ ghost use lib.ListN.{length};
 ghost use Rattle.lexer.specs.Decoded.{tokensOf};
 ghost use Rattle.body.specs.Room.{Within};
 ghost use Rattle.functions.specs.Answer.{Long, slices};
-ghost use Rattle.typing.specs.Outcome.{cleared, asLong, unitD, unitRead, unitSlices, UnitHeld};
+ghost use Rattle.typing.specs.Outcome.{cleared, asLong, unitD, unitRead, unitSlices, Counted, UnitHeld};
 use functions::ProgramRead;
 use sema::Checked;
 
@@ -33,6 +33,7 @@ fn build(
         (slices (now (functions .exit)) (now (items .exit)) (now (arguments .exit)) (now (blocks .exit))
         (now (predecessors .exit)))
         (unitD (tokensOf (now (tokens .entry)))) ⌝ }
+    ensures { λ r. ⌜ Counted r ⌝ }
 {
     match functions::parse(
         tokens,
@@ -71,6 +72,7 @@ pub fn unit(
         ≡ asLong (slices (now (functions .entry)) (now (items .entry)) (now (arguments .entry)) (now (blocks .entry))
         (now (predecessors .entry)))
         (unitSlices (tokensOf (now (tokens .entry))) (now (names .entry)) (unitD (tokensOf (now (tokens .entry))))) ⌝ }
+    ensures { λ r. ⌜ Counted r ⌝ }
 {
     clear::clear_five(functions, items, arguments, blocks, predecessors);
     match build(
