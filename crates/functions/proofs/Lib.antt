@@ -7,3 +7,5 @@ pub mod HeaderOn
 pub mod Whole
 pub mod Taken
 pub mod SimFunctions
+-- the rows of all functions, read back: laws for callers
+pub mod Standing
