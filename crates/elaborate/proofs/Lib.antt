@@ -2,3 +2,5 @@
 pub mod Turns
 -- writing the types into cells is the list form
 pub mod Lists
+-- the callees by name, from the rows: a law for callers
+pub mod Rows

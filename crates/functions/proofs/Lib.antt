@@ -10,3 +10,5 @@ pub mod Taken
 pub mod SimFunctions
 -- what is stored on cleared slices is the list form
 pub mod Laid
+-- the rows of all functions, read back: laws for callers
+pub mod Standing

@@ -36,7 +36,7 @@ known-snoc (suc n) cells i =
     let f : suc n + 1 ≡ suc (n + 1) = omega arith in
     rw (e, f, known-snoc n cells (i + 1))
 
-length-variables : (vs : List Variable) → length (variablesCells vs) ≡ length vs * 2
+pub length-variables : (vs : List Variable) → length (variablesCells vs) ≡ length vs * 2
 unfolding variablesCells
 length-variables [] = refl
 length-variables (v ∷ vs) = omega (arith, length-variables vs)

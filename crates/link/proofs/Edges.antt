@@ -8,8 +8,12 @@ use borrow.Author.Tests.{eqb-true}
 use lib.Dec.{eqb}
 use lib.ListN.{length, length-append}
 use Rattle.utils.specs.Bytes.{pick}
-use Rattle.parser.specs.Blocks.{Part, name, operation, Block, fresh, grown, blocksFrom, blocksAfter, blocksOf}
+use Rattle.parser.specs.Body.{Item, label, plain, call, callInto, targets}
+use Rattle.parser.specs.Blocks.{Part, name, operation, numbersOf, partOf, partsOf, Block, fresh, grown, blocksFrom}
+use Rattle.parser.specs.Blocks.{blocksAfter, blocksOf}
 use Rattle.parser.specs.Edges.{Place, at, nowhere, placeOf, thenPlace, places, successors, entering, predecessors}
+use Rattle.parser.specs.declared.Operation.{Operation}
+use Rattle.parser.specs.declared.Operation.the-variants as O
 use Rattle.body.specs.Records.{recordAt, recordPart, goesOf, partsAt}
 use Rattle.body.specs.declared.ItemRecord.{ItemRecord}
 use Rattle.link.specs.Steps.{entriesFrom}
@@ -155,6 +159,32 @@ thin-after (operation w goes ∷ ps) here ls t =
 
 pub thin-blocks : (cells : List ℕ) (first count : ℕ) → Thin (blocksOf (partsAt cells first count))
 thin-blocks cells first count = thin-after (partsAt cells first count) 0 [] (thin-parts cells count first)
+
+-- .. and of items as they were parsed
+thin-operation : (o : Operation) → length (numbersOf (targets o)) ≤ 2
+thin-operation (O.BinaryOp w v x y) = omega arith
+thin-operation (O.UnaryOp w v x) = omega arith
+thin-operation (O.Const w v) = omega arith
+thin-operation (O.Jump w l) = omega arith
+thin-operation (O.Branch w x l m) = omega arith
+thin-operation (O.Ret w) = omega arith
+thin-operation (O.RetValue w x) = omega arith
+thin-operation (O.Print w x) = omega arith
+thin-operation (O.Nop w) = omega arith
+
+thin-item : (i : Item) → ThinPart (partOf i)
+thin-item (label w l) = tt
+thin-item (plain o) = thin-operation o
+thin-item (call w g xs) = omega arith
+thin-item (callInto w v g xs) = omega arith
+
+thin-each : (is : List Item) → ThinParts (partsOf is)
+unfolding partsOf
+thin-each [] = tt
+thin-each (i ∷ is) = (thin-item i, thin-each is)
+
+pub thin-items : (is : List Item) → Thin (blocksOf (partsOf is))
+thin-items is = thin-after (partsOf is) 0 [] (thin-each is)
 
 place-few : (p : Place) (more : List ℕ) (n : ℕ) → length more ≤ n → length (thenPlace p (λ k. k ∷ more) more) ≤ suc n
 unfolding thenPlace
