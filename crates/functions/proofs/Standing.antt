@@ -100,6 +100,14 @@ row-long ts names f first base h =
     let e = length-append (headCells ts names f first base) (variablesCells (f .head .formals)) in
     omega (arith, e, length-variables (f .head .formals))
 
+-- row i: the function that stands there, behind those that are counted
+pub record Row (ts : List Tok) (names rows : List ℕ) (i : ℕ) : Type 0 where
+  pub before : Counts
+  pub function : Function
+  pub behind : List ℕ
+  pub fits : Fits before function
+  pub stands : drop (rowAt i) rows ≡ rowCells ts names function (before .items) (before .blocks) ++ behind
+
 module _ (ts : List Tok) (names : List ℕ) (rows rest : List ℕ) where
   -- a row and those behind it
   pub row-stands : (n : Counts) (f : Function) (fs : List Function)
@@ -126,22 +134,35 @@ module _ (ts : List Tok) (names : List ℕ) (rows rest : List ℕ) where
       ∙ drop-at (padTo 45 row) (more ++ rest) 45 (length-padTo 45 row (row-long ts names f (n .items) (n .blocks) few))
       )
 
-  pub types-few : (fs : List Function) (n : Counts) → FitsFrom n fs
+  -- row i is that of a function that fits
+  pub each-row : (fs : List Function) (n : Counts) → FitsFrom n fs
       → drop (rowAt (n .functions)) rows ≡ rowsCells ts names n fs ++ rest
-      → (i : ℕ) → i < length fs → getD rows (typeAt (n .functions + i)) 0 ≤ 64
+      → (k i : ℕ) → k < length fs → i ≡ n .functions + k → Row ts names rows i
   unfolding FitsFrom
-  types-few [] n w h i g = absurd (omega arith)
-  types-few (f ∷ fs) n w h zero g =
+  each-row [] n w h k i g e = absurd (omega arith)
+  each-row (f ∷ fs) n w h zero i g e =
       let s = row-stands n f fs h in
-      let e : typeAt (n .functions + 0) ≡ typeAt (n .functions) = omega arith in
-      rw (e, row-type ts names f (n .items) (n .blocks) rows (n .functions) (s .0) (s .1)) (w .0 .type-few)
-  types-few (f ∷ fs) n w h (suc i) g =
-      let e : typeAt (n .functions + suc i) ≡ typeAt (n .functions + 1 + i) = omega arith in
-      rw e (types-few fs (countsWith n f) (w .1) (rows-behind n f fs (w .0 .formals-few) h) i (omega arith))
+      let at : i ≡ n .functions = omega arith in
+      record { before = n; function = f; behind = s .0; fits = w .0; stands = rw at (s .1) }
+  each-row (f ∷ fs) n w h (suc k) i g e =
+      each-row fs (countsWith n f) (w .1) (rows-behind n f fs (w .0 .formals-few) h) k i (omega arith) (omega arith)
 
-  pub types-stored : (fs : List Function) → FitsFrom (counts 0 0 0 0 0) fs
-      → drop 1 rows ≡ rowsCells ts names (counts 0 0 0 0 0) fs ++ rest
-      → (i : ℕ) → i < length fs → getD rows (typeAt i) 0 ≤ 64
-  types-stored fs w h i g =
-      let e : typeAt i ≡ typeAt (0 + i) = omega arith in
-      rw e (types-few fs (counts 0 0 0 0 0) w h i g)
+  module _ (fs : List Function) (fit : FitsFrom (counts 0 0 0 0 0) fs)
+      (stand : drop 1 rows ≡ rowsCells ts names (counts 0 0 0 0 0) fs ++ rest) (i : ℕ) (there : i < length fs) where
+    row : Row ts names rows i
+    row = each-row fs (counts 0 0 0 0 0) fit stand i i there (omega arith)
+
+    pub types-stored : getD rows (typeAt i) 0 ≤ 64
+    types-stored =
+        let n = row .before in
+        rw (row-type ts names (row .function) (n .items) (n .blocks) rows i (row .behind) (row .stands))
+        (row .fits .type-few)
+
+    pub items-stored : getD rows (9 + i * 45) 0 + getD rows (10 + i * 45) 0 ≤ 3072
+    items-stored =
+        let n = row .before in
+        rw (
+          row-first ts names (row .function) (n .items) (n .blocks) rows i (row .behind) (row .stands),
+          row-items ts names (row .function) (n .items) (n .blocks) rows i (row .behind) (row .stands),
+        )
+        (row .fits .items-few)
