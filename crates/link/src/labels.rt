@@ -41,16 +41,18 @@ fn block_of(before: usize, i: usize) -> BlockId
     BlockId(k)
 }
 
+// The block of the first label of this name, in text order.
 fn get(labels: &[u32], labelled: usize, before: usize, name: Identifier) -> Found
     requires { ⌜ (labelled ≤ 255) × (labelled ≤ length (now labels)) ⌝ }
     ensures { λ r. ⌜ r ≡ foundOf (labelPlace before 0 (take labelled (now (labels .entry))) (name .0)) ⌝ }
 {
-    let mut i: usize = 0;
-    while i < labelled {
+    let mut rest = labelled;
+    while 0 < rest {
+        let i = labelled - rest;
         if labels[i] == name.0 {
             return Found::At(block_of(before, i));
         }
-        i += 1;
+        rest -= 1;
     }
     Found::Nowhere
 }

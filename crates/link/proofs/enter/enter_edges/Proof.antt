@@ -17,7 +17,7 @@ use Rattle.link.proofs.enter.enter_edges.Tie as tie
 abbrev Inv-loop : tie.InvT-loop
 Inv-loop blocks base n j sources₀ used here₀ rest₀ sources here rest =
     (k : ℕ) × (k + rest ≡ n)
-    × Entered (predecessors j 0 (linksAt blocks base n)) (predecessors j k (linksAt blocks (base + k) rest)) used here sources₀ sources
+    × Entered (predecessors (j .0) 0 (linksAt blocks base n)) (predecessors (j .0) k (linksAt blocks (base + k) rest)) used here sources₀ sources
 
 abbrev μ-loop : tie.MeasureT-loop
 μ-loop blocks base n j sources₀ used here₀ rest₀ sources here rest =
@@ -26,7 +26,7 @@ abbrev μ-loop : tie.MeasureT-loop
 loop-holds : tie.Need-loop-holds Inv-loop μ-loop
 loop-holds c =
     let a = c .before .before .args in
-    (0, omega arith, rw add-zero (entered-none (predecessors (a .j) 0 (linksAt (now (a .blocks)) (a .base) (a .n))) (a .used) (now (a .sources))))
+    (0, omega arith, rw add-zero (entered-none (predecessors (a .j .0) 0 (linksAt (now (a .blocks)) (a .base) (a .n))) (a .used) (now (a .sources))))
 
 next-source-requires : tie.Need-next-source-requires Inv-loop μ-loop
 next-source-requires c κs = omega arith
@@ -42,15 +42,15 @@ mul-at c = search needs
 
 enter-from-requires : tie.Need-enter-from-requires Inv-loop μ-loop
 enter-from-requires c κs =
-    let a = c .before .before .before .before .before .before .args in
-    let pre = c .before .before .before .before .before .before .pre in
-    let loop = c .before .before .before .loop in
-    let loop-test = c .before .before .loop-test in
-    let next-source = c .before .next-source in
+    let a = c .before .before .before .before .before .before .before .args in
+    let pre = c .before .before .before .before .before .before .before .pre in
+    let loop = c .before .before .before .before .loop in
+    let loop-test = c .before .before .before .loop-test in
+    let next-source = c .before .before .next-source in
     let cells = now (a .blocks) in
-    let k = next-source .result in
+    let k = next-source .result .0 in
     let same : loop .inv .0 ≡ k = omega arith in
-    let more = predecessors-more cells (a .base) (a .j) k (loop .rest) (loop-test .taken) in
+    let more = predecessors-more cells (a .base) (a .j .0) k (loop .rest) (loop-test .taken) in
     let inv = rw same at (loop .inv .2) in
     let e = rw (more, length-append) at (inv .count) in
     (omega arith, omega (arith, e, inv .long, pre .1))
@@ -64,17 +64,17 @@ loop-less c = omega arith
 loop-again : tie.Need-loop-again Inv-loop μ-loop
 loop-again c =
     let back8 = c .before .before .before .before .before .before .before .before in
-    let a = back8 .before .args in
-    let loop = c .before .before .before .before .before .before .loop in
-    let loop-test = c .before .before .before .before .before .loop-test in
-    let next-source = c .before .before .before .before .next-source in
+    let a = back8 .before .before .args in
+    let loop = c .before .before .before .before .before .before .before .loop in
+    let loop-test = c .before .before .before .before .before .before .loop-test in
+    let next-source = c .before .before .before .before .before .next-source in
     let enter-from = c .before .before .enter-from in
     let cells = now (a .blocks) in
-    let k = next-source .result in
+    let k = next-source .result .0 in
     let same : loop .inv .0 ≡ k = omega arith in
-    let more = predecessors-more cells (a .base) (a .j) k (loop .rest) (loop-test .taken) in
+    let more = predecessors-more cells (a .base) (a .j .0) k (loop .rest) (loop-test .taken) in
     let inv = rw same at (loop .inv .2) in
-    (k + 1, omega arith, entered-more (entering (a .j) k (goesAt cells ((a .base + k) * 8)) []) (predecessors (a .j) (k + 1) (linksAt cells (a .base + (k + 1)) (loop .rest - 1))) (enter-from .result) (enter-from .last .1 .1 .1 .1 .0) inv more (enter-from .ensures))
+    (k + 1, omega arith, entered-more (entering (a .j .0) k (goesAt cells ((a .base + k) * 8)) []) (predecessors (a .j .0) (k + 1) (linksAt cells (a .base + (k + 1)) (loop .rest - 1))) (enter-from .result) (enter-from .last .1 .1 .1 .1 .0) inv more (enter-from .ensures))
 
 same-length : tie.Need-same-length Inv-loop μ-loop
 same-length c =
@@ -86,7 +86,7 @@ returns c =
     let a = c .before .before .before .before .args in
     let loop = c .before .loop in
     let cells = now (a .blocks) in
-    entered-all (loop .inv .2) (predecessors-none cells (a .base + loop .inv .0) (a .j) (loop .inv .0) (loop .rest) (omega arith))
+    entered-all (loop .inv .2) (predecessors-none cells (a .base + loop .inv .0) (a .j .0) (loop .inv .0) (loop .rest) (omega arith))
 
 pub enter-edges-spec : {M : Type 1} → statement M
 enter-edges-spec =

@@ -15,7 +15,7 @@ returns c =
 returns-2 : tie.Need-returns-2
 unfolding entersD pick
 returns-2 c =
-    let if1 = c .if1 in
+    let if1 = c .before .before .if1 in
     rw (lt-ltb _ _ (if1 .left))
 
 pub enters-spec : {M : Type 1} → statement M

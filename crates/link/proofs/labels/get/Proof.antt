@@ -1,11 +1,11 @@
--- The labels from `i` on decide as all of them do.
+-- The labels that are left decide as all of them do.
 use borrow.Author.Needs.{needs}
 use borrow.Author.Tests.{eq-eqb, ne-eqb}
 use native.Mathlib.Omega.{arith}
 use native.Mathlib.Numerals.{add-one}
-use Prim.Native.Nat.{_-_, _≤_}
-use mathlib.Core.Path.{_≡_, refl}
-use lib.ListN.{length, drop, take}
+use Prim.Native.Nat.{_+_, _-_, _≤_, _<_}
+use mathlib.Core.Path.{_≡_}
+use lib.ListN.{length, drop, take, getD}
 use lib.Seq.{drop-cons}
 use denote.Ref.{now}
 use Rattle.utils.specs.Bytes.{pick}
@@ -16,17 +16,23 @@ use Rattle.link.proofs.labels.get.Statement.{statement}
 use Rattle.link.proofs.labels.get.Tie as tie
 
 abbrev Inv-loop : tie.InvT-loop
-Inv-loop labels labelled before name i₀ i =
-    (i ≤ labelled)
-    × (labelPlace before i (drop i (take labelled labels)) (name .0)
+Inv-loop labels labelled before name rest₀ rest =
+    (rest ≤ labelled)
+    × (labelPlace before (labelled - rest) (drop (labelled - rest) (take labelled labels)) (name .0)
     ≡ labelPlace before 0 (take labelled labels) (name .0))
 
 abbrev μ-loop : tie.MeasureT-loop
-μ-loop labels labelled before name i₀ i =
-    labelled - i
+μ-loop labels labelled before name rest₀ rest =
+    rest
 
 loop-holds : tie.Need-loop-holds Inv-loop μ-loop
-loop-holds c = (omega arith, refl)
+loop-holds c =
+    let n = c .before .args .labelled in
+    let none : n - n ≡ 0 = omega arith in
+    (omega arith, rw none)
+
+sub-i : tie.Need-sub-i Inv-loop μ-loop
+sub-i c = search needs
 
 mul-if1 : tie.Need-mul-if1 Inv-loop μ-loop
 mul-if1 c = search needs
@@ -49,14 +55,16 @@ returns c =
     let s = now (args .labels) in
     let n = args .labelled in
     let t = take n s in
-    let i = loop .i in
+    let i = n - loop .rest in
+    let same : getD s i 0 ≡ args .name .0 = if1 .taken in
+    let less : i < n = omega (arith, loop-test .taken, loop .inv .0) in
     let l : length t ≡ n = length-take-le n s (pre .1) in
-    let d = drop-cons t i 0 (omega (arith, loop-test .taken)) in
-    let g = getD-take n s i 0 (loop-test .taken) in
-    rw (← loop .inv .1, d, g, eq-eqb _ _ (if1 .taken), block-of .ensures)
+    let d = drop-cons t i 0 (omega (arith, less, l)) in
+    let g = getD-take n s i 0 less in
+    rw (← loop .inv .1, d, g, eq-eqb _ _ same, block-of .ensures)
 
-add-i : tie.Need-add-i Inv-loop μ-loop
-add-i c = search needs
+sub-rest : tie.Need-sub-rest Inv-loop μ-loop
+sub-rest c = search needs
 
 loop-less : tie.Need-loop-less Inv-loop μ-loop
 loop-less c = omega arith
@@ -72,11 +80,14 @@ loop-again c =
     let s = now (args .labels) in
     let n = args .labelled in
     let t = take n s in
-    let i = loop .i in
+    let i = n - loop .rest in
+    let other : getD s i 0 ≡ args .name .0 → ⊥ = if1 .left in
+    let less : i < n = omega (arith, loop-test .taken, loop .inv .0) in
     let l : length t ≡ n = length-take-le n s (pre .1) in
-    let d = drop-cons t i 0 (omega (arith, loop-test .taken)) in
-    let g = getD-take n s i 0 (loop-test .taken) in
-    (omega arith, rw (← loop .inv .1, d, g, ne-eqb _ _ (if1 .left), add-one i))
+    let d = drop-cons t i 0 (omega (arith, less, l)) in
+    let g = getD-take n s i 0 less in
+    let next : n - (loop .rest - 1) ≡ i + 1 = omega (arith, loop-test .taken, loop .inv .0) in
+    (omega (arith, loop .inv .0), rw (next, ← loop .inv .1, d, g, ne-eqb _ _ other, add-one i))
 
 returns-2 : tie.Need-returns-2 Inv-loop μ-loop
 unfolding labelPlace
@@ -88,9 +99,9 @@ returns-2 c =
     let s = now (args .labels) in
     let n = args .labelled in
     let t = take n s in
-    let i = loop .i in
+    let i = n - loop .rest in
     let l : length t ≡ n = length-take-le n s (pre .1) in
-    rw (← loop .inv .1, drop-of-length-le t {i = i} (omega (arith, loop-test .left)))
+    rw (← loop .inv .1, drop-of-length-le t {i = i} (omega (arith, l, loop-test .left)))
 
 pub get-spec : {M : Type 1} → statement M
 get-spec =
@@ -99,11 +110,12 @@ get-spec =
     Inv-loop
     μ-loop
     loop-holds
+    sub-i
     mul-if1
     shared-slice-read-if1
     block-of-requires
     returns
-    add-i
+    sub-rest
     loop-less
     loop-again
     returns-2)
