@@ -132,8 +132,10 @@ module _ (ts : List Tok) (names : List ℕ) (s₀ : Slices) where
         let e = functions-end ts (64 - n .functions) (knownFrom (s .functions) 0 (n .functions)) types at q h in
         let f : programD ts .end ≡ C.At at = sym (g .ends) ∙ ap (λ (p : Program). p .end) e in
         let k : n .functions ≡ length (programD ts .functions) = omega (arith, rw e at (g .number)) in
-        rw f (ap U.Done (rw e at (g .counted)),
-        (rw k (ap (withCount (length (programD ts .functions))) (rw e at (g .stored))), g .fits (rw e tt)))
+        rw f (
+          ap U.Done (rw e at (g .counted)),
+          (rw k (ap (withCount (length (programD ts .functions))) (rw e at (g .stored))), g .fits (rw e tt)),
+        )
 
     pub at-refused : {t : TokenAt} {e : Refusal} → t ≡ tokenAt ts at → (t .kind ≡ 38 → ⊥)
         → functionD ts (leb 64 (n .functions)) (knownFrom (s .functions) 0 (n .functions)) types at ≡ noFunction e

@@ -79,7 +79,10 @@ module _ (ts : List Tok) (known : List Known) (types : ℕ) (w : TypesFew types 
           header (record { name = g; formals = optionalFormals ts at1 .list; ret = ret; type = type }) next)))
       typed g at1 (R.At ret at2) =
           typed-entered g (signature ret (optionalFormals ts at1 .list)) at at2 (λ type. record {
-            name = g; formals = optionalFormals ts at1 .list; ret = ret; type = type;
+            name = g;
+            formals = optionalFormals ts at1 .list;
+            ret = ret;
+            type = type;
           }) (λ type. refl)
       typed g at1 (R.Refused e) = tt
 

@@ -15,7 +15,7 @@ use Rattle.typing.specs.Rows.{firstItemAt, itemCountAt, Done, done, then
 
 module _ (ts : List Tok) (rows : List ℕ) (n : ℕ) (blocks t₀ : List ℕ) (i : ℕ) (items args : List ℕ) {d : Done}
     (same : typedRows ts rows n blocks t₀ i (n - i) items args ≡ d) where
-  module _ (h : i < n) {t t₁ : List ℕ} {r : Checked} (l : length t ≡ length t₀)
+  module _ (h : i < n) (t : List ℕ) {t₁ : List ℕ} {r : Checked} (l : length t ≡ length t₀)
       (op : typed t₁ r ≡ rowD ts rows n items args blocks i t) where
     row-same : typed t₁ r ≡ rowD ts rows n items args blocks i t₀
     row-same = op ∙ rw l
@@ -38,3 +38,7 @@ module _ (ts : List Tok) (rows : List ℕ) (n : ℕ) (blocks t₀ : List ℕ) (i
   pub rows-ended : n ≤ i → done K.Fine items args ≡ d
   unfolding typedRows
   rows-ended h = let m : n - i ≡ 0 = omega arith in rw (← same, m)
+
+pub rows-begun : (ts : List Tok) (rows : List ℕ) (n : ℕ) (blocks t₀ items args : List ℕ)
+    → typedRows ts rows n blocks t₀ 0 (n - 0) items args ≡ typedRows ts rows n blocks t₀ 0 n items args
+rows-begun ts rows n blocks t₀ items args = let m : n - 0 ≡ n = omega arith in rw m

@@ -8,6 +8,14 @@ ghost use Rattle.lexer.specs.Decoded.{tokensOf};
 ghost use Rattle.typing.specs.Rows.{RowsFit, typedRows, RowsHeld};
 use sema::Checked;
 
+// A cell of a row, as an index or a count.
+fn cell(rows: &[u32], at: usize) -> usize
+    requires { ⌜ at < length (now rows) ⌝ }
+    ensures { λ r. ⌜ r ≡ getD (now (rows .entry)) at 0 ⌝ }
+{
+    rows[at] as usize
+}
+
 // All functions, in text order.
 fn type_with(
     tokens: &[u32],
@@ -30,8 +38,8 @@ fn type_with(
                 return Checked::Refused(e);
             }
             Checked::Fine => {
-                let first = rows[9 + row * 45] as usize;
-                let count = rows[10 + row * 45] as usize;
+                let first = cell(rows, 9 + row * 45);
+                let count = cell(rows, 10 + row * 45);
                 elaborate::elaborate(table, rows, n, items, first, count, arguments);
                 row += 1;
             }

@@ -75,7 +75,7 @@ returns c =
     let clear-arg5 = c .before .before .before .clear-arg5 in
     let clear5 = c .before .before .clear5 in
     let predecessors = c .before .predecessors in
-    ?returns
+    rw (clear .ensures, clear2 .ensures, clear3 .ensures, clear4 .ensures, clear5 .ensures)
 
 pub clear-five-spec : {M : Type 1} → statement M
 clear-five-spec =
