@@ -4,14 +4,16 @@ use mathlib.Core.Path.{_≡_, refl, sym, ap, subst, _∙_}
 use mathlib.Core.List.{List, []}
 use mathlib.Core.Bool.{Bool, true, false}
 use native.Mathlib.Omega.{arith}
-use borrow.Author.Tests.{eq-eqb, ne-eqb}
+use borrow.Author.Tests.{eq-eqb, ne-eqb, le-ltb}
 use lib.Dec.{eqb}
 use lib.ListN.{length}
 use Rattle.utils.specs.Bytes.{pick, padTo}
 use Rattle.lexer.specs.Read.{Reading, reading, readOf, readDef, Reads}
 use Rattle.lexer.specs.Read as lexed
 use Rattle.lexer.specs.Numbered as lexes
-use Rattle.lexer.specs.Decoded.{Tok, tokensOf}
+use Rattle.lexer.specs.Decoded.{Tok, tokensOf, tokenAt}
+use Rattle.lexer.specs.declared.TokenAt.{TokenAt}
+use Rattle.messages.specs.Messages.{messageOf}
 use Rattle.lexer.specs.declared.ReadAnswer.{ReadAnswer}
 use Rattle.parser.specs.declared.Refusal.{Refusal}
 use Rattle.functions.specs.Answer.{Slices, slices, countsFrom}
@@ -20,7 +22,8 @@ use Rattle.functions.specs.declared.ProgramRead.{ProgramRead}
 use Rattle.functions.specs.declared.ProgramRead.the-variants as U
 use Rattle.typing.specs.Outcome.{Outcome, checked, refused, unitD, unitRead, unitSlices, asLong, cleared, none}
 use Rattle.checker.specs.Check.{Checking, accepted, refusal, refusing, refusedAt, checkedOr, readAs, checkOf}
-use Rattle.checker.specs.Promise.{checking, padded, sized, sizedUnit, allSized, checkDef, refusedBy, Lexed, Refuses, Checks}
+use Rattle.checker.specs.Promise.{checking, padded, sized, sizedUnit, allSized, checkDef, refusedBy, Lexed, Refuses, Sizes}
+use Rattle.checker.specs.Promise.{IfSized, IfSizedUnit, Checks}
 use Rattle.checker.specs.declared.CheckAnswer.{CheckAnswer}
 use Rattle.checker.proofs.Lexed.{no-message}
 
@@ -79,7 +82,53 @@ unread text h = from (lexed.lexedFrom 1 text) h
     from (lexes.Outcome.refused e) g = (refl, refl)
     from lexes.Outcome.cut g = absurd (g refl)
 
+-- the same by the cells in use
+module _ (text m t n : List ℕ) (u : Slices) (r : ReadAnswer) (v : Lexed text r m t n) (tk nm : List ℕ)
+    (tk-is : tk ≡ readOf text .tokens) (nm-is : nm ≡ readOf text .names) (u′ : Slices)
+    (unit-is : u′ ≡ asLong u (unitSlices (tokensOf tk) nm (unitD (tokensOf tk)))) where
+  unit-same : u′ ≡ asLong u (unitSlices (tokensOf (readOf text .tokens)) (readOf text .names)
+      (unitD (tokensOf (readOf text .tokens))))
+  unit-same =
+      unit-is
+      ∙ ap (λ (x : List ℕ). asLong u (unitSlices (tokensOf x) nm (unitD (tokensOf x)))) tk-is
+      ∙ ap (λ (x : List ℕ). asLong u (unitSlices (tokensOf (readOf text .tokens)) x (unitD (tokensOf (readOf text .tokens)))))
+      nm-is
+
+  pub ends-accepted : (k : Counts) → U.Done k ≡ unitRead (unitD (tokensOf tk))
+      → checking (accepted (r .tokens) (r .names) k) m t n u′ ≡ padded m t n u (checkOf text)
+  ends-accepted k h =
+      check-accepts text m t n u r v u′ unit-same k (h ∙ ap (λ (x : List ℕ). unitRead (unitD (tokensOf x))) tk-is)
+
+  pub ends-refused : (e : Refusal) → U.Refused e ≡ unitRead (unitD (tokensOf tk))
+      → (res : CheckAnswer) (m′ t′ n′ : List ℕ) → Refuses text e m t n res m′ t′ n′
+      → checking res m′ t′ n′ u′ ≡ padded m t n u (checkOf text)
+  ends-refused e h res m′ t′ n′ w =
+      check-refuses text m t n u r v u′ unit-same e (h ∙ ap (λ (x : List ℕ). unitRead (unitD (tokensOf x))) tk-is) res m′ t′ n′ w
+
+pub refuses-by-cells : (text m t n : List ℕ) (e : Refusal) (tk nm : List ℕ) → tk ≡ readOf text .tokens → nm ≡ readOf text .names
+    → (x : TokenAt) → x ≡ tokenAt (tokensOf tk) (e .token)
+    → (res : CheckAnswer) (m′ t′ n′ : List ℕ) → res ≡ refusal (e .number) (x .line .0) (x .place)
+    → m′ ≡ padTo (length m) (messageOf text (tokensOf tk) nm e) → t′ ≡ padTo (length t) [] → n′ ≡ padTo (length n) []
+    → Refuses text e m t n res m′ t′ n′
+refuses-by-cells text m t n e tk nm p q x w res m′ t′ n′ a b d f =
+    record {
+      answer =
+          a
+          ∙ ap (λ (y : TokenAt). refusal (e .number) (y .line .0) (y .place))
+          (w ∙ ap (λ (y : List ℕ). tokenAt (tokensOf y) (e .token)) p);
+      message =
+          b
+          ∙ ap (λ (y : List ℕ). padTo (length m) (messageOf text (tokensOf y) nm e)) p
+          ∙ ap (λ (y : List ℕ). padTo (length m) (messageOf text (tokensOf (readOf text .tokens)) y e)) q;
+      tokens = d;
+      names = f;
+    }
+
 -- Once `read` is done. ----------------------------------------------------------------------------------------------
+
+pub sized-read : (t n m : ℕ) → 16384 ≤ t → 2048 ≤ n → 512 ≤ m → lexed.sized t n m ≡ true
+unfolding lexed.sized pick
+sized-read t n m a b d = rw (le-ltb _ _ a, le-ltb _ _ b, le-ltb _ _ d)
 
 module _ (text t₀ n₀ m₀ : List ℕ) (r : ReadAnswer) (t n m : List ℕ) (reads : Reads text t₀ n₀ m₀ r t n m)
     (ok : lexed.sized (length t₀) (length n₀) (length m₀) ≡ true) where
@@ -155,6 +204,28 @@ module _ (text m t n : List ℕ) (u : Slices) (unit ok : Bool)
   unfolding checkDef pick
   shorts h r e = by-parts (rw (← sized-is, h, e))
 
+pub seen-by : (unit : Bool) (m t n : ℕ) → 512 ≤ m → 16384 ≤ t → 2048 ≤ n → IfSized unit unit m t n
+seen-by true m t n a b d = (a, b, d, refl)
+seen-by false m t n a b d = tt
+
+-- what the gate has seen
+pub sizes-seen : (m t n : List ℕ) (u : Slices) (unit ok : Bool) → ok ≡ true
+    → IfSized ok unit (length m) (length t) (length n)
+    → IfSizedUnit unit (length (u .functions)) (length (u .items)) (length (u .arguments)) (length (u .blocks))
+    (length (u .predecessors))
+    → Sizes m t n u
+sizes-seen m t n u unit ok h a b =
+    let a′ = subst (λ (x : Bool). IfSized x unit (length m) (length t) (length n)) h a in
+    let b′ = subst (λ (x : Bool). IfSizedUnit x (length (u .functions)) (length (u .items)) (length (u .arguments))
+    (length (u .blocks)) (length (u .predecessors))) (a′ .3) b in
+    record {
+      message-long = a′ .0;
+      tokens-long = a′ .1;
+      names-long = a′ .2;
+      functions-long = b′ .0;
+      long = record { items-long = b′ .1; arguments-long = b′ .2; blocks-long = b′ .3; predecessors-long = b′ .4 };
+    }
+
 -- TWO PERMITTED ANSWERS ARE EQUAL
 pub permitted-equal : {text m₀ t₀ n₀ : List ℕ} {u₀ : Slices} {r r′ : CheckAnswer} {m t n m′ t′ n′ : List ℕ} {u u′ : Slices}
     → Checks text m₀ t₀ n₀ u₀ r m t n u → Checks text m₀ t₀ n₀ u₀ r′ m′ t′ n′ u′
@@ -162,9 +233,32 @@ pub permitted-equal : {text m₀ t₀ n₀ : List ℕ} {u₀ : Slices} {r r′ :
 permitted-equal a b = as-whole a ∙ sym (as-whole b)
 
 -- EQUAL TEXTS AND LENGTHS GIVE EQUAL ANSWERS, whatever the slices held before
+pub record SameLengths (m₀ t₀ n₀ : List ℕ) (u₀ : Slices) (m₁ t₁ n₁ : List ℕ) (u₁ : Slices) : Type 0 where
+  pub message : length m₀ ≡ length m₁
+  pub tokens : length t₀ ≡ length t₁
+  pub names : length n₀ ≡ length n₁
+  pub functions : length (u₀ .functions) ≡ length (u₁ .functions)
+  pub items : length (u₀ .items) ≡ length (u₁ .items)
+  pub arguments : length (u₀ .arguments) ≡ length (u₁ .arguments)
+  pub blocks : length (u₀ .blocks) ≡ length (u₁ .blocks)
+  pub predecessors : length (u₀ .predecessors) ≡ length (u₁ .predecessors)
+
 pub same-text : {text m₀ t₀ n₀ m₁ t₁ n₁ : List ℕ} {u₀ u₁ : Slices} {r r′ : CheckAnswer} {m t n m′ t′ n′ : List ℕ} {u u′ : Slices}
-    → allSized m₀ t₀ n₀ u₀ ≡ true → length m₀ ≡ length m₁ → length t₀ ≡ length t₁ → length n₀ ≡ length n₁
-    → cleared u₀ ≡ cleared u₁
+    → allSized m₀ t₀ n₀ u₀ ≡ true → SameLengths m₀ t₀ n₀ u₀ m₁ t₁ n₁ u₁
     → Checks text m₀ t₀ n₀ u₀ r m t n u → Checks text m₁ t₁ n₁ u₁ r′ m′ t′ n′ u′
     → checking r m t n u ≡ checking r′ m′ t′ n′ u′
-same-text = ?same-text
+unfolding checkDef pick
+same-text s l a b =
+    rw (
+      as-whole a,
+      as-whole b,
+      ← l .message,
+      ← l .tokens,
+      ← l .names,
+      ← l .functions,
+      ← l .items,
+      ← l .arguments,
+      ← l .blocks,
+      ← l .predecessors,
+      s,
+    )

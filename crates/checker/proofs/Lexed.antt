@@ -4,7 +4,7 @@ use mathlib.Core.Path.{_≡_, refl, sym, ap, subst, _∙_}
 use mathlib.Core.List.{List, [], _∷_, _++_, append-nil}
 use native.Mathlib.Omega.{arith}
 use lib.ListN.{length, take, drop, replicate}
-use lib.Seq.{slice, take-at}
+use lib.Seq.{take-at}
 use Rattle.utils.specs.Bytes.{padTo}
 use Rattle.pieces.specs.Refusals.{factsOf}
 use Rattle.lexer.specs.Numbered.{Outcome, tokensCells, namesCells}
@@ -28,8 +28,10 @@ unpadded l =
     ap (λ (k : ℕ). l ++ replicate k 0) m ∙ append-nil l
 
 -- the first cells of a padded list are the list
-front : (n k : ℕ) (l s : List ℕ) → s ≡ padTo n l → length l ≡ k → slice 0 k s ≡ l
-front n k l s e h = ap (take k) e ∙ take-at l (replicate (n - length l) 0) k h
+front : (n k : ℕ) (l s : List ℕ) → s ≡ padTo n l → length l ≡ k → take (k - 0) (drop 0 s) ≡ l
+front n k l s e h =
+    let m : k - 0 ≡ k = omega arith in
+    rw m (ap (take k) e ∙ take-at l (replicate (n - length l) 0) k h)
 
 module _ {text m t n : List ℕ} {r : ReadAnswer} (v : Lexed text r m t n) where
   pub is-done : Done text 1 (r .tokens) (r .names)
@@ -70,12 +72,12 @@ module _ {text m t n : List ℕ} {r : ReadAnswer} (v : Lexed text r m t n) where
   names-few = omega (arith, is-done .counted-names, is-done .sound .few-names)
 
   -- the cells in use
-  pub used-tokens : slice 0 (r .tokens * 4) t ≡ readOf text .tokens
+  pub used-tokens : take (r .tokens * 4 - 0) (drop 0 t) ≡ readOf text .tokens
   used-tokens =
       front (length t) (r .tokens * 4) (readOf text .tokens) t (v .tokens)
       (ap length read-tokens ∙ length-tokens-cells (is-done .ts) ∙ ap (λ (k : ℕ). k * 4) (sym (is-done .counted)))
 
-  pub used-names : slice 0 (r .names * 2) n ≡ readOf text .names
+  pub used-names : take (r .names * 2 - 0) (drop 0 n) ≡ readOf text .names
   used-names =
       front (length n) (r .names * 2) (readOf text .names) n (v .names)
       (ap length read-names ∙ length-names-cells (is-done .ns) ∙ ap (λ (k : ℕ). k * 2) (sym (is-done .counted-names)))

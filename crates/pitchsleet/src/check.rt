@@ -1,0 +1,98 @@
+// From a text to the bytes of its check.
+ghost use mathlib.Core.Path.{_≡_};
+ghost use Prim.Native.Nat.{ℕ, _≤_};
+ghost use lib.ListN.{length};
+ghost use Rattle.utils.specs.Bytes.{padTo};
+ghost use Rattle.functions.specs.Answer.{slices};
+ghost use Rattle.checker.specs.Check.{checkOf, refusal};
+ghost use Rattle.pitchsleet.specs.CheckBytes.{cellBytes, Sizes, export, exported};
+use checker::CheckAnswer;
+
+// All cells, one slice after the other, and zeros.
+fn put_all(
+    tokens: &[u32],
+    names: &[u32],
+    functions: &[u32],
+    items: &[u32],
+    arguments: &[u32],
+    blocks: &[u32],
+    predecessors: &[u32],
+    out: &mut [u8],
+)
+    requires { ⌜ Sizes (now tokens) (now names)
+        (slices (now functions) (now items) (now arguments) (now blocks) (now predecessors))
+        × (252228 ≤ length (now out)) ⌝ }
+    ensures { λ r. ⌜ now (out .exit) ≡ padTo (length (now (out .entry)))
+        (cellBytes (now (tokens .entry)) (now (names .entry))
+        (slices (now (functions .entry)) (now (items .entry)) (now (arguments .entry)) (now (blocks .entry))
+        (now (predecessors .entry)))) ⌝ }
+{
+    crate::put_cells(out, 0, tokens);
+    crate::put_cells(out, 65536, names);
+    crate::put_cells(out, 73728, functions);
+    crate::put_cells(out, 85252, items);
+    crate::put_cells(out, 183556, arguments);
+    crate::put_cells(out, 211268, blocks);
+    crate::put_cells(out, 244036, predecessors);
+    crate::clear_from(out, 252228);
+}
+
+// Checks into cells, and stores them as bytes. All slices have their sizes, so `check` never answers 30 here.
+pub fn check_out(
+    text: &[u8],
+    tokens: &mut [u32; 16384],
+    names: &mut [u32; 2048],
+    functions: &mut [u32; 2881],
+    items: &mut [u32; 24576],
+    arguments: &mut [u32; 6928],
+    blocks: &mut [u32; 8192],
+    predecessors: &mut [u32; 2048],
+    out: &mut [u8],
+    message: &mut [u8],
+) -> CheckAnswer
+    requires { ⌜ Sizes (now tokens) (now names)
+        (slices (now functions) (now items) (now arguments) (now blocks) (now predecessors))
+        × (252228 ≤ length (now out)) × (512 ≤ length (now message)) ⌝ }
+    ensures { λ r. ⌜ export r (now (out .exit)) (now (message .exit))
+        ≡ exported (now (out .entry)) (now (message .entry)) (checkOf (now (text .entry))) ⌝ }
+{
+    let answer = checker::check(
+        text,
+        tokens,
+        names,
+        functions,
+        items,
+        arguments,
+        blocks,
+        predecessors,
+        message,
+    );
+    put_all(
+        tokens,
+        names,
+        functions,
+        items,
+        arguments,
+        blocks,
+        predecessors,
+        out,
+    );
+    answer
+}
+
+pub fn short() -> CheckAnswer
+    ensures { λ r. ⌜ r ≡ refusal 30 0 0 ⌝ }
+{
+    CheckAnswer {
+        number: 30,
+        line: 0,
+        place: 0,
+        tokens: 0,
+        names: 0,
+        functions: 0,
+        items: 0,
+        arguments: 0,
+        blocks: 0,
+        predecessors: 0,
+    }
+}
