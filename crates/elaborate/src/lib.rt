@@ -8,16 +8,7 @@ ghost use Rattle.elaborate.specs.Types.{typeOf, calleeOf, isCall, typedR
 ghost use Rattle.elaborate.specs.Types.{typedItems, typedCalls};
 use body::ItemRecord;
 use body::records;
-
-// A cell, or 0 past the end.
-fn cell_at(cells: &[u32], at: usize) -> u32
-    ensures { λ r. ⌜ r ≡ getD (now (cells .entry)) at 0 ⌝ }
-{
-    if at < cells.len() {
-        return cells[at];
-    }
-    0
-}
+use utils::cell_at;
 
 // The function type of the first function of this name among n.
 fn callee_type(rows: &[u32], n: usize, name: u32) -> u32

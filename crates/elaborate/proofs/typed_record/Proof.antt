@@ -17,7 +17,6 @@ use Rattle.elaborate.proofs.typed_record.Tie as tie
 use Rattle.elaborate.proofs.typed_record.Reads as reads
 use Rattle.elaborate.proofs.typed_record.Lts as lts
 use Rattle.elaborate.proofs.callee_type.Reads as callee-type-reads
-use Rattle.elaborate.proofs.cell_at.Reads as cell-at-reads
 use Rattle.elaborate.proofs.is_call.Reads as is-call-reads
 
 -- src/lib.rt:58:34
