@@ -1,12 +1,12 @@
--- Document 01's cases marked * for check: one table with one claim, shown by computation. (Their blocks and edges are
--- in crates/functions/specs/Cases.antt.) A row is a text and what it gives: a refusal's number, line, place and
--- message; or 0, how many tokens and functions it has, and of each item its kind and the types in its cells.
-use Prim.Native.Nat.{ℕ}
+-- Document 01's cases marked * for check: one table with one claim, shown by computation. A row is a text and what it
+-- gives: a refusal's number, line, place and message; or how many tokens and functions it has, its items (with the
+-- `ret`s that are added) and its blocks with their edges.
+use Prim.Native.Nat.{ℕ, zero, suc, _*_}
 use Prim.Native.String.{String}
 use mathlib.Core.Path.{_≡_, refl}
 use mathlib.Core.List.{List, [], _∷_, _++_}
 use mathlib.Core.Bool.{Bool, true, false}
-use lib.Dec.{eqb}
+use lib.ListN.{length, getD, take, drop}
 use Rattle.utils.specs.Bytes.{pick, bytes, sameBytes}
 use Rattle.body.specs.Records.{operationRecord, recordOf}
 use Rattle.link.specs.Cells.{blockCells, predecessorCells}
@@ -26,53 +26,99 @@ unfolding
     allPredecessors checkOf
 opened = 0
 
--- the kind and the three types of each item
-abbrev kinds : List ℕ → List ℕ
-kinds (k ∷ w ∷ d ∷ dt ∷ l ∷ lt ∷ r ∷ rt ∷ s) = k ∷ dt ∷ lt ∷ rt ∷ kinds s
-kinds (k ∷ w ∷ d ∷ dt ∷ l ∷ lt ∷ r ∷ []) = []
-kinds (k ∷ w ∷ d ∷ dt ∷ l ∷ lt ∷ []) = []
-kinds (k ∷ w ∷ d ∷ dt ∷ l ∷ []) = []
-kinds (k ∷ w ∷ d ∷ dt ∷ []) = []
-kinds (k ∷ w ∷ d ∷ []) = []
-kinds (k ∷ w ∷ []) = []
-kinds (k ∷ []) = []
-kinds [] = []
+-- Records of eight cells (docs/INTERFACE.md), as a row of the table gives them. --------------------------------------
 
--- of an accepted text
-abbrev accepted : Checking → List ℕ
-accepted c = 0 ∷ c .answer .tokens ∷ c .answer .functions ∷ kinds (c .unit .items)
+-- n records
+eights : ℕ → List ℕ → List (List ℕ)
+eights zero cells = []
+eights (suc n) cells = take 8 cells ∷ eights n (drop 8 cells)
 
-abbrev numbers : Checking → List ℕ
-numbers c =
-    let a = c .answer in
-    pick (eqb (a .number) 0) (accepted c) (a .number ∷ a .line ∷ a .place ∷ [])
+-- an item: its kind, and the types of its result, its left and its right operand. In the last place a call has how many
+-- arguments it has, a `br` its second label's name
+abbrev item : ℕ → ℕ → ℕ → ℕ → List ℕ
+item kind result left right = kind ∷ result ∷ left ∷ right ∷ []
+
+abbrev label : List ℕ
+label = item 1 0 0 0
+
+abbrev nop : List ℕ
+nop = item 8 0 0 0
+
+abbrev ret : List ℕ
+ret = item 11 0 0 0
+
+abbrev retValue : List ℕ
+retValue = item 12 0 0 0
+
+-- a block: how many operations it has, its successors, its predecessors and its dead mark
+abbrev block : ℕ → List ℕ → List ℕ → ℕ → List ℕ
+block operations goes from dead = operations ∷ length goes ∷ (goes ++ (length from ∷ (from ++ (dead ∷ []))))
+
+itemsIn : List (List ℕ) → List ℕ
+itemsIn [] = []
+itemsIn (r ∷ rs) = item (getD r 0 0) (getD r 3 0) (getD r 5 0) (getD r 7 0) ++ itemsIn rs
+
+blocksIn : List ℕ → List (List ℕ) → List ℕ
+blocksIn preds [] = []
+blocksIn preds (r ∷ rs) =
+    block (getD r 1 0) (take (getD r 2 0) (getD r 3 0 ∷ getD r 4 0 ∷ []))
+    (take (getD r 6 0) (drop (getD r 5 0) preds)) (getD r 7 0)
+    ++ blocksIn preds rs
+
+-- The table. --------------------------------------------------------------------------------------------------------
+
+-- number, line, place, how many tokens, functions, items and blocks, the cells of the last two; then items and blocks
+numbers : Checking → List ℕ
+numbers k =
+    let a = k .answer in
+    let u = k .unit in
+    a .number ∷ a .line ∷ a .place ∷ a .tokens ∷ a .functions
+    ∷ a .items ∷ length (u .items) ∷ a .blocks ∷ length (u .blocks)
+    ∷ (itemsIn (eights (a .items) (u .items)) ++ blocksIn (u .predecessors) (eights (a .blocks) (u .blocks)))
 
 pub record Case : Type 0 where
   pub text : String
   pub gives : List ℕ
   pub says : String
 
-abbrev case : String → List ℕ → String → Case
-case s g m = record { text = s; gives = g; says = m }
+joined : List (List ℕ) → List ℕ
+joined [] = []
+joined (r ∷ rs) = r ++ joined rs
+
+-- a text that is refused with this number, line, place and message
+abbrev refuses : String → ℕ → ℕ → ℕ → String → Case
+refuses s number line place m =
+    record { text = s; gives = number ∷ line ∷ place ∷ 0 ∷ 0 ∷ 0 ∷ 0 ∷ 0 ∷ 0 ∷ []; says = m }
+
+-- a text that has so many tokens and functions, these items and these blocks
+abbrev accepts : String → ℕ → ℕ → List (List ℕ) → List (List ℕ) → Case
+accepts s tokens functions items blocks =
+    let is = length items in
+    let bs = length blocks in
+    record {
+      text = s;
+      gives = 0 ∷ 0 ∷ 0 ∷ tokens ∷ functions ∷ is ∷ is * 8 ∷ bs ∷ bs * 8 ∷ (joined items ++ joined blocks);
+      says = "";
+    }
 
 unfoldable cases : List Case
 cases =
-    case "" (0 ∷ 1 ∷ 0 ∷ []) ""
-    ∷ case "@f { nop; }" (0 ∷ 6 ∷ 1 ∷ 8 ∷ 0 ∷ 0 ∷ 0 ∷ 11 ∷ 0 ∷ 0 ∷ 0 ∷ []) ""
-    ∷ case "@f { }" (22 ∷ 1 ∷ 0 ∷ []) "[line 1] Error : empty block."
-    ∷ case "@f { .a: .b: nop; }"
-    (0 ∷ 10 ∷ 1 ∷ 1 ∷ 0 ∷ 0 ∷ 0 ∷ 1 ∷ 0 ∷ 0 ∷ 0 ∷ 8 ∷ 0 ∷ 0 ∷ 0 ∷ 11 ∷ 0 ∷ 0 ∷ 0 ∷ []) ""
-    ∷ case "@f { nop; .a: .b: nop; }" (22 ∷ 1 ∷ 0 ∷ []) "[line 1] Error : empty block."
-    ∷ case "@f { ret; nop; }" (12 ∷ 1 ∷ 10 ∷ []) "[line 1] Error at 'nop': Basic block must start with a label."
-    ∷ case "@f { x: int = call @g x; } @g(a: int): int { ret a; }"
-    (0 ∷ 25 ∷ 2 ∷ 6 ∷ 1 ∷ 5 ∷ 1 ∷ 11 ∷ 0 ∷ 0 ∷ 0 ∷ 12 ∷ 0 ∷ 0 ∷ 0 ∷ []) ""
-    ∷ case "@f { x: int = const true; }" (17 ∷ 1 ∷ 20 ∷ [])
-    "[line 1] Error at 'true': 'int' type expected; 'bool' found"
-    ∷ case "@f: int { nop; }" (21 ∷ 1 ∷ 10 ∷ [])
-    "[line 1] Error at 'nop': Block terminator expected to be jump, br, or ret."
-    ∷ case "@f { x: int = const 2147483648; }" (10 ∷ 1 ∷ 14 ∷ [])
+    accepts "" 1 0 [] []
+    ∷ accepts "@f { nop; }" 6 1 (nop ∷ ret ∷ []) (block 2 [] [] 0 ∷ [])
+    ∷ refuses "@f { }" 22 1 0 "[line 1] Error : empty block."
+    ∷ accepts "@f { .a: .b: nop; }" 10 1 (label ∷ label ∷ nop ∷ ret ∷ []) (block 2 [] [] 0 ∷ [])
+    ∷ refuses "@f { nop; .a: .b: nop; }" 22 1 0 "[line 1] Error : empty block."
+    ∷ refuses "@f { ret; nop; }" 12 1 10 "[line 1] Error at 'nop': Basic block must start with a label."
+    ∷ accepts "@f { .a: br q .a .a; }" 11 1 (label ∷ item 10 0 0 1 ∷ [])
+    (block 1 (0 ∷ 0 ∷ []) (0 ∷ 0 ∷ []) 0 ∷ [])
+    -- the call's result is an `int`, and its callee has function type 1
+    ∷ accepts "@f { x: int = call @g x; } @g(a: int): int { ret a; }" 25 2 (item 6 1 5 1 ∷ ret ∷ retValue ∷ [])
+    (block 2 [] [] 0 ∷ block 1 [] [] 0 ∷ [])
+    ∷ refuses "@f { x: int = const true; }" 17 1 20 "[line 1] Error at 'true': 'int' type expected; 'bool' found"
+    ∷ refuses "@f: int { nop; }" 21 1 10 "[line 1] Error at 'nop': Block terminator expected to be jump, br, or ret."
+    ∷ refuses "@f { x: int = const 2147483648; }" 10 1 14
     "[line 1] Error at 'const': Integer or boolean constant expected."
-    ∷ case "@f { nop 2147483648; }" (0 ∷ 6 ∷ 1 ∷ 8 ∷ 0 ∷ 0 ∷ 0 ∷ 11 ∷ 0 ∷ 0 ∷ 0 ∷ []) ""
+    ∷ accepts "@f { nop 2147483648; }" 6 1 (nop ∷ ret ∷ []) (block 2 [] [] 0 ∷ [])
     ∷ []
 
 -- a message ends with a newline
@@ -89,5 +135,5 @@ right (c ∷ cs) =
 
 -- THE CLAIM
 all-right : right cases ≡ true
-unfolding opened cases right
+unfolding opened eights itemsIn blocksIn numbers joined cases right
 all-right = refl

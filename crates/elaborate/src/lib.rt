@@ -2,22 +2,13 @@
 ghost use mathlib.Core.Path.{_≡_};
 ghost use Prim.Native.Nat.{ℕ, _+_, _*_, _≤_, _<_};
 ghost use lib.ListN.{length, getD, set};
-ghost use Rattle.body.specs.Records.{recordAt};
+ghost use Rattle.body.specs.Records.{itemRecord, recordAt};
 ghost use Rattle.functions.specs.Rows.{typeAt};
 ghost use Rattle.elaborate.specs.Types.{typeOf, calleeOf, isCall, typedRecord, typedRun, typedArguments};
 ghost use Rattle.elaborate.specs.Types.{typedItems, typedCalls};
 use body::ItemRecord;
 use body::records;
-
-// A cell, or 0 past the end.
-fn cell_at(cells: &[u32], at: usize) -> u32
-    ensures { λ r. ⌜ r ≡ getD (now (cells .entry)) at 0 ⌝ }
-{
-    if at < cells.len() {
-        return cells[at];
-    }
-    0
-}
+use utils::cell_at;
 
 // The function type of the first function of this name among n.
 fn callee_type(rows: &[u32], n: usize, name: u32) -> u32
@@ -43,57 +34,40 @@ fn is_call(kind: u32) -> bool
     kind == 6
 }
 
+// An item with other types of its left and right operands.
+fn with_types(r: ItemRecord, lty: u32, rty: u32) -> ItemRecord
+    ensures { λ res. ⌜ res ≡ itemRecord (r .kind) (r .token) (r .dest) (r .dty) (r .left) lty (r .right) rty ⌝ }
+{
+    ItemRecord {
+        kind: r.kind,
+        token: r.token,
+        dest: r.dest,
+        dty: r.dty,
+        left: r.left,
+        lty,
+        right: r.right,
+        rty,
+    }
+}
+
 // An item with the types of its operands.
 fn typed_record(r: ItemRecord, table: &[u32], rows: &[u32], n: usize) -> ItemRecord
     requires { ⌜ (n ≤ 64) × (2881 ≤ length (now rows)) × ((i : ℕ) → i < n → getD (now rows) (typeAt i) 0 ≤ 64) ⌝ }
     ensures { λ res. ⌜ res ≡ typedRecord (now (table .entry)) (calleeOf (now (rows .entry)) n) r ⌝ }
 {
     let kind = r.kind;
-    let token = r.token;
-    let dest = r.dest;
-    let dty = r.dty;
     let left = r.left;
     let right = r.right;
     let rty = r.rty;
     if kind == 2 {
         let lty = cell_at(table, left as usize);
-        let rty = cell_at(table, right as usize);
-        return ItemRecord {
-            kind,
-            token,
-            dest,
-            dty,
-            left,
-            lty,
-            right,
-            rty,
-        };
+        return with_types(r, lty, cell_at(table, right as usize));
     }
     if kind == 3 {
-        let lty = cell_at(table, left as usize);
-        return ItemRecord {
-            kind,
-            token,
-            dest,
-            dty,
-            left,
-            lty,
-            right,
-            rty,
-        };
+        return with_types(r, cell_at(table, left as usize), rty);
     }
     if is_call(kind) {
-        let lty = callee_type(rows, n, left);
-        return ItemRecord {
-            kind,
-            token,
-            dest,
-            dty,
-            left,
-            lty,
-            right,
-            rty,
-        };
+        return with_types(r, callee_type(rows, n, left), rty);
     }
     r
 }

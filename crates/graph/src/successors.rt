@@ -1,9 +1,10 @@
 // The successors of a function's blocks, from block records to rows of two cells and a count.
 ghost use mathlib.Core.Path.{_≡_};
 ghost use Prim.Native.Nat.{ℕ, _<_, _≤_};
-ghost use lib.ListN.{length, getD};
+ghost use lib.ListN.{length};
 ghost use Rattle.graph.specs.Records.{recorded, blocksIn};
 ghost use Rattle.graph.specs.Frames.{rowOf};
+use utils::cell_at;
 
 // How many blocks are looked at.
 pub fn at_most_256(count: u32) -> u32
@@ -13,16 +14,6 @@ pub fn at_most_256(count: u32) -> u32
         return 256;
     }
     count
-}
-
-// A cell, or 0 past the end.
-fn cell_at(cells: &[u32], at: usize) -> u32
-    ensures { λ r. ⌜ r ≡ getD (now (cells .entry)) at 0 ⌝ }
-{
-    if at < cells.len() {
-        return cells[at];
-    }
-    0
 }
 
 // The first n blocks from the record `first` on.

@@ -6,7 +6,7 @@ ghost use mathlib.Core.Path.{_≡_};
 ghost use mathlib.Core.List.{[]};
 ghost use Prim.Native.Nat.{ℕ, _+_, _-_, _*_, _≤_, _<_};
 ghost use lib.Dec.{ltb};
-ghost use lib.ListN.{length, take, getD};
+ghost use lib.ListN.{length, take};
 ghost use lib.Seq.{sets};
 ghost use Rattle.utils.specs.Bytes.{pick, padTo};
 ghost use Rattle.pieces.specs.Pieces.{pieceAt};
@@ -364,21 +364,10 @@ pub fn get_name<'t, 'n>(text: &'t [u8], names: &'n [u32], id: Identifier) -> &'t
     ensures { λ r. ⌜ now r ≡ nameOf (now (text .entry)) (now (names .entry)) (id .0) ⌝ }
 {
     let at = id.0 as usize * 2;
-    let place = cell_at(names, at);
-    let end = place + cell_at(names, at + 1);
+    let place = utils::cell_at(names, at) as usize;
+    let end = place + utils::cell_at(names, at + 1) as usize;
     if end <= text.len() {
         return &text[place..end];
     }
     &text[0..0]
-}
-
-// A cell, or 0 past the end.
-fn cell_at(cells: &[u32], at: usize) -> usize
-    ensures { λ r. ⌜ r ≡ getD (now (cells .entry)) at 0 ⌝ }
-    ensures { λ r. ⌜ r < 4294967296 ⌝ }
-{
-    if at < cells.len() {
-        return cells[at] as usize;
-    }
-    0
 }

@@ -103,7 +103,7 @@ parsedItem ts (P.Refused e) = refused e
 unfoldable pub itemD : List Tok → ℕ → ItemAt
 itemD ts at = parsedItem ts (instructionD ts at)
 
--- The body. -------------------------------------------------------------------------------------------------------------
+-- The body. ---------------------------------------------------------------------------------------------------------
 
 -- The items that were read, and where the body ended or why it was refused.
 pub record Body : Type 0 where

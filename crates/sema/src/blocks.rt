@@ -2,7 +2,7 @@
 ghost use mathlib.Core.Path.{_≡_};
 ghost use mathlib.Core.List.{List};
 ghost use Prim.Native.Nat.{ℕ, _+_, _*_, _≤_, _<_};
-ghost use lib.ListN.{length, getD};
+ghost use lib.ListN.{length};
 ghost use Rattle.lexer.specs.Decoded.{tokensOf};
 ghost use Rattle.body.specs.Records.{recordAt};
 ghost use Rattle.sema.specs.Symbols.{typed};
@@ -17,16 +17,7 @@ use crate::symbols;
 use body::ItemRecord;
 use lexer::token_at;
 use pieces::Identifier;
-
-// A cell, or 0 past the end.
-pub(crate) fn cell_at(cells: &[u32], at: usize) -> u32
-    ensures { λ r. ⌜ r ≡ getD (now (cells .entry)) at 0 ⌝ }
-{
-    if at < cells.len() {
-        return cells[at];
-    }
-    0
-}
+use utils::cell_at;
 
 // A record, with 0 for every cell past the end.
 fn record_at(items: &[u32], i: usize) -> ItemRecord

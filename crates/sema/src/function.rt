@@ -71,8 +71,8 @@ fn analyze_recorded(
         (blockItems (now (items .entry)) (now (arguments .entry)) (now (blocks .entry)) k) ⌝ }
 {
     let at = k * 8;
-    let first = blocks::cell_at(blocks, at);
-    let count = blocks::cell_at(blocks, at + 1);
+    let first = utils::cell_at(blocks, at);
+    let count = utils::cell_at(blocks, at + 1);
     blocks::analyze_block(tokens, rows, n, ret, table, items, arguments, first, count)
 }
 

@@ -1,8 +1,8 @@
-// The message form of utils/src/lib.rs, and the stores and clears of lent buffers that every crate shares.
+// The message form of utils/src/lib.rs, and the reads, stores and clears of lent buffers that every crate shares.
 ghost use mathlib.Core.Path.{_≡_};
 ghost use Prim.Native.Nat.{ℕ, _+_, _-_, _<_, _≤_};
 ghost use mathlib.Core.List.{[], _++_};
-ghost use lib.ListN.{length, replicate};
+ghost use lib.ListN.{length, getD};
 ghost use lib.Seq.{sets};
 ghost use Rattle.utils.specs.Bytes.{padTo};
 ghost use Rattle.utils.specs.Message.{digits, decimal, reported};
@@ -27,6 +27,16 @@ pub fn clear_bytes(buf: &mut [u8])
         buf[i] = 0;
         i += 1;
     }
+}
+
+// A cell, or 0 past the end.
+pub fn cell_at(cells: &[u32], at: usize) -> u32
+    ensures { λ r. ⌜ r ≡ getD (now (cells .entry)) at 0 ⌝ }
+{
+    if at < cells.len() {
+        return cells[at];
+    }
+    0
 }
 
 // Stores a part from a place on, and hands back the place after it.

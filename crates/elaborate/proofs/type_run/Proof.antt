@@ -18,7 +18,6 @@ use Rattle.elaborate.proofs.type_run.Statement.{statement}
 use Rattle.elaborate.proofs.type_run.Tie as tie
 use Rattle.elaborate.proofs.type_run.Reads as reads
 use Rattle.elaborate.proofs.type_run.Lts as lts
-use Rattle.elaborate.proofs.cell_at.Reads as cell-at-reads
 use Rattle.elaborate.proofs.put_cell.Reads as put-cell-reads
 
 abbrev Inv-loop : tie.InvT-loop

@@ -20,11 +20,17 @@ mul-at c = search needs
 cell-at-requires : tie.Need-cell-at-requires
 cell-at-requires c κs = search needs
 
+cast-place : tie.Need-cast-place
+cast-place c = search needs
+
 add-cell-at : tie.Need-add-cell-at
 add-cell-at c = search needs
 
 cell-at-requires-2 : tie.Need-cell-at-requires-2
 cell-at-requires-2 c κs = search needs
+
+cast-end : tie.Need-cast-end
+cast-end c = search needs
 
 add-end : tie.Need-add-end
 add-end c = search needs
@@ -49,8 +55,8 @@ returns c =
     let len = cell-at2 .result in
     let e : place + len - place ≡ len = omega arith in
     rw (
-      ← cell-at .ensures .0,
-      ← cell-at2 .ensures .0,
+      ← cell-at .ensures,
+      ← cell-at2 .ensures,
       le-leb _ _ (if1 .taken),
       e,
     ) (part-slice place len (now (a .text)))
@@ -70,7 +76,7 @@ returns-2 c =
     let cell-at = c .before .before .before .cell-at in
     let cell-at2 = c .before .before .cell-at2 in
     let if1 = c .before .if1 in
-    rw (← cell-at .ensures .0, ← cell-at2 .ensures .0, lt-leb _ _ (if1 .left))
+    rw (← cell-at .ensures, ← cell-at2 .ensures, lt-leb _ _ (if1 .left))
 
 pub get-name-spec : {M : Type 1} → statement M
 get-name-spec =
@@ -79,8 +85,10 @@ get-name-spec =
     cast-at
     mul-at
     cell-at-requires
+    cast-place
     add-cell-at
     cell-at-requires-2
+    cast-end
     add-end
     sub-result
     part-result-start

@@ -17,7 +17,8 @@ use Rattle.link.proofs.enter.enter_edges.Tie as tie
 abbrev Inv-loop : tie.InvT-loop
 Inv-loop blocks base n j sources₀ used here₀ rest₀ sources here rest =
     (k : ℕ) × (k + rest ≡ n)
-    × Entered (predecessors (j .0) 0 (linksAt blocks base n)) (predecessors (j .0) k (linksAt blocks (base + k) rest)) used here sources₀ sources
+    × Entered (predecessors (j .0) 0 (linksAt blocks base n))
+    (predecessors (j .0) k (linksAt blocks (base + k) rest)) used here sources₀ sources
 
 abbrev μ-loop : tie.MeasureT-loop
 μ-loop blocks base n j sources₀ used here₀ rest₀ sources here rest =
@@ -26,7 +27,8 @@ abbrev μ-loop : tie.MeasureT-loop
 loop-holds : tie.Need-loop-holds Inv-loop μ-loop
 loop-holds c =
     let a = c .before .before .args in
-    (0, omega arith, rw add-zero (entered-none (predecessors (a .j .0) 0 (linksAt (now (a .blocks)) (a .base) (a .n))) (a .used) (now (a .sources))))
+    let all = predecessors (a .j .0) 0 (linksAt (now (a .blocks)) (a .base) (a .n)) in
+    (0, omega arith, rw add-zero (entered-none all (a .used) (now (a .sources))))
 
 next-source-requires : tie.Need-next-source-requires Inv-loop μ-loop
 next-source-requires c κs = omega arith
@@ -74,7 +76,12 @@ loop-again c =
     let same : loop .inv .0 ≡ k = omega arith in
     let more = predecessors-more cells (a .base) (a .j .0) k (loop .rest) (loop-test .taken) in
     let inv = rw same at (loop .inv .2) in
-    (k + 1, omega arith, entered-more (entering (a .j .0) k (goesAt cells ((a .base + k) * 8)) []) (predecessors (a .j .0) (k + 1) (linksAt cells (a .base + (k + 1)) (loop .rest - 1))) (enter-from .result) (enter-from .last .1 .1 .1 .1 .0) inv more (enter-from .ensures))
+    let own = entering (a .j .0) k (goesAt cells ((a .base + k) * 8)) [] in
+    let later = predecessors (a .j .0) (k + 1) (linksAt cells (a .base + (k + 1)) (loop .rest - 1)) in (
+      k + 1,
+      omega arith,
+      entered-more own later (enter-from .result) (enter-from .last .1 .1 .1 .1 .0) inv more (enter-from .ensures),
+    )
 
 same-length : tie.Need-same-length Inv-loop μ-loop
 same-length c =
@@ -86,7 +93,8 @@ returns c =
     let a = c .before .before .before .before .args in
     let loop = c .before .loop in
     let cells = now (a .blocks) in
-    entered-all (loop .inv .2) (predecessors-none cells (a .base + loop .inv .0) (a .j .0) (loop .inv .0) (loop .rest) (omega arith))
+    let none = predecessors-none cells (a .base + loop .inv .0) (a .j .0) (loop .inv .0) (loop .rest) (omega arith) in
+    entered-all (loop .inv .2) none
 
 pub enter-edges-spec : {M : Type 1} → statement M
 enter-edges-spec =

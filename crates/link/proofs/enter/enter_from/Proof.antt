@@ -47,7 +47,8 @@ put-source-requires c κs =
     let enters2 = c .before .enters2 in
     let cells = now (a .blocks) in
     let s = now (a .sources) in
-    room-first cells (a .at) (a .j .0) (a .k .0) (a .used) s (enters .result) (enters2 .result) (enters .ensures) (enters2 .ensures)
+    room-first cells (a .at) (a .j .0) (a .k .0) (a .used) s
+    (enters .result) (enters2 .result) (enters .ensures) (enters2 .ensures)
     (pre .1)
 
 put-source-requires-2 : tie.Need-put-source-requires-2
@@ -60,7 +61,8 @@ put-source-requires-2 c κs =
     let put-source = c .before .before .before .put-source in
     let cells = now (a .blocks) in
     let s = now (a .sources) in
-    room-second cells (a .at) (a .j .0) (a .k .0) (a .used) s (enters .result) (enters2 .result) (enters .ensures) (enters2 .ensures)
+    room-second cells (a .at) (a .j .0) (a .k .0) (a .used) s
+    (enters .result) (enters2 .result) (enters .ensures) (enters2 .ensures)
     (put-source .result) (put-source .last .0) (pre .1) (put-source .ensures .0) (put-source .kept .0)
 
 same-length : tie.Need-same-length
@@ -76,8 +78,10 @@ returns c =
     let put-source2 = c .before .before .put-source2 in
     let cells = now (a .blocks) in
     let s = now (a .sources) in
-    two-sources cells (a .at) (a .j .0) (a .k .0) (a .used) s (enters .result) (enters2 .result) (enters .ensures) (enters2 .ensures)
-    (put-source .result) (put-source2 .result) (put-source .last .0) (put-source2 .last .0) (put-source .ensures) (put-source2 .ensures)
+    two-sources cells (a .at) (a .j .0) (a .k .0) (a .used) s
+    (enters .result) (enters2 .result) (enters .ensures) (enters2 .ensures)
+    (put-source .result) (put-source2 .result) (put-source .last .0) (put-source2 .last .0)
+    (put-source .ensures) (put-source2 .ensures)
 
 pub enter-from-spec : {M : Type 1} → statement M
 enter-from-spec =

@@ -3,8 +3,8 @@ use borrow.Author.Needs.{needs}
 use mathlib.Core.Path.{sym}
 use lib.ListN.{List·getD-eq-default}
 use denote.Ref.{now}
-use Rattle.graph.proofs.successors.cell_at.Statement.{statement}
-use Rattle.graph.proofs.successors.cell_at.Tie as tie
+use Rattle.utils.proofs.cell_at.Statement.{statement}
+use Rattle.utils.proofs.cell_at.Tie as tie
 
 mul-result : tie.Need-mul-result
 mul-result c = search needs
