@@ -1,10 +1,14 @@
 // The C functions. Cells go out as little-endian bytes at the offsets of docs/INTERFACE.md.
+mod check;
+
 ghost use mathlib.Core.Path.{_≡_};
 ghost use Prim.Native.Nat.{ℕ, _+_, _-_, _*_, _<_, _≤_};
 ghost use lib.ListN.{length, replicate};
 ghost use lib.Seq.{sets};
 ghost use Rattle.lexer.specs.Read.{readOf, refusal};
 ghost use Rattle.pitchsleet.specs.Bytes.{le32, le32s, export, exported, Exports};
+ghost use Rattle.pitchsleet.specs.CheckBytes as checks;
+use checker::CheckAnswer;
 use lexer::ReadAnswer;
 
 // A cell as four bytes, the lowest first.
@@ -92,4 +96,37 @@ pub extern "C" fn pitchsleet_read(text: &[u8], out: &mut [u8], message: &mut [u8
     let mut tokens = [0u32; 16384];
     let mut names = [0u32; 2048];
     read_out(text, &mut tokens, &mut names, out, message)
+}
+
+// Document 01's check for a C or Rust host. The gate stands before anything is written, on both slices.
+#[no_mangle]
+pub extern "C" fn pitchsleet_check(text: &[u8], out: &mut [u8], message: &mut [u8]) -> CheckAnswer
+    ensures { λ r. ⌜ checks.Exports (now (text .entry)) (now (out .entry)) (now (message .entry))
+        r (now (out .exit)) (now (message .exit)) ⌝ }
+{
+    if out.len() < 252228 {
+        return check::short();
+    }
+    if message.len() < 512 {
+        return check::short();
+    }
+    let mut tokens = [0u32; 16384];
+    let mut names = [0u32; 2048];
+    let mut functions = [0u32; 2881];
+    let mut items = [0u32; 24576];
+    let mut arguments = [0u32; 6928];
+    let mut blocks = [0u32; 8192];
+    let mut predecessors = [0u32; 2048];
+    check::check_out(
+        text,
+        &mut tokens,
+        &mut names,
+        &mut functions,
+        &mut items,
+        &mut arguments,
+        &mut blocks,
+        &mut predecessors,
+        out,
+        message,
+    )
 }
