@@ -15,6 +15,7 @@ use std::ops::Range;
 use std::process::ExitCode;
 
 use support::compare::Comparison;
+use support::oracle::Depth;
 use support::texts;
 
 /// How many texts go by between two lines of progress.
@@ -55,7 +56,7 @@ fn write_texts(seed: u64, count: u64) -> ExitCode {
 }
 
 fn compare(seed: u64, count: u64) -> ExitCode {
-    let mut comparison = Comparison::new();
+    let mut comparison = Comparison::new(Depth::Read);
     for numbers in strides(count) {
         comparison.all(texts::generated(seed, numbers));
         eprintln!("fuzz: seed {seed}: {}", comparison.report);

@@ -8,8 +8,9 @@ use std::process::{Command, Output, Stdio};
 use std::thread;
 
 use pitchsleet::Reader;
+use support::by_crate::by_reader;
 use support::json::Json;
-use support::said::{Said, by_reader};
+use support::said::Said;
 use support::{edges, texts};
 
 const TOOL: &str = env!("CARGO_BIN_EXE_pitchsleet");
@@ -248,7 +249,7 @@ fn assert_same(line: &Json, said: &Said) {
             assert_eq!(&message, m);
             assert_eq!(line.get("tokens"), None);
         }
-        Said::Accepted { tokens, names } => {
+        Said::Accepted { tokens, names, .. } => {
             assert_eq!((number("number"), number("line"), number("place"), message.len()), (0, 0, 0, 0));
             let expected: Vec<Json> = tokens
                 .iter()

@@ -8,6 +8,7 @@ mod support;
 use std::io::Write;
 
 use support::compare::{Comparison, Report};
+use support::oracle::Depth;
 use support::{edges, texts};
 
 const TEXTS: u64 = 40_000;
@@ -21,7 +22,7 @@ fn from_environment(name: &str, default: u64) -> u64 {
 }
 
 fn compare(what: &str, texts: impl IntoIterator<Item = Vec<u8>>) -> Report {
-    let mut comparison = Comparison::new();
+    let mut comparison = Comparison::new(Depth::Read);
     comparison.all(texts);
     let report = comparison.report;
     // Not by `println!`, whose output a passing test keeps to itself.

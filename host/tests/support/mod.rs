@@ -4,6 +4,7 @@
 
 pub mod against_model;
 pub mod against_rust;
+pub mod by_crate;
 pub mod compare;
 pub mod dice;
 pub mod edges;
@@ -11,5 +12,6 @@ pub mod grammar;
 pub mod json;
 pub mod model;
 pub mod oracle;
+pub mod records;
 pub mod said;
 pub mod texts;
