@@ -10,6 +10,7 @@ use std::thread;
 use pitchsleet::Reader;
 use support::by_crate::by_reader;
 use support::json::Json;
+use support::oracle::Depth;
 use support::said::Said;
 use support::{edges, texts};
 
@@ -229,7 +230,7 @@ fn stream(texts: &[Vec<u8>]) -> Vec<u8> {
 /// Each line of a long stream, against what the library says.
 #[test]
 fn a_stream_answers_every_text() {
-    let texts: Vec<Vec<u8>> = texts::generated(2, 0..3000).chain(edges::limits()).collect();
+    let texts: Vec<Vec<u8>> = texts::generated(Depth::Read, 2, 0..3000).chain(edges::limits()).collect();
     let output = run(&["read", "--json", "--stream"], &stream(&texts));
     assert_eq!((status(&output), err(&output)), (0, ""));
     let lines: Vec<&str> = out(&output).lines().collect();

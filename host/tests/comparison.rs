@@ -34,7 +34,7 @@ fn compare(what: &str, texts: impl IntoIterator<Item = Vec<u8>>) -> Report {
 #[test]
 fn generated_texts() {
     let (seed, count) = (from_environment("PITCHSLEET_SEED", SEED), from_environment("PITCHSLEET_TEXTS", TEXTS));
-    let report = compare(&format!("generated, seed {seed}"), texts::generated(seed, 0..count));
+    let report = compare(&format!("generated, seed {seed}"), texts::generated(Depth::Read, seed, 0..count));
     // A run of the usual size reaches every answer that a text can have.
     for number in [0, 1, 2, 3, 4, 31, 32, 33, 34] {
         assert!(count < TEXTS || report.answered(number) > 0, "no text is answered with {number}");

@@ -12,6 +12,7 @@ pub mod grammar;
 pub mod json;
 pub mod model;
 pub mod oracle;
+pub mod programs;
 pub mod records;
 pub mod said;
 pub mod texts;

@@ -86,10 +86,12 @@ impl Parsing<'_> {
     }
 
     fn ty(&mut self) -> Result<Ty, Stop> {
-        match (self.try_take(&["int"]), self.try_take(&["bool"])) {
-            (Some(_), _) => Ok(Ty::Int),
-            (_, Some(_)) => Ok(Ty::Bool),
-            _ => self.stop_here(9, "Type expected."),
+        if self.try_take(&["int"]).is_some() {
+            return Ok(Ty::Int);
+        }
+        match self.try_take(&["bool"]) {
+            Some(_) => Ok(Ty::Bool),
+            None => self.stop_here(9, "Type expected."),
         }
     }
 
