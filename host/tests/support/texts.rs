@@ -25,7 +25,7 @@ fn one_to_check(dice: &mut Dice) -> Vec<u8> {
         }
         870..920 => {
             let tokens = programs::program(dice);
-            let whole = grammar::laid_out(dice, &tokens);
+            let whole = grammar::laid_out_plainly(dice, &tokens);
             return damaged(dice, whole);
         }
         920..985 => return one(dice),
@@ -39,7 +39,7 @@ fn one_to_check(dice: &mut Dice) -> Vec<u8> {
             tokens
         }
     };
-    grammar::laid_out(dice, &tokens)
+    grammar::laid_out_plainly(dice, &tokens)
 }
 
 fn one(dice: &mut Dice) -> Vec<u8> {
