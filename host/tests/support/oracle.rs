@@ -206,15 +206,33 @@ fn token(token: &Json) -> RustToken {
     }
 }
 
+/// How long the Rust takes for a text that is read, and for one that is checked, in nanoseconds; none where the Rust files
+/// are not to be had.
+pub fn time(text: &[u8]) -> Option<(u64, u64)> {
+    static TIMED: OnceLock<Option<PathBuf>> = OnceLock::new();
+    let program = TIMED.get_or_init(|| build(&["--timed"])).as_deref()?;
+    let mut process = Command::new(program)
+        .arg("--time")
+        .stdin(Stdio::piped())
+        .stdout(Stdio::piped())
+        .spawn()
+        .expect("the oracle runs");
+    send(&mut process.stdin.take().expect("it is piped"), &[text.to_vec()]);
+    let output = process.wait_with_output().expect("the oracle ends");
+    let line = Json::parse(str::from_utf8(&output.stdout).expect("ASCII").trim_end());
+    let nanoseconds = |key: &str| line.get(key).expect("a time").number() as u64;
+    Some((nanoseconds("read_ns"), nanoseconds("check_ns")))
+}
+
 /// The program, built by oracle/build.sh once in a run of tests.
 fn program() -> Option<&'static Path> {
     static PROGRAM: OnceLock<Option<PathBuf>> = OnceLock::new();
-    PROGRAM.get_or_init(build).as_deref()
+    PROGRAM.get_or_init(|| build(&[])).as_deref()
 }
 
-fn build() -> Option<PathBuf> {
+fn build(words: &[&str]) -> Option<PathBuf> {
     let script = Path::new(env!("CARGO_MANIFEST_DIR")).join("../oracle/build.sh");
-    let built = Command::new(script).stderr(Stdio::inherit()).output().expect("oracle/build.sh runs");
+    let built = Command::new(script).args(words).stderr(Stdio::inherit()).output().expect("oracle/build.sh runs");
     assert!(built.status.success(), "oracle/build.sh failed");
     let path = String::from_utf8(built.stdout).expect("a path");
     let path = path.trim_end();
