@@ -537,6 +537,35 @@ fn a_stream_goes_on_after_too_long_a_text() {
     assert!(lines[1].contains(r#"[["local",0,1,0],["END_OF_FILE",null,1,1]]"#));
 }
 
+// ---- the examples ------------------------------------------------------------------------------------------------------
+
+/// What README.md shows of the examples is what the tool says of them.
+#[test]
+fn the_examples_of_the_readme() {
+    let readme = include_str!("../../README.md");
+    for (file, expected_status) in [("examples/frost.bril", 0), ("examples/frost-refused.bril", 1)] {
+        let root = concat!(env!("CARGO_MANIFEST_DIR"), "/..");
+        let output = Command::new(TOOL).args(["check", file]).current_dir(root).output().expect("the tool runs");
+        assert_eq!((status(&output), err(&output)), (expected_status, ""));
+        let shown =
+            readme.split(&format!("$ ./pitchsleet check {file}\n")).nth(1).expect("README.md shows the example");
+        let mut rest = out(&output);
+        for line in shown.lines().take_while(|line| line.starts_with("    ")) {
+            let line = &line[4..];
+            // Where README.md leaves something out, the next line is found further on.
+            match line {
+                ".." => {}
+                _ => {
+                    let at =
+                        rest.find(line).unwrap_or_else(|| panic!("the tool doesn't say: {line}\n{}", out(&output)));
+                    rest = &rest[at + line.len()..];
+                }
+            }
+        }
+        assert_eq!(rest, "\n", "README.md shows the end");
+    }
+}
+
 // ---- usage -------------------------------------------------------------------------------------------------------------
 
 #[test]

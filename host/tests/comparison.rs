@@ -9,7 +9,7 @@ use std::io::Write;
 
 use support::compare::{Comparison, Report};
 use support::oracle::Depth;
-use support::{edges, texts};
+use support::{edges, fixed, texts};
 
 const TEXTS_TO_READ: u64 = 40_000;
 const TEXTS_TO_CHECK: u64 = 25_000;
@@ -93,5 +93,16 @@ fn check_limits() {
     let report = compare(Depth::Check, "limits", edges::limits().into_iter().chain(edges::limits_of_check()));
     for number in 31..=38 {
         assert!(report.answered(number) > 0, "no text is answered with {number}");
+    }
+}
+
+/// The texts of the fixed cases: enough of them, and each number several times.
+#[test]
+fn check_fixed_texts() {
+    let texts = fixed::all();
+    assert!(texts.len() >= 500);
+    let report = compare(Depth::Check, "fixed", texts.into_iter().map(|(_, text)| text));
+    for number in 1..=22 {
+        assert!(report.answered(number) >= 3, "hardly a text is answered with {number}");
     }
 }

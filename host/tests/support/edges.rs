@@ -95,7 +95,7 @@ fn name_of(first: u8, length: usize) -> Vec<u8> {
 }
 
 /// Document 01, "Texts and what comes of them".
-const DOCUMENT_01: [&str; 18] = [
+pub const DOCUMENT_01: [&str; 18] = [
     "", "@f { nop; }", "@f { }", "@f { .a: .b: nop; }", "@f { nop; .a: .b: nop; }", "@f { ret; nop; }",
     "@f { .a: br q .a .a; }", "@f { x: int = call @g x; } @g(a: int): int { ret a; }", "@f { x: int = const true; }",
     "@f: int { nop; }", "@f { x: int = const 2147483648; }", "@f { nop 2147483648; }", "-2147483649", "-2147483648",

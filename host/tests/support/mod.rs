@@ -8,6 +8,7 @@ pub mod by_crate;
 pub mod compare;
 pub mod dice;
 pub mod edges;
+pub mod fixed;
 pub mod grammar;
 pub mod json;
 pub mod model;
