@@ -12,6 +12,7 @@ mod support;
 
 use std::fmt::Write;
 use std::hint::black_box;
+use std::process::ExitCode;
 use std::time::{Duration, Instant};
 
 use pitchsleet::Reader;
@@ -25,8 +26,11 @@ const ROUNDS: u32 = 5;
 /// How many times faster than the Rust it shall be, on ordinary rules of so many bytes.
 const AIMS: [(usize, u64); 3] = [(1_024, 5), (4_096, 20), (16_384, 50)];
 
-fn main() {
-    assert!(!cfg!(debug_assertions), "cargo run --release --example bench");
+fn main() -> ExitCode {
+    if cfg!(debug_assertions) {
+        eprintln!("bench: cargo run --release --example bench: without --release the times say nothing");
+        return ExitCode::from(2);
+    }
     println!("{:<26} {:>6} {:>7}   {}   {}", "", "", "", head("read"), head("check"));
     for (name, text, number) in texts() {
         let mut reader = Reader::new();
@@ -53,6 +57,7 @@ fn main() {
         );
     }
     println!("times in microseconds, the shortest of all rounds; x: how many times faster than the Rust");
+    ExitCode::SUCCESS
 }
 
 fn head(command: &str) -> String {
@@ -84,10 +89,10 @@ fn aims(name: &str, text: &[u8], read: &Row, check: &Row) -> String {
     let mut words = String::new();
     let aim = AIMS.iter().find(|(bytes, _)| name.starts_with("ordinary") && *bytes == text.len());
     for (row, command) in [(read, "read"), (check, "check")] {
-        if let (Some((_, aim)), Some(times)) = (aim, row.times()) {
-            if times < *aim as f64 {
-                write!(words, "  {command} misses its aim, {aim}").expect("a String takes all");
-            }
+        if let (Some((_, aim)), Some(times)) = (aim, row.times())
+            && times < *aim as f64
+        {
+            write!(words, "  {command} misses its aim, {aim}").expect("a String takes all");
         }
     }
     words

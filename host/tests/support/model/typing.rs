@@ -196,8 +196,8 @@ impl Typing<'_> {
             return self.stop(token, 20, &format!("{expected} arguments expected, got {found}"));
         }
         self.look_up_all(token, &mut operation.operands)?;
-        let arguments = operation.operands.iter().zip(&head.formals);
-        arguments.map(|(argument, formal)| self.compare(token, argument.ty, *formal)).collect()
+        let mut arguments = operation.operands.iter().zip(&head.formals);
+        arguments.try_for_each(|(argument, formal)| self.compare(token, argument.ty, *formal))
     }
 
     /// "`ret x`: x looked up, void 18, type. `ret`: 19." The operand that is kept has no type.
