@@ -13,7 +13,7 @@
 //! From the model of document 01 in tests/support/model, which has no code in common with the Rust or with the proved
 //! crates; the archive is never asked. On each text that is inside the limits the Rust original is asked too, and must say
 //! the same: message, tokens, names, functions, blocks, edges, operations and types. A text that is refused by a limit, and
-//! one with an unreachable block in a function that is typed, rests on the model alone; 22 is a panic of the Rust's.
+//! one in which typing comes to an unreachable block, rests on the model alone; 22 is a panic of the Rust's.
 //!
 //! # The file
 //!
@@ -133,9 +133,9 @@ fn hold_to_rust(texts: &[Titled]) -> Option<Counts> {
     let mut oracle = Oracle::start(Depth::Check)?;
     let mut counts = Counts::default();
     for (title, text) in texts {
-        let Checked { said, has_unreachable } = model::check(text);
+        let Checked { said, order_is_open } = model::check(text);
         *counts.numbers.entry(said.number()).or_default() += 1;
-        if (31..=38).contains(&said.number()) || has_unreachable || text.len() > BYTES {
+        if (31..=38).contains(&said.number()) || order_is_open || text.len() > BYTES {
             continue;
         }
         let answers = oracle.ask(std::slice::from_ref(text));

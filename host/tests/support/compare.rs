@@ -23,8 +23,8 @@ pub struct Report {
     texts: usize,
     /// Texts whose answer was held against the Rust's.
     held_to_rust: usize,
-    /// Texts that the Rust was asked and that were left out, since a function that was typed has a block that can't be
-    /// reached: there its sources don't fix the order.
+    /// Texts that the Rust was asked and that were left out, since typing came to a block that can't be reached, or ties
+    /// with one: there its sources don't fix the order.
     unreachable: usize,
     /// How many texts were answered with each number.
     numbers: BTreeMap<u32, usize>,
@@ -172,17 +172,17 @@ impl Comparison {
 
 /// Holds what this crate says of a text to the model, and to the Rust where it has an answer of its own.
 fn compare(depth: Depth, lent: &mut Lent, text: &[u8], rust: Option<&RustSaid>) -> Result<Compared, String> {
-    let (said, has_unreachable) = match depth {
+    let (said, order_is_open) = match depth {
         Depth::Read => (lent.compare_read(text)?, false),
         Depth::Check => {
             let checked = lent.compare_check(text)?;
-            (checked.said, checked.has_unreachable)
+            (checked.said, checked.order_is_open)
         }
     };
     let with = match rust {
         None => With::ModelAlone,
         Some(_) if is_by_a_limit(&said) => With::ModelAlone,
-        Some(_) if has_unreachable => With::ModelForTheOrder,
+        Some(_) if order_is_open => With::ModelForTheOrder,
         Some(rust) => {
             compare_with_rust(text, &said, rust)?;
             With::Rust

@@ -20,9 +20,9 @@ pub const LABELS: usize = 255;
 /// The model's answer to a text, and what a comparison with the Rust must know of it.
 pub struct Checked {
     pub said: Said,
-    /// Whether a function was typed that has a block which no path leads to. The Rust types such blocks in an order that
-    /// its sources don't fix.
-    pub has_unreachable: bool,
+    /// Whether typing came to blocks whose order the Rust's sources don't fix: those that no path leads to, and the one that
+    /// ties with them, which the walk leaves first. Each of them is typed after all others.
+    pub order_is_open: bool,
 }
 
 /// A refusal at a token: what the message says after `[line N] Error `.
@@ -37,11 +37,11 @@ struct Stop {
 pub fn check(text: &[u8]) -> Checked {
     let said = read(text);
     let Said::Accepted { tokens, names, .. } = said else {
-        return Checked { said, has_unreachable: false };
+        return Checked { said, order_is_open: false };
     };
-    let mut has_unreachable = false;
+    let mut order_is_open = false;
     let functions = parsing::functions(&tokens, &names)
-        .and_then(|functions| typing::all(functions, &tokens, &names, &mut has_unreachable));
+        .and_then(|functions| typing::all(functions, &tokens, &names, &mut order_is_open));
     let said = match functions {
         Ok(functions) => Said::Accepted { tokens, names, functions },
         Err(Stop { number, token, item, words }) => {
@@ -50,7 +50,7 @@ pub fn check(text: &[u8]) -> Checked {
             Said::Refused { number, line: token.line, place: token.place, message }
         }
     };
-    Checked { said, has_unreachable }
+    Checked { said, order_is_open }
 }
 
 /// `at 'x'`, with a name's own spelling.

@@ -11,12 +11,12 @@ struct Head {
     result: Ty,
 }
 
-/// "Functions are taken in text order." Says on the way whether one has a block that no path leads to.
+/// "Functions are taken in text order." Says on the way whether it came to blocks whose order the Rust leaves open.
 pub fn all(
     mut functions: Vec<SaidFunction>,
     tokens: &[SaidToken],
     names: &[SaidName],
-    has_unreachable: &mut bool,
+    order_is_open: &mut bool,
 ) -> Result<Vec<SaidFunction>, Stop> {
     let mut heads = HashMap::new();
     for function in &functions {
@@ -30,9 +30,10 @@ pub fn all(
         for formal in &function.formals {
             typing.enter(function.token, *formal)?;
         }
-        let met = walk(&function.blocks);
-        *has_unreachable |= met.len() < function.blocks.len();
-        for number in order(met, function.blocks.len()) {
+        let (met, count) = (walk(&function.blocks), function.blocks.len());
+        let fixed = if met.len() < count { met.len() - 1 } else { count };
+        for (place, number) in order(met, count).into_iter().enumerate() {
+            *order_is_open |= place >= fixed;
             typing.block(&mut function.blocks[number])?;
         }
     }
