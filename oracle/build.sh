@@ -28,12 +28,14 @@ if [ ! -d "$source" ]; then
     exit 0
 fi
 
-# A file that has not changed keeps its time, so that cargo builds only what has.
+# A file that has not changed keeps its time, so that cargo builds only what has. One that has is put in place at once:
+# another build may be running.
 put() {
     cmp -s "$1" "$2" && return
     mkdir -p "$(dirname "$2")"
-    cp "$1" "$2"
-    chmod u+w "$2"
+    cp "$1" "$2.$$"
+    chmod u+w "$2.$$"
+    mv "$2.$$" "$2"
 }
 
 for file in $(cd "$here" && find Cargo.toml original stand-ins driver -type f); do
