@@ -69,8 +69,9 @@ fn same_bytes(what: &str, found: &[u8], expected: &[u8]) -> Result<(), String> {
     if front == expected && rest.iter().all(|&byte| byte == 0) {
         return Ok(());
     }
-    let at = front.iter().zip(expected).position(|(found, expected)| found != expected).unwrap_or(expected.len());
-    Err(format!("a byte of the {what} is not what the model says, the first at {at}"))
+    let expected = expected.iter().chain(std::iter::repeat(&0));
+    let at = found.iter().zip(expected).position(|(found, expected)| found != expected);
+    Err(format!("a byte of the {what} is not what the model says, the first at {at:?}"))
 }
 
 fn read_answer(said: &Said, cells: &Cells) -> ReadAnswer {
