@@ -1,8 +1,9 @@
 //! Long runs of the comparison, outside the tests:
 //!
 //! ```text
-//! cargo run --release --example fuzz -- SEED COUNT          compares so many generated texts
-//! cargo run --release --example fuzz -- --texts SEED COUNT  writes them, as a stream that other programs read
+//! cargo run --release --example fuzz -- check SEED COUNT          compares so many generated texts, checked
+//! cargo run --release --example fuzz -- read SEED COUNT           the same, read and no more
+//! cargo run --release --example fuzz -- check --texts SEED COUNT  writes them, as a stream that other programs read
 //! ```
 //!
 //! The texts of a seed are the same each time, and those of the tests are its first ones. Exit status: 0 no text differs,
@@ -15,6 +16,7 @@ use std::ops::Range;
 use std::process::ExitCode;
 
 use support::compare::Comparison;
+use support::oracle::Depth;
 use support::texts;
 
 /// How many texts go by between two lines of progress.
@@ -23,45 +25,43 @@ const STRIDE: u64 = 50_000;
 fn main() -> ExitCode {
     let words: Vec<String> = std::env::args().skip(1).collect();
     let words: Vec<&str> = words.iter().map(String::as_str).collect();
-    match words[..] {
-        ["--texts", seed, count] => match numbers(seed, count) {
-            Some((seed, count)) => write_texts(seed, count),
-            None => usage(),
-        },
-        [seed, count] => match numbers(seed, count) {
-            Some((seed, count)) => compare(seed, count),
-            None => usage(),
-        },
-        _ => usage(),
+    run(&words).unwrap_or_else(|| {
+        eprintln!("fuzz: read or check, perhaps --texts, then SEED COUNT, two numbers");
+        ExitCode::from(2)
+    })
+}
+
+fn run(words: &[&str]) -> Option<ExitCode> {
+    let (command, words) = words.split_first()?;
+    let depth = match *command {
+        "read" => Depth::Read,
+        "check" => Depth::Check,
+        _ => return None,
+    };
+    match words {
+        ["--texts", seed, count] => Some(write_texts(depth, seed.parse().ok()?, count.parse().ok()?)),
+        [seed, count] => Some(compare(depth, seed.parse().ok()?, count.parse().ok()?)),
+        _ => None,
     }
 }
 
-fn numbers(seed: &str, count: &str) -> Option<(u64, u64)> {
-    Some((seed.parse().ok()?, count.parse().ok()?))
-}
-
-fn usage() -> ExitCode {
-    eprintln!("fuzz: [--texts] SEED COUNT, two numbers");
-    ExitCode::from(2)
-}
-
-fn write_texts(seed: u64, count: u64) -> ExitCode {
+fn write_texts(depth: Depth, seed: u64, count: u64) -> ExitCode {
     let mut output = io::stdout().lock();
-    let written = texts::generated(seed, 0..count).try_for_each(|text| {
+    let written = texts::generated(depth, seed, 0..count).try_for_each(|text| {
         writeln!(output, "{}", text.len())?;
         output.write_all(&text)
     });
     if written.is_ok() { ExitCode::SUCCESS } else { ExitCode::from(2) }
 }
 
-fn compare(seed: u64, count: u64) -> ExitCode {
-    let mut comparison = Comparison::new();
+fn compare(depth: Depth, seed: u64, count: u64) -> ExitCode {
+    let mut comparison = Comparison::new(depth);
     for numbers in strides(count) {
-        comparison.all(texts::generated(seed, numbers));
+        comparison.all(texts::generated(depth, seed, numbers));
         eprintln!("fuzz: seed {seed}: {}", comparison.report);
     }
     let report = comparison.report;
-    println!("seed {seed}, {count} texts: {report}");
+    println!("{depth:?}, seed {seed}, {count} texts: {report}");
     match (report.is_clean(), report.held_to_rust()) {
         (false, _) => ExitCode::from(1),
         (true, 0) => ExitCode::from(2),

@@ -1,9 +1,10 @@
-//! A verified reader of Bril text.
+//! A verified reader and type checker of Bril text.
 //!
-//! Bril is a small intermediate language for compilers. This crate turns a text in its written form into tokens and names,
-//! or refuses it with a number, a line, a place and a message. The function that does it is written in Rattle and proved:
-//! for every input it ends, stays inside the buffers that it is lent, and answers what a definition of Bril's lexing says.
-//! This crate links the archive that is built from the proved function, and adds buffers, types and a command-line tool.
+//! Bril is a small intermediate language for compilers. This crate turns a text in its written form into tokens and names
+//! ([`Reader::read`]), or into functions with blocks, edges and typed operations ([`Reader::check`]), or refuses it with a
+//! number, a line, a place and a message. The functions that do it are written in Rattle and proved: for every input they
+//! end, stay inside the buffers that they are lent, and answer what a definition of Bril's lexing, grammar and typing says.
+//! This crate links the archive that is built from the proved functions, and adds buffers, types and a command-line tool.
 //!
 //! ```
 //! use pitchsleet::{Reader, TokenValue};
@@ -19,6 +20,13 @@
 //! let refusal = reader.read(b"@main { v: int = const $5; }").unwrap_err();
 //! assert_eq!(refusal.number(), 3);
 //! assert_eq!(refusal.to_string(), "refused 3 at byte 23: [line 1] Error : Unexpected token: '$'.");
+//!
+//! let unit = reader.check(b"@main { v: int = const 5; print v; }")?;
+//! for function in unit.functions() {
+//!     for block in function.blocks() {
+//!         println!("{}, block {}: {} operations", function.name().spelling, block.number(), block.operations().len());
+//!     }
+//! }
 //! # Ok::<(), pitchsleet::Refusal>(())
 //! ```
 //!
@@ -32,23 +40,35 @@
 //! - A number above 2147483647 is no token and no error: it is dropped.
 //! - After a star in a comment the next byte is passed over whatever it is, so `/***/` is not closed.
 //! - All bytes must be ASCII, in comments too.
+//! - The condition of a `br` is never looked up, nor is what `print` prints: both may be any name.
+//! - A block that ends without `jmp`, `br` or `ret` doesn't fall through: a void function gets a `ret` there, any other is
+//!   refused.
+//! - Two labels in a row, but at a function's start, leave an empty block between them, which is refused.
 //!
 //! # Limits
 //!
 //! A text has at most 16,384 bytes, 4,096 tokens with the end of the text, and 1,024 names of at most 64 bytes with their
-//! sigil. What is over a limit is refused with a number of its own ([`Refusal`] has them all).
+//! sigil; at most 64 functions of at most 16 formals and 255 labels each; and a call has at most 16 arguments.
+//! What is over a limit is refused with a number of its own ([`Refusal`] has them all).
 #![warn(missing_docs)]
 #![deny(unsafe_code, unsafe_op_in_unsafe_fn)]
 
 mod iter;
+mod operation;
 mod printable;
 pub mod raw;
 mod reader;
+mod records;
 mod refusal;
 mod token;
+mod types;
+mod unit;
 
 pub use iter::Iter;
+pub use operation::{Arguments, Operation, OperationValue};
 pub use printable::Printable;
 pub use reader::{Reader, Tokens};
 pub use refusal::Refusal;
 pub use token::{Identifier, Name, Token, TokenValue};
+pub use types::{Type, Variable};
+pub use unit::{Block, Edges, Function, Label, Unit};

@@ -1,8 +1,8 @@
-//! The C function, with the sizes and offsets that docs/INTERFACE.md fixes.
+//! The C functions, with the sizes and offsets that docs/INTERFACE.md fixes.
 //!
-//! [`crate::Reader`] is the comfortable way in. This module is for a host that keeps buffers of its own: [`read`] lends
-//! them to the proved function as they are. It is safe to call with slices of any length, since the function trusts no
-//! caller.
+//! [`crate::Reader`] is the comfortable way in. This module is for a host that keeps buffers of its own: [`read`] and
+//! [`check`] lend them to the proved functions as they are. They are safe to call with slices of any length, since the
+//! functions trust no caller.
 //!
 //! The crate's only `unsafe` code stands here, and a test holds every number below against the document.
 #![allow(unsafe_code)]
@@ -38,10 +38,104 @@ pub const NAME_PLACE: usize = 0;
 /// Where a name record has the name's length.
 pub const NAME_LENGTH: usize = 4;
 
-/// The size of `out`. A shorter slice is refused with 30.
+/// The size of [`read`]'s `out`. A shorter slice is refused with 30.
 pub const OUT_BYTES: usize = 73_728;
 /// The size of `message`. A shorter slice is refused with 30.
 pub const MESSAGE_BYTES: usize = 512;
+
+/// The most functions that a text may have.
+pub const FUNCTIONS: usize = 64;
+/// The most formals that a function may have.
+pub const FORMALS: usize = 16;
+/// Where the functions begin in [`check`]'s `out`: a cell with their count, and the function records behind it.
+pub const FUNCTIONS_OFFSET: usize = 73_728;
+/// Where the first function record stands.
+pub const FUNCTION_RECORDS_OFFSET: usize = 73_732;
+/// The size of a function record: 45 cells.
+pub const FUNCTION_BYTES: usize = 180;
+/// Where a function record has the index of its name's token.
+pub const FUNCTION_TOKEN: usize = 0;
+/// Where a function record has its name's number.
+pub const FUNCTION_NAME: usize = 4;
+/// Where a function record has the index of its closing brace's token.
+pub const FUNCTION_END: usize = 8;
+/// Where a function record has its name's place in the text.
+pub const FUNCTION_PLACE: usize = 12;
+/// Where a function record has its name's length.
+pub const FUNCTION_LENGTH: usize = 16;
+/// Where a function record has its name's line.
+pub const FUNCTION_LINE: usize = 20;
+/// Where a function record has its result type.
+pub const FUNCTION_RESULT: usize = 24;
+/// Where a function record has its function type's number.
+pub const FUNCTION_TYPE: usize = 28;
+/// Where a function record has its first item.
+pub const FUNCTION_ITEMS: usize = 32;
+/// Where a function record has its count of items.
+pub const FUNCTION_ITEM_COUNT: usize = 36;
+/// Where a function record has its first block.
+pub const FUNCTION_BLOCKS: usize = 40;
+/// Where a function record has its count of blocks.
+pub const FUNCTION_BLOCK_COUNT: usize = 44;
+/// Where a function record has its count of formals.
+pub const FUNCTION_FORMAL_COUNT: usize = 48;
+/// Where a function record has its first formal: a name and a type, and then the next one's.
+pub const FUNCTION_FORMALS: usize = 52;
+
+/// The most items that a text may have: operations, those that were added with them, and labels.
+pub const ITEMS: usize = 3_072;
+/// Where the first item record stands in `out`.
+pub const ITEMS_OFFSET: usize = 85_252;
+/// The size of an item record: eight cells.
+pub const ITEM_BYTES: usize = 32;
+/// Where an item record has its kind.
+pub const ITEM_KIND: usize = 0;
+/// Where an item record has the index of its token.
+pub const ITEM_TOKEN: usize = 4;
+/// Where an item record has its result, a name and a type.
+pub const ITEM_RESULT: usize = 8;
+/// Where an item record has its first operand or its callee, a name and a type.
+pub const ITEM_LEFT: usize = 16;
+/// Where an item record has its second operand, its labels, or the run of its arguments.
+pub const ITEM_RIGHT: usize = 24;
+
+/// The room for arguments.
+pub const ARGUMENTS: usize = 3_464;
+/// Where the first argument record stands in `out`.
+pub const ARGUMENTS_OFFSET: usize = 183_556;
+/// The size of an argument record: a name and a type.
+pub const ARGUMENT_BYTES: usize = 8;
+
+/// The most blocks that a text may have.
+pub const BLOCKS: usize = 1_024;
+/// Where the first block record stands in `out`.
+pub const BLOCKS_OFFSET: usize = 211_268;
+/// The size of a block record: eight cells.
+pub const BLOCK_BYTES: usize = 32;
+/// Where a block record has its first operation, as an item's index.
+pub const BLOCK_OPERATIONS: usize = 0;
+/// Where a block record has its count of operations.
+pub const BLOCK_OPERATION_COUNT: usize = 4;
+/// Where a block record has its count of successors.
+pub const BLOCK_SUCCESSOR_COUNT: usize = 8;
+/// Where a block record has its two successors.
+pub const BLOCK_SUCCESSORS: usize = 12;
+/// Where a block record has its first predecessor, as an index among all.
+pub const BLOCK_PREDECESSORS: usize = 20;
+/// Where a block record has its count of predecessors.
+pub const BLOCK_PREDECESSOR_COUNT: usize = 24;
+/// Where a block record has its dead mark.
+pub const BLOCK_DEAD: usize = 28;
+
+/// The most predecessors that a text's blocks may have in all.
+pub const PREDECESSORS: usize = 2_048;
+/// Where the first predecessor stands in `out`.
+pub const PREDECESSORS_OFFSET: usize = 244_036;
+/// The size of a predecessor record: one cell.
+pub const PREDECESSOR_BYTES: usize = 4;
+
+/// The size of [`check`]'s `out`. A shorter slice is refused with 30.
+pub const CHECK_OUT_BYTES: usize = 252_228;
 
 /// What [`read`] answers.
 #[repr(C)]
@@ -59,6 +153,32 @@ pub struct ReadAnswer {
     pub names: u32,
 }
 
+/// What [`check`] answers.
+#[repr(C)]
+#[derive(Clone, Copy, Debug, Default, PartialEq, Eq, Hash)]
+pub struct CheckAnswer {
+    /// 0 where the text was accepted, else the refusal's number.
+    pub number: u32,
+    /// The refusal's line.
+    pub line: u32,
+    /// The refusal's place: a byte's index in the text.
+    pub place: u32,
+    /// How many token records were written.
+    pub tokens: u32,
+    /// How many name records were written.
+    pub names: u32,
+    /// How many function records were written.
+    pub functions: u32,
+    /// How many item records were written.
+    pub items: u32,
+    /// How many argument records were written.
+    pub arguments: u32,
+    /// How many block records were written.
+    pub blocks: u32,
+    /// How many predecessors were written.
+    pub predecessors: u32,
+}
+
 unsafe extern "C" {
     fn pitchsleet_read(
         text: *const u8,
@@ -68,6 +188,15 @@ unsafe extern "C" {
         message: *mut u8,
         message_len: usize,
     ) -> ReadAnswer;
+
+    fn pitchsleet_check(
+        text: *const u8,
+        text_len: usize,
+        out: *mut u8,
+        out_len: usize,
+        message: *mut u8,
+        message_len: usize,
+    ) -> CheckAnswer;
 }
 
 /// Reads a text into records and a message.
@@ -93,5 +222,30 @@ pub fn read(text: &[u8], out: &mut [u8], message: &mut [u8]) -> ReadAnswer {
     // and always returns.
     unsafe {
         pitchsleet_read(text.as_ptr(), text.len(), out.as_mut_ptr(), out.len(), message.as_mut_ptr(), message.len())
+    }
+}
+
+/// Checks a text: records of its tokens, names, functions, operations, blocks and edges, or a message.
+///
+/// `out` needs [`CHECK_OUT_BYTES`] and `message` [`MESSAGE_BYTES`]; where one is shorter the answer's number is 30 and
+/// nothing is written. What is longer is filled with zeros. The call allocates nothing, and has all of its room on the
+/// stack: docs/INTERFACE.md says how much.
+///
+/// ```
+/// use pitchsleet::raw;
+///
+/// let mut out = vec![0; raw::CHECK_OUT_BYTES];
+/// let mut message = [0; raw::MESSAGE_BYTES];
+/// let answer = raw::check(b"@f { nop; }", &mut out, &mut message);
+/// assert_eq!((answer.number, answer.functions, answer.blocks), (0, 1, 1));
+/// assert_eq!(answer.items, 2, "nop, and the ret that is added");
+///
+/// let answer = raw::check(b"@f { }", &mut out, &mut message);
+/// assert_eq!((answer.number, answer.functions), (22, 0));
+/// ```
+pub fn check(text: &[u8], out: &mut [u8], message: &mut [u8]) -> CheckAnswer {
+    // SAFETY: as for `read` above, whose words hold for this function too.
+    unsafe {
+        pitchsleet_check(text.as_ptr(), text.len(), out.as_mut_ptr(), out.len(), message.as_mut_ptr(), message.len())
     }
 }

@@ -2,14 +2,19 @@
 use core::fmt::{self, Debug, Formatter};
 
 use crate::iter::Iter;
-use crate::raw::{self, MESSAGE_BYTES, NAME_BYTES, NAMES_OFFSET, OUT_BYTES, TOKEN_BYTES, TOKENS_OFFSET};
+use crate::raw::{
+    self, CHECK_OUT_BYTES, MESSAGE_BYTES, NAME_BYTES, NAMES_OFFSET, OUT_BYTES, TOKEN_BYTES, TOKENS_OFFSET,
+};
+use crate::records::{cell, record};
 use crate::refusal::Refusal;
 use crate::token::{Identifier, Name, Token, TokenValue};
+use crate::unit::Unit;
 
-/// Reads texts, one after the other, in buffers of its own.
+/// Reads and checks texts, one after the other, in buffers of its own.
 ///
-/// The buffers are taken once, by [`Reader::new`]: 73,728 bytes for the records and 512 for a message. No call of
-/// [`Reader::read`] allocates. A call takes some 74,000 bytes of stack.
+/// The buffers are taken once, by [`Reader::new`]: 252,228 bytes for the records and 512 for a message. No call of
+/// [`Reader::read`] or [`Reader::check`] allocates: the room that they need is on the stack, less than 76 KiB for a
+/// reading and some 260 KiB for a check.
 ///
 /// ```
 /// use pitchsleet::Reader;
@@ -32,7 +37,7 @@ impl Reader {
     /// A reader with its buffers.
     #[must_use]
     pub fn new() -> Self {
-        Self { out: vec![0; OUT_BYTES].into_boxed_slice(), message: Box::new([0; MESSAGE_BYTES]) }
+        Self { out: vec![0; CHECK_OUT_BYTES].into_boxed_slice(), message: Box::new([0; MESSAGE_BYTES]) }
     }
 
     /// The tokens and names of a text, or why it is refused.
@@ -60,16 +65,46 @@ impl Reader {
     /// A [`Refusal`] with its number, line, place and message, where the text is no sequence of tokens or is over a limit.
     #[allow(clippy::result_large_err, reason = "a refusal carries its message, so that refused texts allocate nothing")]
     pub fn read<'a>(&'a mut self, text: &'a [u8]) -> Result<Tokens<'a>, Refusal> {
-        let answer = raw::read(text, &mut self.out, &mut self.message[..]);
+        let answer = raw::read(text, &mut self.out[..OUT_BYTES], &mut self.message[..]);
         if answer.number != 0 {
-            return Err(Refusal::new(answer, &self.message));
+            return Err(Refusal::new(answer.number, answer.line, answer.place, &self.message));
         }
-        let (tokens, names) = (answer.tokens as usize, answer.names as usize);
-        Ok(Tokens {
-            text: str::from_utf8(text).expect("an accepted text is ASCII"),
-            tokens: &self.out[TOKENS_OFFSET..][..tokens * TOKEN_BYTES],
-            names: &self.out[NAMES_OFFSET..][..names * NAME_BYTES],
-        })
+        Ok(Tokens::new(text, &self.out, answer.tokens, answer.names))
+    }
+
+    /// The functions of a text, with their blocks, edges and typed operations, or why it is refused.
+    ///
+    /// The text is bytes: any are taken, and those that are no well-typed Bril text are refused. What comes back borrows
+    /// the reader and the text, so the next call waits until it is dropped.
+    ///
+    /// ```
+    /// use pitchsleet::{Reader, Type};
+    ///
+    /// let mut reader = Reader::new();
+    /// let unit = reader.check(b"@double(n: int): int { m: int = add n n; ret m; }")?;
+    /// let function = unit.functions().next().expect("there is one");
+    /// assert_eq!((function.name().spelling, function.result()), ("@double", Type::Int));
+    /// let block = function.blocks().next().expect("a function has a block");
+    /// assert_eq!(block.operations().len(), 2);
+    ///
+    /// let refusal = reader.check(b"@f { x: int = const true; }").unwrap_err();
+    /// assert_eq!((refusal.number(), refusal.line(), refusal.place()), (17, 1, 20));
+    /// assert_eq!(refusal.message(), b"[line 1] Error at 'true': 'int' type expected; 'bool' found\n");
+    /// # Ok::<(), pitchsleet::Refusal>(())
+    /// ```
+    ///
+    /// # Errors
+    ///
+    /// A [`Refusal`] with its number, line, place and message, where the text can't be read, doesn't follow the grammar,
+    /// is not well typed, or is over a limit.
+    #[allow(clippy::result_large_err, reason = "a refusal carries its message, so that refused texts allocate nothing")]
+    pub fn check<'a>(&'a mut self, text: &'a [u8]) -> Result<Unit<'a>, Refusal> {
+        let answer = raw::check(text, &mut self.out, &mut self.message[..]);
+        if answer.number != 0 {
+            return Err(Refusal::new(answer.number, answer.line, answer.place, &self.message));
+        }
+        let tokens = Tokens::new(text, &self.out, answer.tokens, answer.names);
+        Ok(Unit::new(tokens, &self.out, &answer))
     }
 }
 
@@ -112,6 +147,15 @@ pub struct Tokens<'a> {
 }
 
 impl<'a> Tokens<'a> {
+    /// The records of an accepted text: so many tokens and names.
+    fn new(text: &'a [u8], out: &'a [u8], tokens: u32, names: u32) -> Self {
+        Self {
+            text: str::from_utf8(text).expect("an accepted text is ASCII"),
+            tokens: &out[TOKENS_OFFSET..][..tokens as usize * TOKEN_BYTES],
+            names: &out[NAMES_OFFSET..][..names as usize * NAME_BYTES],
+        }
+    }
+
     /// How many tokens there are, the end of the text among them: at least 1, at most 4,096.
     #[must_use]
     #[allow(clippy::len_without_is_empty, reason = "it is never empty")]
@@ -182,17 +226,6 @@ impl<'a> Tokens<'a> {
 fn integer_length(rest: &str) -> usize {
     let after_first = rest.bytes().skip(1);
     1 + after_first.take_while(u8::is_ascii_digit).count()
-}
-
-fn record<const BYTES: usize>(records: &[u8], index: usize) -> Option<&[u8; BYTES]> {
-    let (records, _) = records.as_chunks::<BYTES>();
-    records.get(index)
-}
-
-/// A cell: a number of 32 bits, its lowest byte first.
-fn cell(record: &[u8], offset: usize) -> u32 {
-    let (bytes, _) = record[offset..].split_first_chunk().expect("a cell is inside its record");
-    u32::from_le_bytes(*bytes)
 }
 
 impl<'a> IntoIterator for Tokens<'a> {

@@ -3,7 +3,7 @@ use core::error::Error;
 use core::fmt::{self, Debug, Display, Formatter};
 
 use crate::printable::Printable;
-use crate::raw::{MESSAGE_BYTES, ReadAnswer};
+use crate::raw::MESSAGE_BYTES;
 
 /// Why a text was refused: a number, a line, a place, and a message.
 ///
@@ -18,8 +18,36 @@ use crate::raw::{MESSAGE_BYTES, ReadAnswer};
 /// | 33 | more than 1,024 names | the name one too many |
 /// | 34 | a name of more than 64 bytes | the name |
 ///
-/// They come in this order: 31, then 1, then what stands first in the text. For one name 34 comes before 33, and both
-/// before 32.
+/// These are [`Reader::read`](crate::Reader::read)'s, and come in this order: 31, then 1, then what stands first in the
+/// text. For one name 34 comes before 33, and both before 32. [`Reader::check`](crate::Reader::check) has them too, and
+/// then, of the functions in the order of the text:
+///
+/// | number | why | line and place |
+/// |---|---|---|
+/// | 5 | a certain token is missing | the token that stands there instead |
+/// | 6, 7, 8 | a local, a global, a label is missing | the token that stands there instead |
+/// | 9 | a type is missing | the token that stands there instead |
+/// | 10 | a constant is missing | the word `const` |
+/// | 11 | no operation's word | the token that stands there |
+/// | 12 | an operation after the block's end | that operation's token |
+/// | 13 | a label that names a block already | the label |
+/// | 14 | a jump to a label that the function doesn't have | the word `jmp` or `br` |
+/// | 15 | a function of the same name and another type | its name |
+/// | 22 | a block without an operation | the function's name |
+/// | 35 | more than 64 functions | the name of the one too many |
+/// | 36, 37 | more than 16 formals, or arguments of a call | the one too many |
+/// | 38 | more than 255 labels in a function | the label one too many |
+///
+/// and of types, once all functions are read:
+///
+/// | number | why | line and place |
+/// |---|---|---|
+/// | 15 | a name that has another type already | the operation's token; of a formal, the function's name |
+/// | 16 | a name that no operation before has set, or a function that there isn't | the operation's token |
+/// | 17 | one type where another must be | the operation's token |
+/// | 18, 19 | a value of a void function, no value of another one | the word `call` or `ret` |
+/// | 20 | more or fewer arguments than formals | the word `call` |
+/// | 21 | a block of a function with a result that doesn't end in `jmp`, `br` or `ret` | its last operation's token |
 ///
 /// A line is counted as the Rust original counts: from 1, and one more for each newline outside comments. So it may be
 /// less than the line that an editor shows, where a comment above ran through a newline. The place has no such trap.
@@ -34,14 +62,8 @@ pub struct Refusal {
 }
 
 impl Refusal {
-    pub(crate) fn new(answer: ReadAnswer, message: &[u8; MESSAGE_BYTES]) -> Self {
-        Self {
-            number: answer.number,
-            line: answer.line,
-            place: answer.place,
-            message_length: length_of(message),
-            message: *message,
-        }
+    pub(crate) fn new(number: u32, line: u32, place: u32, message: &[u8; MESSAGE_BYTES]) -> Self {
+        Self { number, line, place, message_length: length_of(message), message: *message }
     }
 
     /// The refusal's number: one of those above.
@@ -63,7 +85,8 @@ impl Refusal {
     }
 
     /// The message, byte for byte that of the Rust original where it has one: `[line 1] Error : Unexpected token: '$'.`
-    /// and a newline. It may hold a control character of the text, even a zero; [`Printable`] makes it fit to show.
+    /// and a newline. It may hold a control character of the text, even a zero; [`Printable`] makes it fit to show. A
+    /// token that is a name is called by its number there, as in `at 'local_3'`.
     #[must_use]
     pub fn message(&self) -> &[u8] {
         &self.message[..self.message_length]

@@ -35,12 +35,24 @@ fn no_allocation_per_call() {
     let mut reader = Reader::new();
     let before = ASKED.get();
     assert!(before_the_buffers < before, "the count works");
-    let texts: [&[u8]; 5] = [b"@f { x: int = const 5; }", b"$", b"\x80", b"", &[b' '; 20_000]];
+    let program = b"@f(a: int): int { .l: b: int = call @f a; br c .l .m; .m: ret b; }";
+    let texts: [&[u8]; 7] =
+        [b"@f { x: int = const 5; }", program, b"@f { ret x; }", b"$", b"\x80", b"", &[b' '; 20_000]];
     for text in texts {
         match reader.read(text) {
             Ok(tokens) => {
                 black_box(tokens.iter().map(|token| token.spelling.len()).sum::<usize>());
                 black_box(tokens.names().map(|name| name.spelling.len()).sum::<usize>());
+            }
+            Err(refusal) => {
+                black_box(refusal.message());
+            }
+        }
+        match reader.check(text) {
+            Ok(unit) => {
+                let blocks = unit.functions().flat_map(|function| function.blocks());
+                black_box(blocks.clone().map(|block| block.successors().len() + block.labels().count()).sum::<usize>());
+                black_box(blocks.flat_map(|b| b.operations()).map(|o| o.operands().count()).sum::<usize>());
             }
             Err(refusal) => {
                 black_box(refusal.message());

@@ -8,8 +8,10 @@ use std::process::{Command, Output, Stdio};
 use std::thread;
 
 use pitchsleet::Reader;
+use support::by_crate::{by_checker, by_reader};
 use support::json::Json;
-use support::said::{Said, by_reader};
+use support::oracle::Depth;
+use support::said::{Said, SaidBlock, SaidFunction, SaidOperation, SaidVariable};
 use support::{edges, texts};
 
 const TOOL: &str = env!("CARGO_BIN_EXE_pitchsleet");
@@ -44,16 +46,22 @@ fn err(output: &Output) -> &str {
 }
 
 /// The whole output for a text on standard input, which must end with a status and say nothing on standard error.
-fn shown(text: &[u8], expected_status: i32) -> String {
-    let output = run(&["read", "-"], text);
+fn answer(words: &[&str], text: &[u8], expected_status: i32) -> String {
+    let output = run(words, text);
     assert_eq!((status(&output), err(&output)), (expected_status, ""));
     out(&output).to_owned()
 }
 
+fn shown(text: &[u8], expected_status: i32) -> String {
+    answer(&["read", "-"], text, expected_status)
+}
+
+fn checked(text: &[u8], expected_status: i32) -> String {
+    answer(&["check", "-"], text, expected_status)
+}
+
 fn json(text: &[u8], expected_status: i32) -> String {
-    let output = run(&["read", "--json", "-"], text);
-    assert_eq!((status(&output), err(&output)), (expected_status, ""));
-    out(&output).to_owned()
+    answer(&["read", "--json", "-"], text, expected_status)
 }
 
 /// A file for one test, removed when it ends.
@@ -196,6 +204,112 @@ fn too_long_a_text_has_no_line_to_show() {
     assert!(shown(&b" ".repeat(16_384), 0).ends_with("accepted: 1 token, 0 names\n"));
 }
 
+// ---- a check for a person ----------------------------------------------------------------------------------------------
+
+#[test]
+fn an_accepted_program() {
+    let text = b"@least(a: int, b: int): int {
+  less: bool = lt a b;
+  br less .a .b;
+.a: .b2: nop; # nothing
+.b:
+  r: int = call @least a b;
+  ret b;
+.old:
+  ret a;
+}
+@main {
+  x: int = const -7;
+  call @main;
+  y: bool = const true;
+  z: bool = not y;
+  print x;
+}
+";
+    // Two labels in a row leave an empty block.
+    assert!(
+        checked(text, 1).starts_with(
+            "-:1:1: refused 22: [line 1] Error : empty block.\n 1 | @least(a: int, b: int): int {\n   | ^\n"
+        )
+    );
+    let text = String::from_utf8(text.to_vec()).expect("ASCII").replace(".b2: nop;", "jmp .b;");
+    let expected = "\
+@least(a: int, b: int): int
+  block 0: to 1, 2
+    less:bool = lt a:int b:int
+    br less .a .b
+  block 1 .a: from 0; to 2
+    jmp .b
+  block 2 .b: from 0, 1
+    r:int = call @least a:int b:int
+    ret b
+  block 3 .old: dead
+    ret a
+
+@main
+  block 0
+    x:int = const -7
+    call @main
+    y:bool = const true
+    z:bool = not y:bool
+    print x
+    ret (added)
+
+-: accepted: 2 functions, 5 blocks, 12 operations
+";
+    assert_eq!(checked(text.as_bytes(), 0), expected);
+    assert_eq!(checked(b"", 0), "-: accepted: 0 functions, 0 blocks, 0 operations\n");
+}
+
+#[test]
+fn a_refused_program() {
+    let file = Scratch::new("refused-program.bril", b"@f {\n  x: int = const true;\n}\n");
+    let output = run(&["check", file.name()], b"");
+    let expected = format!(
+        "\
+{}:2:18: refused 17: [line 2] Error at 'true': 'int' type expected; 'bool' found
+ 2 |   x: int = const true;
+   |                  ^
+",
+        file.name()
+    );
+    assert_eq!((status(&output), out(&output), err(&output)), (1, expected.as_str(), ""));
+    let expected = [
+        "-:1:6: refused 6: [line 1] Error at end of file: Local identifier expected.",
+        " 2 | @f { ",
+        "   |      ^",
+        " note: line 2 of the file is counted as line 1, since newlines in comments are not counted",
+        "",
+    ];
+    assert_eq!(checked(b"# a rule\n@f { ", 1), expected.join("\n"));
+}
+
+#[test]
+fn blocks_and_edges_as_graphviz() {
+    let text = b"@f(a: int): int { .s: br q .s .t; .t: ret a; .u: jmp .t; } @g { nop; }";
+    let expected = r#"digraph {
+  node [shape=box, fontname=monospace];
+  subgraph cluster_0 {
+    label="@f(a: int): int";
+    f0b0 [label="block 0 .s\lbr q .s .t\l"];
+    f0b1 [label="block 1 .t\lret a\l"];
+    f0b2 [label="block 2 .u\ljmp .t\l", style=dashed];
+    f0b0 -> f0b0 [label=true];
+    f0b0 -> f0b1 [label=false];
+    f0b2 -> f0b1;
+  }
+  subgraph cluster_1 {
+    label="@g";
+    f1b0 [label="block 0\lnop\lret (added)\l"];
+  }
+}
+"#;
+    assert_eq!(answer(&["check", "--dot", "-"], text, 0), expected);
+    let refused = run(&["check", "--dot", "-"], b"@f { }");
+    assert_eq!((status(&refused), out(&refused)), (1, ""), "nothing for Graphviz");
+    assert!(err(&refused).starts_with("-:1:1: refused 22: [line 1] Error : empty block.\n 1 | @f { }\n"));
+}
+
 // ---- JSON --------------------------------------------------------------------------------------------------------------
 
 #[test]
@@ -219,16 +333,111 @@ fn json_of_a_refused_text() {
     assert!(json(b"\x7f", 1).contains(r"'\u007f'."));
 }
 
+#[test]
+fn json_of_a_checked_text() {
+    let text = b"@f(a: int): int { .l: b: int = call @f a; br c .l .m; .m: ret b; }";
+    let line = answer(&["check", "--json", "-"], text, 0);
+    let (front, functions) = line.split_once(r#","functions":"#).expect("functions");
+    assert_eq!(format!("{front}}}\n"), json(text, 0), "the tokens and names are those of read");
+    let expected = concat!(
+        r#"[{"token":0,"name":0,"line":1,"name_place":0,"name_length":2,"formals":[[1,"int"]],"ret":"int","types":["int"],"#,
+        r#""type":0,"labels":[[2,9,0],[5,24,1]],"end_token":29,"end_place":65,"blocks":["#,
+        r#"{"ops":[{"kind":"call","token":15,"result":[3,"int"],"callee":[0,"fn 0"],"operands":[[1,"int"]],"labels":[]},"#,
+        r#"{"kind":"br","token":19,"result":null,"callee":null,"operands":[[4,"placeholder"]],"labels":[2,5]}],"#,
+        r#""succs":[0,1],"preds":[0],"dead":false},"#,
+        r#"{"ops":[{"kind":"ret","token":26,"result":null,"callee":null,"operands":[[3,"placeholder"]],"labels":[]}],"#,
+        r#""succs":[],"preds":[0],"dead":false}]}]}"#,
+        "\n"
+    );
+    assert_eq!(functions, expected);
+    let refused = answer(&["check", "--json", "-"], b"@f { ret x; }", 1);
+    let expected = r#"{"number":16,"line":1,"place":5,"message":"[line 1] Error at 'x': Undefined identifier.\u000a"}"#;
+    assert_eq!(refused.trim_end(), expected);
+}
+
 // ---- streams -----------------------------------------------------------------------------------------------------------
 
 fn stream(texts: &[Vec<u8>]) -> Vec<u8> {
     texts.iter().flat_map(|text| [text.len().to_string().as_bytes(), b"\n", text].concat()).collect()
 }
 
+/// The same of checked texts, every field.
+#[test]
+fn a_stream_of_checks_answers_every_text() {
+    let texts: Vec<Vec<u8>> = texts::generated(Depth::Check, 2, 0..3000).chain(edges::limits_of_check()).collect();
+    let output = run(&["check", "--json", "--stream"], &stream(&texts));
+    assert_eq!((status(&output), err(&output)), (0, ""));
+    let lines: Vec<&str> = out(&output).lines().collect();
+    assert_eq!(lines.len(), texts.len());
+    let mut reader = Reader::new();
+    for (line, text) in lines.iter().zip(&texts) {
+        let (line, said) = (Json::parse(line), by_checker(&mut reader, text));
+        assert_same(&line, &said);
+        if let Said::Accepted { functions, .. } = &said {
+            let expected = functions.iter().map(function_json).collect();
+            assert_eq!(line.get("functions"), Some(&Json::List(expected)));
+        }
+    }
+}
+
+fn object<const COUNT: usize>(members: [(&str, Json); COUNT]) -> Json {
+    Json::Object(members.map(|(key, value)| (key.to_owned(), value)).into())
+}
+
+fn numbers(numbers: &[usize]) -> Json {
+    Json::List(numbers.iter().map(|&number| Json::Number(number as i64)).collect())
+}
+
+fn function_json(function: &SaidFunction) -> Json {
+    let number = |number: usize| Json::Number(number as i64);
+    let words = function.formals.iter().map(|formal| Json::Text(formal.ty.long_word()));
+    let labels = function.labels.iter().map(|label| numbers(&[label.name, label.token, label.block]));
+    object([
+        ("token", number(function.token)),
+        ("name", number(function.name)),
+        ("line", number(function.line as usize)),
+        ("name_place", number(function.place)),
+        ("name_length", number(function.length)),
+        ("formals", Json::List(function.formals.iter().map(variable_json).collect())),
+        ("ret", Json::Text(function.result.long_word())),
+        ("types", Json::List(words.collect())),
+        ("type", number(function.type_number)),
+        ("labels", Json::List(labels.collect())),
+        ("end_token", number(function.end_token)),
+        ("end_place", number(function.end_place)),
+        ("blocks", Json::List(function.blocks.iter().map(block_json).collect())),
+    ])
+}
+
+fn block_json(block: &SaidBlock) -> Json {
+    object([
+        ("ops", Json::List(block.operations.iter().map(operation_json).collect())),
+        ("succs", numbers(&block.successors)),
+        ("preds", numbers(&block.predecessors)),
+        ("dead", Json::Bool(block.is_dead)),
+    ])
+}
+
+fn operation_json(operation: &SaidOperation) -> Json {
+    let optional = |variable: &Option<SaidVariable>| variable.as_ref().map_or(Json::Null, variable_json);
+    object([
+        ("kind", Json::Text(operation.kind.to_owned())),
+        ("token", Json::Number(operation.token as i64)),
+        ("result", optional(&operation.result)),
+        ("callee", optional(&operation.callee)),
+        ("operands", Json::List(operation.operands.iter().map(variable_json).collect())),
+        ("labels", numbers(&operation.labels)),
+    ])
+}
+
+fn variable_json(variable: &SaidVariable) -> Json {
+    Json::List(vec![Json::Number(variable.name as i64), Json::Text(variable.ty.long_word())])
+}
+
 /// Each line of a long stream, against what the library says.
 #[test]
 fn a_stream_answers_every_text() {
-    let texts: Vec<Vec<u8>> = texts::generated(2, 0..3000).chain(edges::limits()).collect();
+    let texts: Vec<Vec<u8>> = texts::generated(Depth::Read, 2, 0..3000).chain(edges::limits()).collect();
     let output = run(&["read", "--json", "--stream"], &stream(&texts));
     assert_eq!((status(&output), err(&output)), (0, ""));
     let lines: Vec<&str> = out(&output).lines().collect();
@@ -248,7 +457,7 @@ fn assert_same(line: &Json, said: &Said) {
             assert_eq!(&message, m);
             assert_eq!(line.get("tokens"), None);
         }
-        Said::Accepted { tokens, names } => {
+        Said::Accepted { tokens, names, .. } => {
             assert_eq!((number("number"), number("line"), number("place"), message.len()), (0, 0, 0, 0));
             let expected: Vec<Json> = tokens
                 .iter()
@@ -328,14 +537,52 @@ fn a_stream_goes_on_after_too_long_a_text() {
     assert!(lines[1].contains(r#"[["local",0,1,0],["END_OF_FILE",null,1,1]]"#));
 }
 
+// ---- the examples ------------------------------------------------------------------------------------------------------
+
+/// What README.md shows of the examples is what the tool says of them.
+#[test]
+fn the_examples_of_the_readme() {
+    let readme = include_str!("../../README.md");
+    for (file, expected_status) in [("examples/frost.bril", 0), ("examples/frost-refused.bril", 1)] {
+        let root = concat!(env!("CARGO_MANIFEST_DIR"), "/..");
+        let output = Command::new(TOOL).args(["check", file]).current_dir(root).output().expect("the tool runs");
+        assert_eq!((status(&output), err(&output)), (expected_status, ""));
+        let shown =
+            readme.split(&format!("$ ./pitchsleet check {file}\n")).nth(1).expect("README.md shows the example");
+        let mut rest = out(&output);
+        for line in shown.lines().take_while(|line| line.starts_with("    ")) {
+            let line = &line[4..];
+            // Where README.md leaves something out, the next line is found further on.
+            match line {
+                ".." => {}
+                _ => {
+                    let at =
+                        rest.find(line).unwrap_or_else(|| panic!("the tool doesn't say: {line}\n{}", out(&output)));
+                    rest = &rest[at + line.len()..];
+                }
+            }
+        }
+        assert_eq!(rest, "\n", "README.md shows the end");
+    }
+}
+
 // ---- usage -------------------------------------------------------------------------------------------------------------
 
 #[test]
 fn what_can_t_be_run_is_2_with_one_line() {
     for words in [
         &[][..],
-        &["check", "x"],
+        &["run", "x"],
         &["read"],
+        &["check"],
+        &["check", "--dot"],
+        &["check", "--dot", "--json", "-"],
+        &["check", "--dot", "--stream"],
+        &["check", "--stream"],
+        &["check", "--json", "--stream", "-"],
+        &["check", "a", "b"],
+        &["check", "no/such/file"],
+        &["read", "--dot", "-"],
         &["read", "--json"],
         &["read", "--stream"],
         &["read", "--stream", "-"],
@@ -358,10 +605,10 @@ fn what_can_t_be_run_is_2_with_one_line() {
 
 #[test]
 fn help_and_version() {
-    for words in [&["--help"][..], &["-h"], &["read", "--help"], &["read", "x", "-h"]] {
+    for words in [&["--help"][..], &["-h"], &["read", "--help"], &["read", "x", "-h"], &["check", "--dot", "-h"]] {
         let output = run(words, b"");
         assert_eq!((status(&output), err(&output)), (0, ""));
-        assert!(out(&output).contains("pitchsleet read FILE"));
+        assert!(out(&output).contains("pitchsleet read FILE") && out(&output).contains("pitchsleet check FILE"));
         assert!(out(&output).contains("not in a comment"), "it says how LINE is counted");
     }
     let output = run(&["--version"], b"");

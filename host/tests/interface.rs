@@ -6,9 +6,9 @@ use pitchsleet::{Reader, TokenValue};
 
 const DOCUMENT: &str = include_str!("../../docs/INTERFACE.md");
 
-/// The rows of the table under a heading, without its head: cells without code marks.
+/// The rows of the first table under a heading, without its head: cells without code marks.
 fn table(heading: &str) -> Vec<Vec<String>> {
-    let section = DOCUMENT.split(&format!("\n### {heading}\n")).nth(1);
+    let section = DOCUMENT.split(&format!("# {heading}\n")).nth(1);
     let section = section.unwrap_or_else(|| panic!("docs/INTERFACE.md has no section {heading}"));
     let lines = section.lines().skip_while(|line| !line.starts_with('|'));
     let rows = lines.take_while(|line| line.starts_with('|')).skip(2);
@@ -83,6 +83,129 @@ fn fields_of_the_answer() {
     assert_eq!(numbered(&table("The answer")), fields);
     assert_eq!(number_between("The struct has ", " bytes"), size_of::<ReadAnswer>());
     assert_eq!(number_between("aligned to ", "."), align_of::<ReadAnswer>());
+}
+
+/// The slices of the checker's records, which follow each other in `out` behind those of reading.
+#[test]
+fn slices_of_the_checker() {
+    let rows = table("Functions, items, blocks and edges, in Rattle (crates/functions)");
+    let slices = [
+        ("functions", raw::FUNCTIONS, raw::FUNCTION_BYTES, raw::FUNCTIONS_OFFSET),
+        ("items", raw::ITEMS, raw::ITEM_BYTES, raw::ITEMS_OFFSET),
+        ("arguments", raw::ARGUMENTS, raw::ARGUMENT_BYTES, raw::ARGUMENTS_OFFSET),
+        ("blocks", raw::BLOCKS, raw::BLOCK_BYTES, raw::BLOCKS_OFFSET),
+        ("predecessors", raw::PREDECESSORS, raw::PREDECESSOR_BYTES, raw::PREDECESSORS_OFFSET),
+    ];
+    assert_eq!(rows.len(), slices.len());
+    let mut end = raw::OUT_BYTES;
+    for (row, (name, records, bytes, offset)) in rows.iter().zip(slices) {
+        assert_eq!((row[0].as_str(), number(&row[2]) * 4, offset), (name, bytes, end));
+        assert_eq!(number(row[1].trim_start_matches("the count, then ")), records);
+        end += number(&row[3]) * 4;
+    }
+    assert_eq!(raw::FUNCTION_RECORDS_OFFSET, raw::FUNCTIONS_OFFSET + 4, "the count is one cell");
+    assert_eq!(end, raw::CHECK_OUT_BYTES);
+}
+
+/// Each cell of a table by its number, what its row begins with, and where the crate has it.
+fn assert_cells(heading: &str, cells: &[(&str, &str, usize)]) {
+    let rows = table(heading);
+    assert_eq!(rows.len(), cells.len(), "{heading}");
+    for (row, (cell, begins, offset)) in rows.iter().zip(cells) {
+        assert_eq!(row[0], *cell, "{heading}");
+        assert!(row[1].starts_with(begins), "{heading}: {} is {}", row[0], row[1]);
+        let first = cell.split([' ', ',']).next().expect("a split has a first part");
+        assert_eq!(number(first) * 4, *offset, "{heading}: {begins}");
+    }
+}
+
+#[test]
+fn cells_of_a_function() {
+    assert_cells(
+        "Cells of a function",
+        &[
+            ("0", "name token", raw::FUNCTION_TOKEN),
+            ("1", "name", raw::FUNCTION_NAME),
+            ("2", "closing token", raw::FUNCTION_END),
+            ("3", "the name's place", raw::FUNCTION_PLACE),
+            ("4", "the name's length", raw::FUNCTION_LENGTH),
+            ("5", "the name's line", raw::FUNCTION_LINE),
+            ("6", "result type: 1 int, 2 bool, 3 void", raw::FUNCTION_RESULT),
+            ("7", "function type number", raw::FUNCTION_TYPE),
+            ("8, 9", "first item, and how many", raw::FUNCTION_ITEMS),
+            ("10, 11", "first block, and how many", raw::FUNCTION_BLOCKS),
+            ("12", "how many formals, 0 to 16", raw::FUNCTION_FORMAL_COUNT),
+            ("13 + 2k, 14 + 2k", "formal k: its name and its type", raw::FUNCTION_FORMALS),
+        ],
+    );
+    assert_eq!(raw::FUNCTION_ITEM_COUNT, raw::FUNCTION_ITEMS + 4);
+    assert_eq!(raw::FUNCTION_BLOCK_COUNT, raw::FUNCTION_BLOCKS + 4);
+    assert_eq!(raw::FUNCTION_FORMALS + raw::FORMALS * 8, raw::FUNCTION_BYTES);
+}
+
+#[test]
+fn cells_of_a_block() {
+    assert_cells(
+        "Cells of a block",
+        &[
+            ("0", "first operation", raw::BLOCK_OPERATIONS),
+            ("1", "how many operations", raw::BLOCK_OPERATION_COUNT),
+            ("2", "how many successors", raw::BLOCK_SUCCESSOR_COUNT),
+            ("3, 4", "first and second successor", raw::BLOCK_SUCCESSORS),
+            ("5", "first predecessor", raw::BLOCK_PREDECESSORS),
+            ("6", "how many predecessors", raw::BLOCK_PREDECESSOR_COUNT),
+            ("7", "dead mark", raw::BLOCK_DEAD),
+        ],
+    );
+}
+
+/// The text of each kind of item is checked, and must come back with the kind's number, and with something in just the
+/// cells that the document gives it.
+#[test]
+fn cells_of_an_item() {
+    assert_eq!((raw::ITEM_KIND, raw::ITEM_TOKEN), (0, 4));
+    assert_eq!((raw::ITEM_RESULT, raw::ITEM_LEFT, raw::ITEM_RIGHT), (2 * 4, 4 * 4, 6 * 4));
+    // The name with the number 0 stands in no item.
+    let before = "@zero { nop; } @g(a: int) { nop; } @h(a: int): int { ret a; } @f(n: int): int {";
+    let texts = [
+        ".l: ret n;", "x: bool = lt n n;", "x: int = id n;", "x: int = const 5;", "call @g n;", "x: int = call @h n;",
+        "print n;", "nop;", "jmp .z; .z: ret n;", "br n .z .z; .z: ret n;", "", "ret n;",
+    ];
+    let rows = table("Cells of an item");
+    assert_eq!(rows.len(), texts.len());
+    for (row, text) in rows.iter().zip(texts) {
+        let kind = number(&row[0]);
+        let text = match kind {
+            11 => "@f { ret; }".to_owned(),
+            1 | 12 | 9 | 10 => format!("{before} {text} }}"),
+            _ => format!("{before} {text} ret n; }}"),
+        };
+        let cells = last_function_s_first_item(&text);
+        assert_eq!(cells[0] as usize, kind, "{text}");
+        let filled = |cell: &str, first: u32, second: u32| match cell {
+            "" => (first, second) == (0, 0),
+            // A name or a label with no type.
+            cell if cell.ends_with(", 0") => first != 0 && second == 0,
+            // The run of arguments: one, behind none.
+            "first argument, how many" => (first, second) == (0, 1),
+            _ => first != 0 && second != 0,
+        };
+        let row: Vec<&str> = row.iter().map(String::as_str).collect();
+        assert!(cells[1] != 0 && !row[2].is_empty(), "{text}: the token");
+        for (column, cell) in [(3, 2), (4, 4), (5, 6)] {
+            assert!(filled(row[column], cells[cell], cells[cell + 1]), "{text}: {}: {cells:?}", row[column]);
+        }
+    }
+}
+
+fn last_function_s_first_item(text: &str) -> Vec<u32> {
+    let (mut out, mut message) = (vec![0; raw::CHECK_OUT_BYTES], [0; raw::MESSAGE_BYTES]);
+    let answer = raw::check(text.as_bytes(), &mut out, &mut message);
+    assert_eq!(answer.number, 0, "{text}");
+    let cell = |offset: usize| u32::from_le_bytes(out[offset..][..4].try_into().expect("four bytes"));
+    let last = raw::FUNCTION_RECORDS_OFFSET + (answer.functions as usize - 1) * raw::FUNCTION_BYTES;
+    let first = cell(last + raw::FUNCTION_ITEMS) as usize;
+    (0..raw::ITEM_BYTES / 4).map(|i| cell(raw::ITEMS_OFFSET + first * raw::ITEM_BYTES + i * 4)).collect()
 }
 
 /// The order of the function's parameters, in the C of the document and in the Rust of the declaration.

@@ -44,6 +44,8 @@ fn it_works_from_any_folder_and_starts_at_once() {
     let first = run(&script(), &folder, &["read", "rule.bril"], &path);
     assert!(first.status.success(), "{}", String::from_utf8_lossy(&first.stderr));
     assert!(first.stdout.ends_with(b"rule.bril: accepted: 6 tokens, 1 name\n"));
+    let checked = run(&script(), &folder, &["check", "rule.bril"], &path);
+    assert!(checked.stdout.ends_with(b"rule.bril: accepted: 1 function, 1 block, 2 operations\n"));
 
     let link = folder.join("linked");
     symlink(script(), &link).expect("a link");

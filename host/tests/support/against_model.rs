@@ -1,93 +1,111 @@
-//! The reader and the C function against the model of document 01: every field, and every byte lent.
-use pitchsleet::Reader;
-use pitchsleet::raw::{self, ReadAnswer};
+//! This crate and the C functions against the model of document 01: every field, and every byte lent.
+use std::fmt::Debug;
 
-use super::model;
-use super::said::{Said, SaidName, SaidToken, by_reader};
+use pitchsleet::Reader;
+use pitchsleet::raw::{self, CheckAnswer, ReadAnswer};
+
+use super::by_crate::{by_checker, by_reader};
+use super::model::{self, Checked};
+use super::records::Cells;
+use super::said::Said;
 
 /// A reader, and slices to lend, longer than their sizes and full of what the text before left there.
 pub struct Lent {
     reader: Reader,
-    out: Vec<u8>,
+    read_out: Vec<u8>,
+    check_out: Vec<u8>,
     message: Vec<u8>,
 }
 
 impl Lent {
     pub fn new() -> Self {
-        Self { reader: Reader::new(), out: vec![0xa5; raw::OUT_BYTES + 7], message: vec![0xa5; raw::MESSAGE_BYTES + 7] }
+        Self {
+            reader: Reader::new(),
+            read_out: vec![0xa5; raw::OUT_BYTES + 7],
+            check_out: vec![0xa5; raw::CHECK_OUT_BYTES + 7],
+            message: vec![0xa5; raw::MESSAGE_BYTES + 7],
+        }
     }
 
     /// What the reader says of a text. The reader and the C function both must answer what the model says, in every field
     /// and in every byte lent.
-    pub fn compare_with_model(&mut self, text: &[u8]) -> Result<Said, String> {
+    pub fn compare_read(&mut self, text: &[u8]) -> Result<Said, String> {
         let expected = model::read(text);
         let said = by_reader(&mut self.reader, text);
-        if said != expected {
-            return Err(format!("the reader says {said}\n  the model {expected}"));
-        }
-        let answer = raw::read(text, &mut self.out, &mut self.message);
-        if answer != expected_answer(&expected) {
-            return Err(format!("the C function answers {answer:?}\n  the model says {expected}"));
-        }
-        if !same_then_zeros(&self.out, &expected_out(&expected)) {
-            return Err("a byte of the records is not what the model says".to_owned());
-        }
-        if !same_then_zeros(&self.message, expected_message(&expected)) {
-            return Err("a byte of the message is not what the model says".to_owned());
-        }
+        same(&said, &expected)?;
+        let cells = Cells::of_read(&expected);
+        let answer = raw::read(text, &mut self.read_out, &mut self.message);
+        same_answer(&answer, &read_answer(&expected, &cells))?;
+        same_bytes("records", &self.read_out, &cells.bytes(2))?;
+        same_bytes("message", &self.message, message_of(&expected))?;
         Ok(said)
     }
+
+    /// The same of a text that is checked.
+    pub fn compare_check(&mut self, text: &[u8]) -> Result<Checked, String> {
+        let expected = model::check(text);
+        let said = by_checker(&mut self.reader, text);
+        same(&said, &expected.said)?;
+        let cells = Cells::of_check(&expected.said);
+        let answer = raw::check(text, &mut self.check_out, &mut self.message);
+        same_answer(&answer, &check_answer(&expected.said, &cells))?;
+        same_bytes("records", &self.check_out, &cells.bytes(7))?;
+        same_bytes("message", &self.message, message_of(&expected.said))?;
+        Ok(expected)
+    }
 }
 
-fn same_then_zeros(found: &[u8], expected: &[u8]) -> bool {
+fn same(said: &Said, expected: &Said) -> Result<(), String> {
+    if said == expected { Ok(()) } else { Err(format!("this crate says {said}\n  the model {expected}")) }
+}
+
+fn same_answer<T: PartialEq + Debug>(found: &T, expected: &T) -> Result<(), String> {
+    if found == expected { Ok(()) } else { Err(format!("the C function answers {found:?}\n  the model {expected:?}")) }
+}
+
+/// The bytes that are expected, and zeros up to the slice's end.
+fn same_bytes(what: &str, found: &[u8], expected: &[u8]) -> Result<(), String> {
     let (front, rest) = found.split_at(expected.len());
-    front == expected && rest.iter().all(|&byte| byte == 0)
+    if front == expected && rest.iter().all(|&byte| byte == 0) {
+        return Ok(());
+    }
+    let expected = expected.iter().chain(std::iter::repeat(&0));
+    let at = found.iter().zip(expected).position(|(found, expected)| found != expected);
+    Err(format!("a byte of the {what} is not what the model says, the first at {at:?}"))
 }
 
-fn expected_answer(said: &Said) -> ReadAnswer {
+fn read_answer(said: &Said, cells: &Cells) -> ReadAnswer {
+    let (number, line, place) = refusal_of(said);
+    let counts = cells.counts();
+    ReadAnswer { number, line, place, tokens: counts.tokens, names: counts.names }
+}
+
+fn check_answer(said: &Said, cells: &Cells) -> CheckAnswer {
+    let (number, line, place) = refusal_of(said);
+    let counts = cells.counts();
+    CheckAnswer {
+        number,
+        line,
+        place,
+        tokens: counts.tokens,
+        names: counts.names,
+        functions: counts.functions,
+        items: counts.items,
+        arguments: counts.arguments,
+        blocks: counts.blocks,
+        predecessors: counts.predecessors,
+    }
+}
+
+/// Number, line and place: of an accepted text all 0.
+fn refusal_of(said: &Said) -> (u32, u32, u32) {
     match said {
-        Said::Accepted { tokens, names } => {
-            ReadAnswer { tokens: tokens.len() as u32, names: names.len() as u32, ..ReadAnswer::default() }
-        }
-        Said::Refused { number, line, place, .. } => {
-            ReadAnswer { number: *number, line: *line, place: *place as u32, ..ReadAnswer::default() }
-        }
+        Said::Accepted { .. } => (0, 0, 0),
+        Said::Refused { number, line, place, .. } => (*number, *line, *place as u32),
     }
 }
 
-/// The kinds in the order of the Rust's enum, which numbers them from 1.
-const KINDS: [&str; 38] = [
-    "local", "global", "label", "integer", "add", "mul", "sub", "div", "mod", "true", "false", "eq", "lt", "gt", "le",
-    "ge", "not", "and", "or", "jmp", "br", "call", "ret", "=", "(", ")", "{", "}", ":", ";", ",", "int", "bool",
-    "const", "print", "nop", "id", "END_OF_FILE",
-];
-
-/// The records as bytes, up to the last name; where nothing is accepted there are none.
-fn expected_out(said: &Said) -> Vec<u8> {
-    let Said::Accepted { tokens, names } = said else { return Vec::new() };
-    let mut out: Vec<u8> = tokens.iter().flat_map(token_record).collect();
-    if !names.is_empty() {
-        out.resize(65_536, 0);
-        out.extend(names.iter().flat_map(name_record));
-    }
-    out
-}
-
-fn token_record(token: &SaidToken) -> Vec<u8> {
-    let kind = KINDS.iter().position(|kind| *kind == token.kind).expect("a kind") as u32 + 1;
-    let value = token.value.unwrap_or(0) as u32;
-    cells(&[kind, value, token.line, token.place as u32])
-}
-
-fn name_record(name: &SaidName) -> Vec<u8> {
-    cells(&[name.place as u32, name.spelling.len() as u32])
-}
-
-fn cells(cells: &[u32]) -> Vec<u8> {
-    cells.iter().flat_map(|cell| cell.to_le_bytes()).collect()
-}
-
-fn expected_message(said: &Said) -> &[u8] {
+fn message_of(said: &Said) -> &[u8] {
     match said {
         Said::Accepted { .. } => &[],
         Said::Refused { message, .. } => message,

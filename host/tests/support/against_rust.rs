@@ -1,22 +1,27 @@
-//! The reader against the Rust original: every field that the Rust has.
+//! This crate against the Rust original: every field that the Rust has.
 use std::fmt::Debug;
 
 use pitchsleet::Printable;
 
-use super::oracle::{RustSaid, RustToken};
-use super::said::{Said, SaidToken};
+use super::model;
+use super::oracle::{RustFunction, RustOperation, RustSaid, RustToken};
+use super::said::{Said, SaidFunction, SaidOperation, SaidToken};
 
 /// Every field that the Rust has must be equal. A place, which it has not, is right where the text has at it what the Rust
-/// speaks of.
+/// speaks of. An empty block is 22 here and a panic there.
 pub fn compare_with_rust(text: &[u8], said: &Said, rust: &RustSaid) -> Result<(), String> {
     match (said, rust) {
+        (Said::Refused { number: 22, .. }, RustSaid::Panicked) => Ok(()),
         (Said::Refused { number, line, place, message }, RustSaid::Refused { message: theirs }) => {
             same("message", &Printable(message).to_string(), &Printable(theirs).to_string())?;
             same("message's line", &line_in(theirs), &Some(*line))?;
             same("number by its text", &number_of(theirs), &Some(*number))?;
             refusal_stands_at(text, *number, *place, theirs)
         }
-        (Said::Accepted { tokens, names }, RustSaid::Accepted { tokens: theirs, names: their_names }) => {
+        (
+            Said::Accepted { tokens, names, functions },
+            RustSaid::Accepted { tokens: theirs, names: their_names, functions: their_functions },
+        ) => {
             same("count of tokens", &tokens.len(), &theirs.len())?;
             for (token, theirs) in tokens.iter().zip(theirs) {
                 compare_tokens(text, token, theirs, their_names)?;
@@ -24,14 +29,50 @@ pub fn compare_with_rust(text: &[u8], said: &Said, rust: &RustSaid) -> Result<()
             let spellings: Vec<&str> = names.iter().map(|name| name.spelling.as_str()).collect();
             same("list of names", &spellings, &their_names.iter().map(String::as_str).collect())?;
             rising(tokens.iter().map(|token| token.place))?;
-            rising(names.iter().map(|name| name.place))
+            rising(names.iter().map(|name| name.place))?;
+            same("count of functions", &functions.len(), &their_functions.len())?;
+            for (function, theirs) in functions.iter().zip(their_functions) {
+                compare_functions(tokens, function, theirs)?;
+            }
+            Ok(())
         }
-        (said, rust) => Err(format!("the reader says {said}\n  the Rust {rust:?}")),
+        (said, rust) => Err(format!("this crate says {said}\n  the Rust {rust:?}")),
+    }
+}
+
+fn compare_functions(tokens: &[SaidToken], function: &SaidFunction, rust: &RustFunction) -> Result<(), String> {
+    same("function's name", &function.name, &rust.name)?;
+    same("function's line", &function.line, &rust.line)?;
+    same("function type", &format!("fn {}", function.type_number), &rust.ty)?;
+    same("result type", &function.result.long_word(), &rust.result)?;
+    let formals: Vec<(usize, String)> = function.formals.iter().map(|v| (v.name, v.ty.long_word())).collect();
+    same("formals", &formals, &rust.formals)?;
+    same("types of formals", &formals.into_iter().map(|(_, ty)| ty).collect(), &rust.types)?;
+    same("count of blocks", &function.blocks.len(), &rust.blocks.len())?;
+    for (block, theirs) in function.blocks.iter().zip(&rust.blocks) {
+        same("successors", &block.successors, &theirs.successors)?;
+        same("predecessors", &block.predecessors, &theirs.predecessors)?;
+        let operations: Vec<RustOperation> = block.operations.iter().map(|op| as_in_rust(tokens, op)).collect();
+        same("operations", &operations, &theirs.operations)?;
+    }
+    Ok(())
+}
+
+/// An operation with what the Rust has of it: of its token how it is shown, and its line.
+fn as_in_rust(tokens: &[SaidToken], operation: &SaidOperation) -> RustOperation {
+    let token = &tokens[operation.token];
+    RustOperation {
+        kind: operation.kind.to_owned(),
+        token: (token.shown(), token.line),
+        result: operation.result.map(|v| (v.name, v.ty.long_word())),
+        callee: operation.callee.map(|v| (v.name, v.ty.long_word())),
+        operands: operation.operands.iter().map(|v| (v.name, v.ty.long_word())).collect(),
+        labels: operation.labels.clone(),
     }
 }
 
 fn same<T: PartialEq + Debug>(what: &str, ours: &T, theirs: &T) -> Result<(), String> {
-    if ours == theirs { Ok(()) } else { Err(format!("the {what}: the reader says {ours:?}, the Rust {theirs:?}")) }
+    if ours == theirs { Ok(()) } else { Err(format!("the {what}: this crate says {ours:?}, the Rust {theirs:?}")) }
 }
 
 fn compare_tokens(text: &[u8], token: &SaidToken, rust: &RustToken, names: &[String]) -> Result<(), String> {
@@ -82,13 +123,33 @@ fn line_in(message: &[u8]) -> Option<u32> {
     str::from_utf8(&rest[..end]).ok()?.parse().ok()
 }
 
-/// Document 01's number for a text of the Rust's lexer.
+/// The ITEM and the TEXT of a message, `[line N] Error ITEM: TEXT`.
+fn parts(message: &[u8]) -> Option<(&str, &str)> {
+    let (_, rest) = str::from_utf8(message).ok()?.split_once(" Error ")?;
+    rest.strip_suffix('\n')?.split_once(": ")
+}
+
+/// Document 01's number for a text of the Rust's.
 fn number_of(message: &[u8]) -> Option<u32> {
-    let (_, text) = str::from_utf8(message).ok()?.split_once(" Error : ")?;
-    let begins =
-        ["Only ASCII input", "Multiline comment no closed", "Unexpected token: '", "Expected number after '-'"];
-    let number = begins.iter().position(|begin| text.starts_with(begin))?;
-    Some(number as u32 + 1)
+    let (_, text) = parts(message)?;
+    // How the texts of 1 to 21 begin, where that tells them from each other.
+    let begins = [
+        "Only ASCII input", "Multiline comment no closed", "Unexpected token: '", "Expected number after '-'", "",
+        "Local identifier expected.", "Global identifier expected.", "Label identifier expected.", "Type expected.",
+        "Integer or boolean constant expected.", "Unexpected token.", "Basic block must start with a label.",
+        "Duplicate label found.", "Branch target '", "Unexpected type '", "Undefined identifier.", "",
+        "Void functions cannot return a value.", "Non-void functions must return a value.", "",
+        "Block terminator expected to be jump, br, or ret.",
+    ];
+    let by_begin = begins.iter().position(|begin| !begin.is_empty() && text.starts_with(begin));
+    let number = match by_begin {
+        Some(at) => at + 1,
+        None if text.contains("' type expected; '") => 17,
+        None if text.contains(" arguments expected, got ") => 20,
+        None if text.starts_with('\'') && text.ends_with("' expected.") => 5,
+        None => return None,
+    };
+    Some(number as u32)
 }
 
 fn refusal_stands_at(text: &[u8], number: u32, place: usize, message: &[u8]) -> Result<(), String> {
@@ -97,7 +158,25 @@ fn refusal_stands_at(text: &[u8], number: u32, place: usize, message: &[u8]) -> 
         1 => place == 0 && !text.is_ascii(),
         2 => rest.starts_with(b"/*"),
         3 => rest.first() == message.len().checked_sub(4).and_then(|at| message.get(at)),
-        _ => rest.starts_with(b"-"),
+        4 => rest.starts_with(b"-"),
+        _ => token_is_meant(text, number, place, message),
     };
     if stands { Ok(()) } else { Err(format!("the place {place}: what {number} speaks of does not stand there")) }
+}
+
+/// Whether the token at a place may be the one that a message of the parser reports with.
+fn token_is_meant(text: &[u8], number: u32, place: usize, message: &[u8]) -> bool {
+    let Said::Accepted { tokens, .. } = model::read(text) else { return false };
+    let (Some(token), Some((item, _))) = (tokens.iter().find(|token| token.place == place), parts(message)) else {
+        return false;
+    };
+    let spelled = || item == format!("at '{}'", String::from_utf8_lossy(word_at_front(&text[place..])));
+    match number {
+        13 => token.kind == "label" && spelled(),
+        14 => ["br", "jmp"].contains(&token.kind),
+        // Of two functions or of a formal it is the function's name; else an operation's token, of which the message says
+        // nothing.
+        15 | 16 => !["local", "label", ":", ";", "(", ")", "{", "}", "=", "END_OF_FILE"].contains(&token.kind),
+        _ => item == token.item(),
+    }
 }

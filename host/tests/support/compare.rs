@@ -7,7 +7,7 @@ use pitchsleet::Printable;
 use super::against_model::Lent;
 use super::against_rust::compare_with_rust;
 use super::model;
-use super::oracle::{Oracle, RustSaid};
+use super::oracle::{Depth, Oracle, RustSaid};
 use super::said::Said;
 
 /// How many texts the oracle is asked at once.
@@ -23,6 +23,9 @@ pub struct Report {
     texts: usize,
     /// Texts whose answer was held against the Rust's.
     held_to_rust: usize,
+    /// Texts that the Rust was asked and that were left out, since typing came to a block that can't be reached, or ties
+    /// with one: there its sources don't fix the order.
+    unreachable: usize,
     /// How many texts were answered with each number.
     numbers: BTreeMap<u32, usize>,
     differing: usize,
@@ -43,18 +46,24 @@ impl Report {
         self.held_to_rust
     }
 
-    fn agrees(&mut self, said: &Said, rust_was_asked: bool) {
-        *self.numbers.entry(said.number()).or_default() += 1;
-        if rust_was_asked && !is_by_a_limit(said) {
-            self.held_to_rust += 1;
+    fn agrees(&mut self, compared: &Compared) {
+        *self.numbers.entry(compared.number).or_default() += 1;
+        match compared.with {
+            With::ModelAlone => {}
+            With::Rust => self.held_to_rust += 1,
+            With::ModelForTheOrder => self.unreachable += 1,
         }
     }
 }
 
 impl Display for Report {
     fn fmt(&self, f: &mut Formatter<'_>) -> fmt::Result {
-        let Self { texts, held_to_rust, differing, .. } = self;
-        write!(f, "{texts} texts, {held_to_rust} of them held to the Rust; answers")?;
+        let Self { texts, held_to_rust, unreachable, differing, .. } = self;
+        write!(f, "{texts} texts, {held_to_rust} of them held to the Rust")?;
+        if *unreachable > 0 {
+            write!(f, ", {unreachable} with an unreachable block left out of that")?;
+        }
+        write!(f, "; answers")?;
         for (number, count) in &self.numbers {
             write!(f, " {number}: {count}")?;
         }
@@ -65,14 +74,30 @@ impl Display for Report {
 
 /// Compares texts as they come.
 pub struct Comparison {
+    depth: Depth,
     lent: Lent,
     oracle: Option<Oracle>,
     pub report: Report,
 }
 
+/// What came of a text that doesn't differ.
+struct Compared {
+    number: u32,
+    with: With,
+}
+
+/// What an answer was held to, beside the model.
+enum With {
+    /// Nothing: the Rust isn't there, or knows no such limit.
+    ModelAlone,
+    Rust,
+    /// Nothing: the order in which the Rust types the blocks isn't fixed.
+    ModelForTheOrder,
+}
+
 impl Comparison {
-    pub fn new() -> Self {
-        Self { lent: Lent::new(), oracle: Oracle::start(), report: Report::default() }
+    pub fn new(depth: Depth) -> Self {
+        Self { depth, lent: Lent::new(), oracle: Oracle::start(depth), report: Report::default() }
     }
 
     pub fn all(&mut self, texts: impl IntoIterator<Item = Vec<u8>>) {
@@ -91,8 +116,8 @@ impl Comparison {
         for (index, text) in texts.iter().enumerate() {
             let rust = rust.as_ref().map(|answers| &answers[index]);
             self.report.texts += 1;
-            match compare(&mut self.lent, text, rust) {
-                Ok(said) => self.report.agrees(&said, rust.is_some()),
+            match compare(self.depth, &mut self.lent, text, rust) {
+                Ok(compared) => self.report.agrees(&compared),
                 Err(_) => self.differs(text),
             }
         }
@@ -141,21 +166,32 @@ impl Comparison {
     fn difference(&mut self, text: &[u8]) -> Option<String> {
         let rust = self.ask_rust(&[text.to_vec()]);
         let rust = rust.as_ref().and_then(|answers| answers.first());
-        compare(&mut self.lent, text, rust).err()
+        compare(self.depth, &mut self.lent, text, rust).err()
     }
 }
 
-/// What the reader says of a text, where the model and the Rust say the same.
-fn compare(lent: &mut Lent, text: &[u8], rust: Option<&RustSaid>) -> Result<Said, String> {
-    let said = lent.compare_with_model(text)?;
-    match rust {
-        Some(rust) if !is_by_a_limit(&said) => compare_with_rust(text, &said, rust)?,
-        _ => {}
-    }
-    Ok(said)
+/// Holds what this crate says of a text to the model, and to the Rust where it has an answer of its own.
+fn compare(depth: Depth, lent: &mut Lent, text: &[u8], rust: Option<&RustSaid>) -> Result<Compared, String> {
+    let (said, order_is_open) = match depth {
+        Depth::Read => (lent.compare_read(text)?, false),
+        Depth::Check => {
+            let checked = lent.compare_check(text)?;
+            (checked.said, checked.order_is_open)
+        }
+    };
+    let with = match rust {
+        None => With::ModelAlone,
+        Some(_) if is_by_a_limit(&said) => With::ModelAlone,
+        Some(_) if order_is_open => With::ModelForTheOrder,
+        Some(rust) => {
+            compare_with_rust(text, &said, rust)?;
+            With::Rust
+        }
+    };
+    Ok(Compared { number: said.number(), with })
 }
 
 /// The Rust knows no limits: where one decides, the model alone is compared with.
 fn is_by_a_limit(said: &Said) -> bool {
-    (31..=34).contains(&said.number())
+    (31..=38).contains(&said.number())
 }

@@ -225,22 +225,34 @@ impl<'a> Body<'a> {
 
 // ---- layouts -----------------------------------------------------------------------------------------------------------
 
+/// What stands in a comment.
+type Comment = fn(&mut Dice) -> String;
+
 /// A text with these tokens: as short as can be, in lines as people write them, or with anything between two tokens.
 pub fn laid_out(dice: &mut Dice, tokens: &[String]) -> Vec<u8> {
-    let gap: fn(&mut Dice, &str, &str) -> String = match dice.below(4) {
-        0 => |_, _, _| String::new(),
+    with_comments(dice, tokens, comment_words)
+}
+
+/// The same with comments that end where they seem to.
+pub fn laid_out_plainly(dice: &mut Dice, tokens: &[String]) -> Vec<u8> {
+    with_comments(dice, tokens, |dice| dice.one(&["", " ", "note", "@f { nop; }", "x * y", "#", "1", "$"]).to_owned())
+}
+
+fn with_comments(dice: &mut Dice, tokens: &[String], comment: Comment) -> Vec<u8> {
+    let gap: fn(&mut Dice, &str, &str, Comment) -> String = match dice.below(4) {
+        0 => |_, _, _, _| String::new(),
         1 => in_lines,
-        _ => |dice, _, _| any_gap(dice),
+        _ => |dice, _, _, comment| any_gap(dice, comment),
     };
     let mut text = String::new();
     let mut last = "";
     for token in tokens {
-        let between = gap(dice, last, token);
+        let between = gap(dice, last, token, comment);
         let blank = if between.is_empty() && needs_blank(last, token) { " " } else { "" };
         text.extend([between.as_str(), blank, token]);
         last = token;
     }
-    text.push_str(&gap(dice, last, ""));
+    text.push_str(&gap(dice, last, "", comment));
     text.into_bytes()
 }
 
@@ -250,7 +262,7 @@ fn needs_blank(last: &str, next: &str) -> bool {
     last.ends_with(is_part) && next.starts_with(is_part)
 }
 
-fn in_lines(dice: &mut Dice, last: &str, next: &str) -> String {
+fn in_lines(dice: &mut Dice, last: &str, next: &str, comment: Comment) -> String {
     let gap = match (last, next) {
         (";" | "{", "}") => "\n",
         (";" | "{", label) if label.starts_with('.') => "\n",
@@ -260,22 +272,22 @@ fn in_lines(dice: &mut Dice, last: &str, next: &str) -> String {
         _ => " ",
     };
     match dice.below(60) {
-        0 => format!(" # {}\n{gap}", comment_words(dice)),
-        1 => format!("{gap}/* {} */ ", comment_words(dice)),
+        0 => format!(" # {}\n{gap}", comment(dice)),
+        1 => format!("{gap}/* {} */ ", comment(dice)),
         _ => gap.to_owned(),
     }
 }
 
-fn any_gap(dice: &mut Dice) -> String {
+fn any_gap(dice: &mut Dice, comment: Comment) -> String {
     match dice.below(24) {
         0..=9 => " ".to_owned(),
         10..=13 => "\n".to_owned(),
         14 => "\r\n\t".to_owned(),
         15 => "  \n\n ".to_owned(),
-        16 => format!("#{}\n", comment_words(dice)),
-        17 => format!("//{}\n", comment_words(dice)),
-        18 => format!("/*{}*/", comment_words(dice)),
-        19 => format!("/*{}\n{}\n*/", comment_words(dice), comment_words(dice)),
+        16 => format!("#{}\n", comment(dice)),
+        17 => format!("//{}\n", comment(dice)),
+        18 => format!("/*{}*/", comment(dice)),
+        19 => format!("/*{}\n{}\n*/", comment(dice), comment(dice)),
         _ => String::new(),
     }
 }

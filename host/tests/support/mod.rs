@@ -4,12 +4,16 @@
 
 pub mod against_model;
 pub mod against_rust;
+pub mod by_crate;
 pub mod compare;
 pub mod dice;
 pub mod edges;
+pub mod fixed;
 pub mod grammar;
 pub mod json;
 pub mod model;
 pub mod oracle;
+pub mod programs;
+pub mod records;
 pub mod said;
 pub mod texts;

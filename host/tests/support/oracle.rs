@@ -7,11 +7,26 @@ use std::thread;
 
 use super::json::Json;
 
-/// What the Rust says of a text's lexing. It knows no numbers and no places.
+/// How far a text is taken.
+#[derive(Clone, Copy, Debug, PartialEq, Eq)]
+pub enum Depth {
+    Read,
+    Check,
+}
+
+/// What the Rust says of a text. It knows no numbers and no places.
 #[derive(Debug, PartialEq, Eq)]
 pub enum RustSaid {
-    Refused { message: Vec<u8> },
-    Accepted { tokens: Vec<RustToken>, names: Vec<String> },
+    Refused {
+        message: Vec<u8>,
+    },
+    /// Where a text is read and no more, there are no functions.
+    Accepted {
+        tokens: Vec<RustToken>,
+        names: Vec<String>,
+        functions: Vec<RustFunction>,
+    },
+    /// Without a message: the parser's panic on an empty block.
     Panicked,
 }
 
@@ -20,6 +35,38 @@ pub struct RustToken {
     pub kind: String,
     pub value: Option<i64>,
     pub line: i64,
+}
+
+/// A name and its type's word.
+pub type RustVariable = (usize, String);
+
+#[derive(Debug, PartialEq, Eq)]
+pub struct RustFunction {
+    pub name: usize,
+    pub line: u32,
+    pub ty: String,
+    pub result: String,
+    pub types: Vec<String>,
+    pub formals: Vec<RustVariable>,
+    pub blocks: Vec<RustBlock>,
+}
+
+#[derive(Debug, PartialEq, Eq)]
+pub struct RustBlock {
+    pub successors: Vec<usize>,
+    pub predecessors: Vec<usize>,
+    pub operations: Vec<RustOperation>,
+}
+
+#[derive(Debug, PartialEq, Eq)]
+pub struct RustOperation {
+    pub kind: String,
+    /// How the token is shown, and its line.
+    pub token: (String, u32),
+    pub result: Option<RustVariable>,
+    pub callee: Option<RustVariable>,
+    pub operands: Vec<RustVariable>,
+    pub labels: Vec<usize>,
 }
 
 pub struct Oracle {
@@ -31,9 +78,9 @@ pub struct Oracle {
 
 impl Oracle {
     /// The process; none where the Rust files are not to be had, of which the build has said so.
-    pub fn start() -> Option<Self> {
+    pub fn start(depth: Depth) -> Option<Self> {
         let mut process = Command::new(program()?)
-            .arg("--read")
+            .args((depth == Depth::Read).then_some("--read"))
             .stdin(Stdio::piped())
             .stdout(Stdio::piped())
             .spawn()
@@ -81,16 +128,73 @@ fn answer(output: &mut impl BufRead) -> RustSaid {
 }
 
 fn decode(line: &Json) -> RustSaid {
-    match line.get("stage").map(Json::text) {
-        Some("lex") => match line.get("message") {
-            Some(message) => RustSaid::Refused { message: message.bytes() },
-            None => RustSaid::Panicked,
+    let stage = line.get("stage").map(Json::text);
+    let message = line.get("message").map(Json::bytes).unwrap_or_default();
+    match (line.get("panic").is_some(), stage) {
+        (true, _) if message.is_empty() => RustSaid::Panicked,
+        (false, Some("lex" | "parse")) => RustSaid::Refused { message },
+        (false, Some("read" | "accepted")) => RustSaid::Accepted {
+            tokens: field(line, "tokens").iter().map(token).collect(),
+            names: texts(field(line, "names")),
+            functions: line.get("functions").map_or(Vec::new(), |all| all.list().iter().map(function).collect()),
         },
-        _ => RustSaid::Accepted {
-            tokens: line.get("tokens").expect("tokens").list().iter().map(token).collect(),
-            names: line.get("names").expect("names").list().iter().map(|name| name.text().to_owned()).collect(),
-        },
+        _ => panic!("the Rust answers as it never does: {line:?}"),
     }
+}
+
+fn field<'a>(object: &'a Json, key: &str) -> &'a [Json] {
+    object.get(key).unwrap_or_else(|| panic!("no {key}: {object:?}")).list()
+}
+
+fn texts(list: &[Json]) -> Vec<String> {
+    list.iter().map(|text| text.text().to_owned()).collect()
+}
+
+fn numbers(list: &[Json]) -> Vec<usize> {
+    list.iter().map(|number| number.number() as usize).collect()
+}
+
+fn word(object: &Json, key: &str) -> String {
+    object.get(key).expect("a word").text().to_owned()
+}
+
+fn function(function: &Json) -> RustFunction {
+    let number = |key: &str| function.get(key).expect("a number").number();
+    RustFunction {
+        name: number("name") as usize,
+        line: number("line") as u32,
+        ty: word(function, "fn"),
+        result: word(function, "ret"),
+        types: texts(field(function, "types")),
+        formals: field(function, "formals").iter().map(variable).collect(),
+        blocks: field(function, "blocks").iter().map(block).collect(),
+    }
+}
+
+fn block(block: &Json) -> RustBlock {
+    RustBlock {
+        successors: numbers(field(block, "succs")),
+        predecessors: numbers(field(block, "preds")),
+        operations: field(block, "ops").iter().map(operation).collect(),
+    }
+}
+
+fn operation(operation: &Json) -> RustOperation {
+    let [token, line] = field(operation, "token") else { panic!("no token: {operation:?}") };
+    let optional = |key: &str| operation.get(key).filter(|value| **value != Json::Null).map(variable);
+    RustOperation {
+        kind: word(operation, "kind"),
+        token: (token.text().to_owned(), line.number() as u32),
+        result: optional("result"),
+        callee: optional("callee"),
+        operands: field(operation, "operands").iter().map(variable).collect(),
+        labels: numbers(field(operation, "labels")),
+    }
+}
+
+fn variable(variable: &Json) -> RustVariable {
+    let [name, ty] = variable.list() else { panic!("no variable: {variable:?}") };
+    (name.number() as usize, ty.text().to_owned())
 }
 
 fn token(token: &Json) -> RustToken {
@@ -102,15 +206,33 @@ fn token(token: &Json) -> RustToken {
     }
 }
 
+/// How long the Rust takes for a text that is read, and for one that is checked, in nanoseconds; none where the Rust files
+/// are not to be had.
+pub fn time(text: &[u8]) -> Option<(u64, u64)> {
+    static TIMED: OnceLock<Option<PathBuf>> = OnceLock::new();
+    let program = TIMED.get_or_init(|| build(&["--timed"])).as_deref()?;
+    let mut process = Command::new(program)
+        .arg("--time")
+        .stdin(Stdio::piped())
+        .stdout(Stdio::piped())
+        .spawn()
+        .expect("the oracle runs");
+    send(&mut process.stdin.take().expect("it is piped"), &[text.to_vec()]);
+    let output = process.wait_with_output().expect("the oracle ends");
+    let line = Json::parse(str::from_utf8(&output.stdout).expect("ASCII").trim_end());
+    let nanoseconds = |key: &str| line.get(key).expect("a time").number() as u64;
+    Some((nanoseconds("read_ns"), nanoseconds("check_ns")))
+}
+
 /// The program, built by oracle/build.sh once in a run of tests.
 fn program() -> Option<&'static Path> {
     static PROGRAM: OnceLock<Option<PathBuf>> = OnceLock::new();
-    PROGRAM.get_or_init(build).as_deref()
+    PROGRAM.get_or_init(|| build(&[])).as_deref()
 }
 
-fn build() -> Option<PathBuf> {
+fn build(words: &[&str]) -> Option<PathBuf> {
     let script = Path::new(env!("CARGO_MANIFEST_DIR")).join("../oracle/build.sh");
-    let built = Command::new(script).stderr(Stdio::inherit()).output().expect("oracle/build.sh runs");
+    let built = Command::new(script).args(words).stderr(Stdio::inherit()).output().expect("oracle/build.sh runs");
     assert!(built.status.success(), "oracle/build.sh failed");
     let path = String::from_utf8(built.stdout).expect("a path");
     let path = path.trim_end();

@@ -1,11 +1,45 @@
 //! Generated texts: whole programs, damaged copies, and texts that play around one rule. A seed gives the same ones each time.
 use super::dice::Dice;
-use super::grammar;
 use super::model::{BYTES, NAME, NAMES, TOKENS};
+use super::oracle::Depth;
+use super::{grammar, programs};
 
 /// The texts of a run, in order. Each depends on the seed and on its own number alone.
-pub fn generated(seed: u64, numbers: std::ops::Range<u64>) -> impl Iterator<Item = Vec<u8>> {
+pub fn generated(depth: Depth, seed: u64, numbers: std::ops::Range<u64>) -> impl Iterator<Item = Vec<u8>> {
+    let one = match depth {
+        Depth::Read => one,
+        Depth::Check => one_to_check,
+    };
     numbers.map(move |number| one(&mut Dice::new(seed, number)))
+}
+
+/// Programs with branches, loops and calls, as they are, with slips, or with bytes lost; and some of the texts to read.
+fn one_to_check(dice: &mut Dice) -> Vec<u8> {
+    let tokens = match dice.below(1000) {
+        0..330 => programs::program(dice),
+        330..870 => {
+            let mut tokens = programs::program(dice);
+            let slips = dice.one(&[1, 1, 1, 1, 2, 2, 3]);
+            (0..slips).for_each(|_| programs::slip(dice, &mut tokens));
+            tokens
+        }
+        870..920 => {
+            let tokens = programs::program(dice);
+            let whole = grammar::laid_out_plainly(dice, &tokens);
+            return damaged(dice, whole);
+        }
+        920..985 => return one(dice),
+        985..997 => programs::near_a_limit(dice),
+        _ => {
+            let room = dice.between(600, 4200);
+            let mut tokens = programs::large(dice, room);
+            if dice.once_in(2) {
+                programs::slip(dice, &mut tokens);
+            }
+            tokens
+        }
+    };
+    grammar::laid_out_plainly(dice, &tokens)
 }
 
 fn one(dice: &mut Dice) -> Vec<u8> {

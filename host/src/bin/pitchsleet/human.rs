@@ -2,14 +2,15 @@
 use std::io::{self, Write};
 
 use pitchsleet::raw::TEXT_BYTES;
-use pitchsleet::{Printable, Refusal, TokenValue, Tokens};
+use pitchsleet::{Block, Edges, Printable, Refusal, TokenValue, Tokens, Unit};
 
+use crate::listing;
 use crate::source::{Excerpt, Source};
 
 /// What the output calls the text.
 type Name<'a> = Printable<'a>;
 
-pub fn accepted(out: &mut impl Write, name: Name<'_>, tokens: &Tokens<'_>) -> io::Result<()> {
+pub fn tokens(out: &mut impl Write, name: Name<'_>, tokens: &Tokens<'_>) -> io::Result<()> {
     let source = Source::new(tokens.text().as_bytes());
     for token in tokens {
         let position = format!("{}:{}", token.line, source.column(token.place));
@@ -25,6 +26,37 @@ pub fn accepted(out: &mut impl Write, name: Name<'_>, tokens: &Tokens<'_>) -> io
         Some(end) => note_on_lines(out, end.line, source.line(end.place)),
         None => Ok(()),
     }
+}
+
+pub fn unit(out: &mut impl Write, name: Name<'_>, unit: &Unit<'_>) -> io::Result<()> {
+    let (mut blocks, mut operations) = (0, 0);
+    for function in unit.functions() {
+        writeln!(out, "{}", listing::header(unit, &function))?;
+        for block in function.blocks() {
+            writeln!(out, "  {}{}", listing::block_name(unit, &block), edges(&block))?;
+            for operation in block.operations() {
+                writeln!(out, "    {}", listing::operation(unit, &operation))?;
+                operations += 1;
+            }
+            blocks += 1;
+        }
+        writeln!(out)?;
+    }
+    let functions = counted(unit.len(), "function");
+    let (blocks, operations) = (counted(blocks, "block"), counted(operations, "operation"));
+    writeln!(out, "{name}: accepted: {functions}, {blocks}, {operations}")
+}
+
+/// What stands behind a block's name: `: from 0, 2; to 1`.
+fn edges(block: &Block<'_>) -> String {
+    let listed = |word: &str, edges: Edges<'_>| {
+        let numbers: Vec<String> = edges.iter().map(|number| number.to_string()).collect();
+        (!numbers.is_empty()).then(|| format!("{word} {}", numbers.join(", ")))
+    };
+    let dead = block.is_dead().then(|| "dead".to_owned());
+    let parts = [dead, listed("from", block.predecessors()), listed("to", block.successors())];
+    let parts: Vec<String> = parts.into_iter().flatten().collect();
+    if parts.is_empty() { String::new() } else { format!(": {}", parts.join("; ")) }
 }
 
 fn counted(count: usize, thing: &str) -> String {

@@ -1,21 +1,36 @@
 //! An answer as one line of JSON.
 use std::io::{self, Write};
 
-use pitchsleet::{Refusal, Token, TokenValue, Tokens};
+use pitchsleet::{Block, Function, Label, Operation, Refusal, Token, TokenValue, Tokens, Type, Unit, Variable};
 
-pub fn write(out: &mut impl Write, answer: &Result<Tokens<'_>, Refusal>) -> io::Result<()> {
+pub fn write_read(out: &mut impl Write, answer: &Result<Tokens<'_>, Refusal>) -> io::Result<()> {
     match answer {
-        Ok(tokens) => accepted(out, tokens),
+        Ok(tokens) => {
+            accepted(out, tokens)?;
+            writeln!(out, "}}")
+        }
         Err(refusal) => refused(out, refusal),
     }
 }
 
+pub fn write_check(out: &mut impl Write, answer: &Result<Unit<'_>, Refusal>) -> io::Result<()> {
+    match answer {
+        Ok(unit) => {
+            accepted(out, &unit.tokens())?;
+            write!(out, r#","functions":"#)?;
+            list(out, unit.functions(), function)?;
+            writeln!(out, "}}")
+        }
+        Err(refusal) => refused(out, refusal),
+    }
+}
+
+/// An accepted text's answer, but for its end.
 fn accepted(out: &mut impl Write, tokens: &Tokens<'_>) -> io::Result<()> {
     write!(out, r#"{{"number":0,"line":0,"place":0,"message":"","tokens":"#)?;
     list(out, tokens.iter(), token)?;
     write!(out, r#","names":"#)?;
-    list(out, tokens.names(), |out, name| string(out, name.spelling.as_bytes()))?;
-    writeln!(out, "}}")
+    list(out, tokens.names(), |out, name| string(out, name.spelling.as_bytes()))
 }
 
 fn refused(out: &mut impl Write, refusal: &Refusal) -> io::Result<()> {
@@ -34,6 +49,66 @@ fn token<W: Write>(out: &mut W, token: Token<'_>) -> io::Result<()> {
         _ => write!(out, ",null")?,
     }
     write!(out, ",{},{}]", token.line, token.place)
+}
+
+fn function<W: Write>(out: &mut W, function: Function<'_>) -> io::Result<()> {
+    let name = function.name();
+    let (token, number, line) = (function.token(), name.identifier.0, function.line());
+    let (place, length) = (function.place(), name.spelling.len());
+    write!(out, r#"{{"token":{token},"name":{number},"line":{line},"name_place":{place},"name_length":{length}"#)?;
+    write!(out, r#","formals":"#)?;
+    list(out, function.formals(), variable)?;
+    write!(out, r#","ret":"{}","types":"#, function.result())?;
+    list(out, function.formals(), |out, formal| write!(out, "\"{}\"", formal.ty))?;
+    if let Type::Fn(number) = function.ty() {
+        write!(out, r#","type":{number}"#)?;
+    }
+    write!(out, r#","labels":"#)?;
+    list(out, function.labels(), label)?;
+    write!(out, r#","end_token":{},"end_place":{},"blocks":"#, function.end_token(), function.end_place())?;
+    list(out, function.blocks(), block)?;
+    write!(out, "}}")
+}
+
+fn label<W: Write>(out: &mut W, label: Label) -> io::Result<()> {
+    write!(out, "[{},{},{}]", label.name.0, label.token, label.block)
+}
+
+fn block<W: Write>(out: &mut W, block: Block<'_>) -> io::Result<()> {
+    write!(out, r#"{{"ops":"#)?;
+    list(out, block.operations(), operation)?;
+    write!(out, r#","succs":"#)?;
+    list(out, block.successors().iter(), number)?;
+    write!(out, r#","preds":"#)?;
+    list(out, block.predecessors().iter(), number)?;
+    write!(out, r#","dead":{}}}"#, block.is_dead())
+}
+
+fn operation<W: Write>(out: &mut W, operation: Operation<'_>) -> io::Result<()> {
+    write!(out, r#"{{"kind":"{}","token":{},"result":"#, operation.kind(), operation.token)?;
+    optional(out, operation.result())?;
+    write!(out, r#","callee":"#)?;
+    optional(out, operation.callee())?;
+    write!(out, r#","operands":"#)?;
+    list(out, operation.operands(), variable)?;
+    write!(out, r#","labels":"#)?;
+    list(out, operation.labels(), |out, label| number(out, label.0))?;
+    write!(out, "}}")
+}
+
+fn optional<W: Write>(out: &mut W, value: Option<Variable>) -> io::Result<()> {
+    match value {
+        Some(value) => variable(out, value),
+        None => write!(out, "null"),
+    }
+}
+
+fn variable<W: Write>(out: &mut W, variable: Variable) -> io::Result<()> {
+    write!(out, r#"[{},"{}"]"#, variable.name.0, variable.ty)
+}
+
+fn number<W: Write>(out: &mut W, number: usize) -> io::Result<()> {
+    write!(out, "{number}")
 }
 
 fn list<W: Write, T>(

@@ -1,11 +1,13 @@
-//! The command-line tool: `pitchsleet read FILE`, and the same as JSON for other programs.
+//! The command-line tool: `pitchsleet read FILE`, `pitchsleet check FILE`, and the same as JSON for other programs.
 #![forbid(unsafe_code)]
 
 mod args;
+mod dot;
 mod failure;
 mod human;
 mod input;
 mod json;
+mod listing;
 mod source;
 mod stream;
 
@@ -13,9 +15,9 @@ use std::ffi::{OsStr, OsString};
 use std::io::{self, BufWriter, Write};
 use std::process::ExitCode;
 
-use args::{Form, Request, shown};
+use args::{Command, Form, Request, shown};
 use failure::Failure;
-use pitchsleet::Reader;
+use pitchsleet::{Reader, Refusal};
 
 const ACCEPTED: u8 = 0;
 const REFUSED: u8 = 1;
@@ -45,8 +47,9 @@ fn answer(request: Request, output: &mut impl Write) -> Result<u8, Failure> {
     match request {
         Request::Help => write!(output, "{}", args::HELP)?,
         Request::Version => writeln!(output, "pitchsleet {}", env!("CARGO_PKG_VERSION"))?,
-        Request::Stream => stream::answer(io::stdin().lock(), output)?,
-        Request::Read { file, form } => return read(&file, form, output),
+        Request::Stream(command) => stream::answer(command, io::stdin().lock(), output)?,
+        Request::One { command: Command::Read, file, form } => return read(&file, form, output),
+        Request::One { command: Command::Check, file, form } => return check(&file, form, output),
     }
     Ok(ACCEPTED)
 }
@@ -56,9 +59,31 @@ fn read(file: &OsStr, form: Form, output: &mut impl Write) -> Result<u8, Failure
     let mut reader = Reader::new();
     let answer = reader.read(&text);
     match (form, &answer) {
-        (Form::Json, answer) => json::write(output, answer)?,
-        (Form::Person, Ok(tokens)) => human::accepted(output, shown(file), tokens)?,
+        (Form::Json, answer) => json::write_read(output, answer)?,
+        (_, Ok(tokens)) => human::tokens(output, shown(file), tokens)?,
+        (_, Err(refusal)) => human::refused(output, shown(file), &text, refusal)?,
+    }
+    Ok(status(&answer))
+}
+
+fn check(file: &OsStr, form: Form, output: &mut impl Write) -> Result<u8, Failure> {
+    let text = input::text_of(file)?;
+    let mut reader = Reader::new();
+    let answer = reader.check(&text);
+    match (form, &answer) {
+        (Form::Json, answer) => json::write_check(output, answer)?,
+        (Form::Dot, Ok(unit)) => dot::write(output, unit)?,
+        (Form::Dot, Err(refusal)) => {
+            // What reads the output is Graphviz, and a refusal is nothing for it. Where standard error is closed, the exit
+            // status alone must say it.
+            let _ = human::refused(&mut io::stderr().lock(), shown(file), &text, refusal);
+        }
+        (Form::Person, Ok(unit)) => human::unit(output, shown(file), unit)?,
         (Form::Person, Err(refusal)) => human::refused(output, shown(file), &text, refusal)?,
     }
-    Ok(if answer.is_ok() { ACCEPTED } else { REFUSED })
+    Ok(status(&answer))
+}
+
+fn status<T>(answer: &Result<T, Refusal>) -> u8 {
+    if answer.is_ok() { ACCEPTED } else { REFUSED }
 }

@@ -3,6 +3,7 @@ use std::io::{self, BufRead, BufReader, Read, Write};
 
 use pitchsleet::Reader;
 
+use crate::args::Command;
 use crate::failure::Failure;
 use crate::input::KEPT;
 use crate::json;
@@ -12,7 +13,7 @@ const LENGTH_LINE: u64 = 21;
 
 /// Answers until the input ends. What is written goes out before the next wait for input, so that another program may ask
 /// text by text and wait for each answer.
-pub fn answer(input: impl Read, output: &mut impl Write) -> Result<(), Failure> {
+pub fn answer(command: Command, input: impl Read, output: &mut impl Write) -> Result<(), Failure> {
     let mut input = BufReader::new(input);
     let mut reader = Reader::new();
     let mut text = Vec::with_capacity(KEPT);
@@ -28,7 +29,10 @@ pub fn answer(input: impl Read, output: &mut impl Write) -> Result<(), Failure> 
                 return Err(Failure::Said(format!("standard input, text {number}: {why}")));
             }
         }
-        json::write(output, &reader.read(&text))?;
+        match command {
+            Command::Read => json::write_read(output, &reader.read(&text))?,
+            Command::Check => json::write_check(output, &reader.check(&text))?,
+        }
     }
     Ok(())
 }

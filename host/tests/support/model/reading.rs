@@ -1,13 +1,8 @@
-//! Document 01's reading, written from its sentences. It has no code in common with the proved crates or with the Rust, and
-//! it alone decides what the limits do, which the Rust doesn't have.
+//! "Text to tokens".
 use std::collections::HashMap;
 
-use super::said::{Said, SaidName, SaidToken};
-
-pub const BYTES: usize = 16_384;
-pub const TOKENS: usize = 4_096;
-pub const NAMES: usize = 1_024;
-pub const NAME: usize = 64;
+use super::{BYTES, NAME, NAMES, TOKENS};
+use crate::support::said::{Said, SaidName, SaidToken};
 
 const WORDS: [&str; 25] = [
     "add", "and", "bool", "br", "call", "const", "div", "eq", "false", "ge", "gt", "id", "int", "jmp", "le", "lt",
@@ -53,7 +48,7 @@ pub fn read(text: &[u8]) -> Said {
         Reading { text, line: 1, place: 0, tokens: Vec::new(), names: Vec::new(), numbers: HashMap::new() };
     match reading.whole() {
         Err(stop) => stop.said(),
-        Ok(()) => Said::Accepted { tokens: reading.tokens, names: reading.names },
+        Ok(()) => Said::Accepted { tokens: reading.tokens, names: reading.names, functions: Vec::new() },
     }
 }
 

@@ -1,0 +1,75 @@
+//! Functions, blocks and operations as lines that a person reads.
+use std::fmt::Write;
+
+use pitchsleet::{Block, Function, Identifier, Operation, OperationValue, TokenValue, Type, Unit, Variable};
+
+/// A function's first line: `@least(a: int, b: int): int`.
+pub fn header(unit: &Unit<'_>, function: &Function<'_>) -> String {
+    let mut line = function.name().spelling.to_owned();
+    let formals = function.formals().map(|formal| format!("{}: {}", spelling(unit, formal.name), formal.ty));
+    let formals: Vec<String> = formals.collect();
+    if !formals.is_empty() {
+        push(&mut line, format_args!("({})", formals.join(", ")));
+    }
+    if function.result() != Type::Void {
+        push(&mut line, format_args!(": {}", function.result()));
+    }
+    line
+}
+
+/// A block's number, and the labels that name it: `block 1 .then`.
+pub fn block_name(unit: &Unit<'_>, block: &Block<'_>) -> String {
+    let mut name = format!("block {}", block.number());
+    for label in block.labels() {
+        push(&mut name, format_args!(" {}", spelling(unit, label.name)));
+    }
+    name
+}
+
+/// An operation, with the types that are kept: `less:bool = lt a:int b:int`.
+pub fn operation(unit: &Unit<'_>, operation: &Operation<'_>) -> String {
+    let mut line = String::new();
+    if let Some(result) = operation.result() {
+        push(&mut line, format_args!("{} = ", typed(unit, result)));
+    }
+    line.push_str(&word(operation));
+    if let Some(callee) = operation.callee() {
+        push(&mut line, format_args!(" {}", spelling(unit, callee.name)));
+    }
+    for operand in operation.operands() {
+        push(&mut line, format_args!(" {}", typed(unit, operand)));
+    }
+    for label in operation.labels() {
+        push(&mut line, format_args!(" {}", spelling(unit, label)));
+    }
+    if let OperationValue::Return { added: true, .. } = operation.value {
+        line.push_str(" (added)");
+    }
+    line
+}
+
+/// An operation's word, and of a constant the value.
+fn word(operation: &Operation<'_>) -> String {
+    match operation.value {
+        OperationValue::Binary { operator, .. } | OperationValue::Unary { operator, .. } => operator.kind().to_owned(),
+        OperationValue::Const { value: TokenValue::Integer(number), .. } => format!("const {number}"),
+        OperationValue::Const { value, .. } => format!("const {}", value.kind()),
+        _ => operation.kind().to_owned(),
+    }
+}
+
+fn typed(unit: &Unit<'_>, variable: Variable) -> String {
+    let name = spelling(unit, variable.name);
+    match variable.ty {
+        Type::Placeholder => name.to_owned(),
+        ty => format!("{name}:{ty}"),
+    }
+}
+
+fn spelling<'a>(unit: &Unit<'a>, name: Identifier) -> &'a str {
+    unit.name(name).expect("the names of a text are in its table").spelling
+}
+
+fn push(line: &mut String, what: std::fmt::Arguments<'_>) {
+    line.write_fmt(what).expect("a String takes all");
+}

@@ -1,0 +1,222 @@
+//! Operations of a block.
+use crate::raw::{self, ARGUMENT_BYTES, ITEM_BYTES};
+use crate::reader::Tokens;
+use crate::records::{cell, index, record};
+use crate::token::{Identifier, TokenValue};
+use crate::types::Variable;
+
+/// An operation of a block: what it does, and the token that stands for it.
+#[derive(Clone, Copy, Debug)]
+pub struct Operation<'a> {
+    /// The index of its token among the text's: that of its word, or of the value of a constant. An added `ret` has the
+    /// token of the operation before it.
+    pub token: usize,
+    /// What it does.
+    pub value: OperationValue<'a>,
+}
+
+/// What an operation does.
+#[derive(Clone, Copy, Debug)]
+pub enum OperationValue<'a> {
+    /// A result of two operands.
+    Binary {
+        /// [`TokenValue::Add`] or another of the twelve.
+        operator: TokenValue,
+        /// What is set.
+        result: Variable,
+        /// The first operand.
+        left: Variable,
+        /// The second operand.
+        right: Variable,
+    },
+    /// A result of one operand.
+    Unary {
+        /// [`TokenValue::Identity`] or [`TokenValue::Not`].
+        operator: TokenValue,
+        /// What is set.
+        result: Variable,
+        /// The operand.
+        operand: Variable,
+    },
+    /// A result that is a constant.
+    Const {
+        /// [`TokenValue::Integer`], [`TokenValue::True`] or [`TokenValue::False`].
+        value: TokenValue,
+        /// What is set.
+        result: Variable,
+    },
+    /// A call of a function.
+    Call {
+        /// The function, whose type is a [`Type::Fn`](crate::Type::Fn).
+        callee: Variable,
+        /// What is set, where the function has a result.
+        result: Option<Variable>,
+        /// What it is called with.
+        arguments: Arguments<'a>,
+    },
+    /// A value is printed.
+    Print {
+        /// The value; its type isn't kept.
+        operand: Variable,
+    },
+    /// Nothing is done.
+    Nop,
+    /// The end of a block that goes on with another.
+    Jump {
+        /// The other's label.
+        target: Identifier,
+    },
+    /// The end of a block that goes on with one of two.
+    Branch {
+        /// What decides; it is never looked up, and its type isn't kept.
+        condition: Variable,
+        /// The label of the block that follows where it is true: the first successor.
+        then: Identifier,
+        /// The label of the block that follows where it is false: the second successor.
+        otherwise: Identifier,
+    },
+    /// The end of a block that ends the function.
+    Return {
+        /// What the function gives, where it has a result; its type isn't kept.
+        value: Option<Variable>,
+        /// Whether it isn't written in the text: a block of a void function that doesn't end in `jmp`, `br` or `ret` has
+        /// a `ret` added.
+        added: bool,
+    },
+}
+
+impl<'a> Operation<'a> {
+    /// The operation of an item record, whose token and arguments stand elsewhere.
+    pub(crate) fn from_record(record: &'a [u8; ITEM_BYTES], tokens: &Tokens<'a>, arguments: &'a [u8]) -> Self {
+        let token = index(record, raw::ITEM_TOKEN);
+        let word = tokens.get(token).expect("an operation's token is one of the text's").value;
+        let result = Variable::from_cells(record, raw::ITEM_RESULT);
+        let left = Variable::from_cells(record, raw::ITEM_LEFT);
+        let labels = [0, 4].map(|offset| Identifier(index(record, raw::ITEM_RIGHT + offset)));
+        let call = |result| {
+            let [first, count] = [0, 4].map(|offset| index(record, raw::ITEM_RIGHT + offset));
+            let records = &arguments[first * ARGUMENT_BYTES..][..count * ARGUMENT_BYTES];
+            OperationValue::Call { callee: left, result, arguments: Arguments { records } }
+        };
+        let ret = |value| OperationValue::Return { value, added: word != TokenValue::Return };
+        let value = match cell(record, raw::ITEM_KIND) {
+            2 => {
+                let right = Variable::from_cells(record, raw::ITEM_RIGHT);
+                OperationValue::Binary { operator: word, result, left, right }
+            }
+            3 => OperationValue::Unary { operator: word, result, operand: left },
+            4 => OperationValue::Const { value: word, result },
+            5 => call(None),
+            6 => call(Some(result)),
+            7 => OperationValue::Print { operand: left },
+            8 => OperationValue::Nop,
+            9 => OperationValue::Jump { target: labels[0] },
+            10 => OperationValue::Branch { condition: left, then: labels[0], otherwise: labels[1] },
+            11 => ret(None),
+            12 => ret(Some(left)),
+            kind => unreachable!("an operation's kind is 2 to 12, not {kind}"),
+        };
+        Self { token, value }
+    }
+
+    /// A word for the kind: `binary`, `unary`, `const`, `call`, `print`, `nop`, `jmp`, `br` or `ret`.
+    #[must_use]
+    pub fn kind(&self) -> &'static str {
+        match self.value {
+            OperationValue::Binary { .. } => "binary",
+            OperationValue::Unary { .. } => "unary",
+            OperationValue::Const { .. } => "const",
+            OperationValue::Call { .. } => "call",
+            OperationValue::Print { .. } => "print",
+            OperationValue::Nop => "nop",
+            OperationValue::Jump { .. } => "jmp",
+            OperationValue::Branch { .. } => "br",
+            OperationValue::Return { .. } => "ret",
+        }
+    }
+
+    /// What it sets, if anything.
+    #[must_use]
+    pub fn result(&self) -> Option<Variable> {
+        match self.value {
+            OperationValue::Binary { result, .. }
+            | OperationValue::Unary { result, .. }
+            | OperationValue::Const { result, .. } => Some(result),
+            OperationValue::Call { result, .. } => result,
+            _ => None,
+        }
+    }
+
+    /// The function that it calls, if it is a call.
+    #[must_use]
+    pub fn callee(&self) -> Option<Variable> {
+        match self.value {
+            OperationValue::Call { callee, .. } => Some(callee),
+            _ => None,
+        }
+    }
+
+    /// The values that it uses, in order: operands, arguments, the condition of a `br`.
+    pub fn operands(&self) -> impl Iterator<Item = Variable> + Clone + use<'a> {
+        let (one, two, arguments) = match self.value {
+            OperationValue::Binary { left, right, .. } => (Some(left), Some(right), None),
+            OperationValue::Unary { operand, .. } | OperationValue::Print { operand } => (Some(operand), None, None),
+            OperationValue::Branch { condition, .. } => (Some(condition), None, None),
+            OperationValue::Return { value, .. } => (value, None, None),
+            OperationValue::Call { arguments, .. } => (None, None, Some(arguments)),
+            OperationValue::Const { .. } | OperationValue::Nop | OperationValue::Jump { .. } => (None, None, None),
+        };
+        one.into_iter().chain(two).chain(arguments.into_iter().flat_map(|arguments| arguments.iter()))
+    }
+
+    /// The labels that it jumps to, in order: those of the block's successors.
+    pub fn labels(&self) -> impl Iterator<Item = Identifier> + Clone + use<> {
+        let (one, two) = match self.value {
+            OperationValue::Jump { target } => (Some(target), None),
+            OperationValue::Branch { then, otherwise, .. } => (Some(then), Some(otherwise)),
+            _ => (None, None),
+        };
+        one.into_iter().chain(two)
+    }
+
+    /// Whether it ends a block: `jmp`, `br` or `ret`.
+    #[must_use]
+    pub fn is_terminator(&self) -> bool {
+        matches!(
+            self.value,
+            OperationValue::Jump { .. } | OperationValue::Branch { .. } | OperationValue::Return { .. }
+        )
+    }
+}
+
+/// The arguments of a call.
+#[derive(Clone, Copy, Debug)]
+pub struct Arguments<'a> {
+    records: &'a [u8],
+}
+
+impl<'a> Arguments<'a> {
+    /// How many there are: at most 16.
+    #[must_use]
+    pub fn len(&self) -> usize {
+        self.records.len() / ARGUMENT_BYTES
+    }
+
+    /// Whether there is none.
+    #[must_use]
+    pub fn is_empty(&self) -> bool {
+        self.records.is_empty()
+    }
+
+    /// The argument at an index.
+    #[must_use]
+    pub fn get(&self, index: usize) -> Option<Variable> {
+        record::<ARGUMENT_BYTES>(self.records, index).map(|record| Variable::from_cells(record, 0))
+    }
+
+    /// The arguments, in order.
+    pub fn iter(&self) -> impl ExactSizeIterator<Item = Variable> + DoubleEndedIterator + Clone + use<'a> {
+        let (records, _) = self.records.as_chunks::<ARGUMENT_BYTES>();
+        records.iter().map(|record| Variable::from_cells(record, 0))
+    }
+}

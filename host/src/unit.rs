@@ -1,0 +1,359 @@
+//! What a checked text holds: functions, blocks and edges.
+use core::fmt::{self, Debug, Formatter};
+
+use crate::operation::Operation;
+use crate::raw::{self, ARGUMENT_BYTES, BLOCK_BYTES, CheckAnswer, FUNCTION_BYTES, ITEM_BYTES, PREDECESSOR_BYTES};
+use crate::reader::Tokens;
+use crate::records::{cell, index, record};
+use crate::token::{Identifier, Name, Token};
+use crate::types::{Type, Variable};
+
+/// The kind of an item that is a label.
+const LABEL: u32 = 1;
+
+/// An accepted text: its functions in order, with their blocks, edges and typed operations, and its tokens and names.
+///
+/// ```
+/// use pitchsleet::{OperationValue, Reader};
+///
+/// let mut reader = Reader::new();
+/// let unit = reader.check(b"
+///     @least(a: int, b: int): int {
+///       less: bool = lt a b;
+///       br less .a .b;
+///     .a:
+///       ret a;
+///     .b:
+///       ret b;
+///     }")?;
+/// for function in unit.functions() {
+///     println!("{}: {}", function.name().spelling, function.result());
+///     for block in function.blocks() {
+///         println!("  block {} goes to {:?}", block.number(), block.successors());
+///         for operation in block.operations() {
+///             if let OperationValue::Binary { operator, left, .. } = operation.value {
+///                 println!("    {} of {}s", operator.kind(), left.ty);
+///             }
+///         }
+///     }
+/// }
+/// let least = unit.function(0).expect("there is one");
+/// assert_eq!(least.block(0).map(|block| block.successors().to_vec()), Some(vec![1, 2]));
+/// # Ok::<(), pitchsleet::Refusal>(())
+/// ```
+#[derive(Clone, Copy)]
+pub struct Unit<'a> {
+    tokens: Tokens<'a>,
+    functions: &'a [u8],
+    items: &'a [u8],
+    arguments: &'a [u8],
+    blocks: &'a [u8],
+    predecessors: &'a [u8],
+}
+
+impl<'a> Unit<'a> {
+    /// The records of an accepted text, as many as the answer counts.
+    pub(crate) fn new(tokens: Tokens<'a>, out: &'a [u8], answer: &CheckAnswer) -> Self {
+        let records = |offset: usize, count: u32, bytes: usize| &out[offset..][..count as usize * bytes];
+        Self {
+            tokens,
+            functions: records(raw::FUNCTION_RECORDS_OFFSET, answer.functions, FUNCTION_BYTES),
+            items: records(raw::ITEMS_OFFSET, answer.items, ITEM_BYTES),
+            arguments: records(raw::ARGUMENTS_OFFSET, answer.arguments, ARGUMENT_BYTES),
+            blocks: records(raw::BLOCKS_OFFSET, answer.blocks, BLOCK_BYTES),
+            predecessors: records(raw::PREDECESSORS_OFFSET, answer.predecessors, PREDECESSOR_BYTES),
+        }
+    }
+
+    /// The tokens and names of the text.
+    #[must_use]
+    pub fn tokens(&self) -> Tokens<'a> {
+        self.tokens
+    }
+
+    /// The name with a number; none for a number that this text gives to no name.
+    #[must_use]
+    pub fn name(&self, identifier: Identifier) -> Option<Name<'a>> {
+        self.tokens.name(identifier)
+    }
+
+    /// How many functions there are: at most 64, and none in a text without any.
+    #[must_use]
+    #[allow(clippy::len_without_is_empty, reason = "a unit is more than its functions")]
+    pub fn len(&self) -> usize {
+        self.functions.len() / FUNCTION_BYTES
+    }
+
+    /// The function at an index.
+    #[must_use]
+    pub fn function(&self, index: usize) -> Option<Function<'a>> {
+        let record = record::<FUNCTION_BYTES>(self.functions, index)?;
+        Some(Function { unit: *self, record })
+    }
+
+    /// The functions, in the order of the text. Two may have the same name, if they have the same type.
+    #[must_use]
+    pub fn functions(&self) -> impl ExactSizeIterator<Item = Function<'a>> + DoubleEndedIterator + Clone + use<'a> {
+        let unit = *self;
+        (0..self.len()).map(move |index| unit.function(index).expect("the count is the table's"))
+    }
+}
+
+impl Debug for Unit<'_> {
+    fn fmt(&self, f: &mut Formatter<'_>) -> fmt::Result {
+        f.debug_list().entries(self.functions()).finish()
+    }
+}
+
+/// A function of an accepted text.
+#[derive(Clone, Copy)]
+pub struct Function<'a> {
+    unit: Unit<'a>,
+    record: &'a [u8; FUNCTION_BYTES],
+}
+
+impl<'a> Function<'a> {
+    /// Its name. [`Name::place`] is where the name first appears in the text, perhaps in a call; [`Function::place`] is
+    /// where it stands here.
+    #[must_use]
+    pub fn name(&self) -> Name<'a> {
+        let identifier = Identifier(index(self.record, raw::FUNCTION_NAME));
+        self.unit.name(identifier).expect("a function's name is in the table")
+    }
+
+    /// The index of its name's token, its first.
+    #[must_use]
+    pub fn token(&self) -> usize {
+        index(self.record, raw::FUNCTION_TOKEN)
+    }
+
+    /// The index of its closing brace's token, its last.
+    #[must_use]
+    pub fn end_token(&self) -> usize {
+        index(self.record, raw::FUNCTION_END)
+    }
+
+    /// The place of its name, its first byte.
+    #[must_use]
+    pub fn place(&self) -> usize {
+        index(self.record, raw::FUNCTION_PLACE)
+    }
+
+    /// The place of its closing brace, its last byte.
+    #[must_use]
+    pub fn end_place(&self) -> usize {
+        self.token_at(self.end_token()).place
+    }
+
+    /// The line of its name; newlines in comments are not counted.
+    #[must_use]
+    pub fn line(&self) -> u32 {
+        cell(self.record, raw::FUNCTION_LINE)
+    }
+
+    /// The type of its result: [`Type::Int`], [`Type::Bool`], or [`Type::Void`] for none.
+    #[must_use]
+    pub fn result(&self) -> Type {
+        Type::from_cell(cell(self.record, raw::FUNCTION_RESULT))
+    }
+
+    /// Its own type, a [`Type::Fn`]: the types of its formals and of its result.
+    #[must_use]
+    pub fn ty(&self) -> Type {
+        Type::Fn(index(self.record, raw::FUNCTION_TYPE))
+    }
+
+    /// Its formals, in order: at most 16.
+    #[must_use]
+    pub fn formals(&self) -> impl ExactSizeIterator<Item = Variable> + DoubleEndedIterator + Clone + use<'a> {
+        let (formals, _) = self.record[raw::FUNCTION_FORMALS..].as_chunks::<8>();
+        let formals = &formals[..index(self.record, raw::FUNCTION_FORMAL_COUNT)];
+        formals.iter().map(|formal| Variable::from_cells(formal, 0))
+    }
+
+    /// How many blocks it has: 1 to 256.
+    #[must_use]
+    #[allow(clippy::len_without_is_empty, reason = "it is never empty")]
+    pub fn len(&self) -> usize {
+        index(self.record, raw::FUNCTION_BLOCK_COUNT)
+    }
+
+    /// The block with a number; block 0 is the first that runs.
+    #[must_use]
+    pub fn block(&self, number: usize) -> Option<Block<'a>> {
+        if self.len() <= number {
+            return None;
+        }
+        let first = index(self.record, raw::FUNCTION_BLOCKS);
+        let record = record::<BLOCK_BYTES>(self.unit.blocks, first + number)?;
+        Some(Block { function: *self, number, record })
+    }
+
+    /// The blocks, by their numbers.
+    #[must_use]
+    pub fn blocks(&self) -> impl ExactSizeIterator<Item = Block<'a>> + DoubleEndedIterator + Clone + use<'a> {
+        let function = *self;
+        (0..self.len()).map(move |number| function.block(number).expect("the count is the table's"))
+    }
+
+    /// The labels, in the order of the text.
+    pub fn labels(&self) -> impl Iterator<Item = Label> + Clone + use<'a> {
+        self.blocks().flat_map(|block| block.labels())
+    }
+
+    fn token_at(&self, index: usize) -> Token<'a> {
+        self.unit.tokens.get(index).expect("a function's tokens are the text's")
+    }
+
+    /// The function's first item, as an index among all.
+    fn first_item(&self) -> usize {
+        index(self.record, raw::FUNCTION_ITEMS)
+    }
+}
+
+impl Debug for Function<'_> {
+    fn fmt(&self, f: &mut Formatter<'_>) -> fmt::Result {
+        f.debug_struct("Function")
+            .field("name", &self.name())
+            .field("formals", &self.formals().collect::<Vec<_>>())
+            .field("result", &self.result())
+            .field("blocks", &self.blocks().collect::<Vec<_>>())
+            .finish()
+    }
+}
+
+/// A label, where it names a block.
+#[derive(Clone, Copy, Debug, PartialEq, Eq)]
+pub struct Label {
+    /// The label's number among the names.
+    pub name: Identifier,
+    /// The index of its token.
+    pub token: usize,
+    /// The number of the block that it names.
+    pub block: usize,
+}
+
+/// A block of a function: operations that run one after the other, and the edges from it and to it.
+#[derive(Clone, Copy)]
+pub struct Block<'a> {
+    function: Function<'a>,
+    number: usize,
+    record: &'a [u8; BLOCK_BYTES],
+}
+
+impl<'a> Block<'a> {
+    /// Its number, from 0 in each function.
+    #[must_use]
+    pub fn number(&self) -> usize {
+        self.number
+    }
+
+    /// The operations, in order. The last one is a `jmp`, a `br` or a `ret`.
+    #[must_use]
+    pub fn operations(&self) -> impl ExactSizeIterator<Item = Operation<'a>> + DoubleEndedIterator + Clone + use<'a> {
+        let unit = self.function.unit;
+        let (first, count) = (self.first_operation(), index(self.record, raw::BLOCK_OPERATION_COUNT));
+        (first..first + count).map(move |at| {
+            let record = record::<ITEM_BYTES>(unit.items, at).expect("a block's operations are in the table");
+            Operation::from_record(record, &unit.tokens, unit.arguments)
+        })
+    }
+
+    /// The blocks that may come next, by their numbers: two for `br`, equal or not, one for `jmp`, none for `ret`.
+    #[must_use]
+    pub fn successors(&self) -> Edges<'a> {
+        let count = index(self.record, raw::BLOCK_SUCCESSOR_COUNT);
+        Edges { cells: &self.record[raw::BLOCK_SUCCESSORS..][..count * 4] }
+    }
+
+    /// The blocks that this one may come after, by their numbers: one entry for each edge, in the edges' order.
+    #[must_use]
+    pub fn predecessors(&self) -> Edges<'a> {
+        let first = index(self.record, raw::BLOCK_PREDECESSORS);
+        let count = index(self.record, raw::BLOCK_PREDECESSOR_COUNT);
+        Edges { cells: &self.function.unit.predecessors[first * PREDECESSOR_BYTES..][..count * PREDECESSOR_BYTES] }
+    }
+
+    /// Whether it isn't block 0 and no edge enters it. A block that only dead blocks lead to, or only itself, is not
+    /// marked.
+    #[must_use]
+    pub fn is_dead(&self) -> bool {
+        cell(self.record, raw::BLOCK_DEAD) != 0
+    }
+
+    /// The labels that name it, in the order of the text.
+    pub fn labels(&self) -> impl Iterator<Item = Label> + Clone + use<'a> {
+        // They stand right before its first operation: back from there as long as there are labels, and then forward.
+        let (items, number) = (self.function.unit.items, self.number);
+        let item = move |at: usize| record::<ITEM_BYTES>(items, at).expect("the function's items are in the table");
+        let is_label = move |at: &usize| cell(item(*at), raw::ITEM_KIND) == LABEL;
+        let end = self.first_operation();
+        let count = (self.function.first_item()..end).rev().take_while(is_label).count();
+        (end - count..end).map(move |at| Label {
+            name: Identifier(index(item(at), raw::ITEM_RIGHT)),
+            token: index(item(at), raw::ITEM_TOKEN),
+            block: number,
+        })
+    }
+
+    fn first_operation(&self) -> usize {
+        index(self.record, raw::BLOCK_OPERATIONS)
+    }
+}
+
+impl Debug for Block<'_> {
+    fn fmt(&self, f: &mut Formatter<'_>) -> fmt::Result {
+        f.debug_struct("Block")
+            .field("number", &self.number)
+            .field("operations", &self.operations().collect::<Vec<_>>())
+            .field("successors", &self.successors())
+            .field("predecessors", &self.predecessors())
+            .field("is_dead", &self.is_dead())
+            .finish()
+    }
+}
+
+/// Blocks at the other ends of a block's edges, by their numbers.
+#[derive(Clone, Copy)]
+pub struct Edges<'a> {
+    cells: &'a [u8],
+}
+
+impl<'a> Edges<'a> {
+    /// How many edges there are.
+    #[must_use]
+    pub fn len(&self) -> usize {
+        self.cells.len() / 4
+    }
+
+    /// Whether there is none.
+    #[must_use]
+    pub fn is_empty(&self) -> bool {
+        self.cells.is_empty()
+    }
+
+    /// The block at the other end of the edge with an index.
+    #[must_use]
+    pub fn get(&self, index: usize) -> Option<usize> {
+        record::<4>(self.cells, index).map(|bytes| u32::from_le_bytes(*bytes) as usize)
+    }
+
+    /// The blocks, in the edges' order.
+    #[must_use]
+    pub fn iter(&self) -> impl ExactSizeIterator<Item = usize> + DoubleEndedIterator + Clone + use<'a> {
+        let (cells, _) = self.cells.as_chunks::<4>();
+        cells.iter().map(|bytes| u32::from_le_bytes(*bytes) as usize)
+    }
+
+    /// The blocks as a list of their own.
+    #[must_use]
+    pub fn to_vec(&self) -> Vec<usize> {
+        self.iter().collect()
+    }
+}
+
+impl Debug for Edges<'_> {
+    fn fmt(&self, f: &mut Formatter<'_>) -> fmt::Result {
+        f.debug_list().entries(self.iter()).finish()
+    }
+}
