@@ -2,3 +2,5 @@
 pub mod Lexed
 -- how the check of a text ends
 pub mod Ends
+-- a table that `check` wrote is inside the ranges that recheck asks for
+pub mod Header

@@ -3,5 +3,7 @@
 pub mod Check
 -- the gate and the slices' lengths
 pub mod Promise
+-- the ranges of the header table, for recheck
+pub mod Header
 -- document 01's cases: one table, one claim
 pub mod Cases
