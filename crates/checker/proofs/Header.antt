@@ -4,11 +4,16 @@ use mathlib.Core.Path.{_≡_, refl, sym, ap, subst, _∙_}
 use mathlib.Core.Bool.{Bool, true, false}
 use mathlib.Core.List.{List, [], _∷_, _++_}
 use native.Mathlib.Omega.{arith}
-use borrow.Author.Tests.{lt-ltb, le-ltb}
+use borrow.Author.Tests.{ltb-true, eqb-true}
 use lib.Dec.{eqb, ltb}
-use lib.ListN.{length, getD, drop, replicate}
+use lib.ListN.{length, getD, drop, replicate, length-append}
 use Rattle.utils.specs.Bytes.{pick, padTo}
+use Rattle.pieces.specs.declared.Token.{Token}
+use Rattle.lexer.specs.Numbered.{Part, tokensCells, namesCells}
+use Rattle.lexer.specs.Sound.{Sound}
 use Rattle.lexer.specs.Decoded.{Tok, tokensOf, tokenAt}
+use Rattle.lexer.proofs.Cells.{length-tokens-cells, cells-token}
+use Rattle.lexer.proofs.Records.{tokens-count}
 use Rattle.pieces.specs.declared.Identifier.{Identifier}
 use Rattle.parser.specs.Step.{refusal, look, thenAt, thenNamed, thenType, thenDefined}
 use Rattle.parser.specs.Grammar.{consumeD, globalD, localD, typeD}
@@ -29,8 +34,23 @@ use Rattle.functions.specs.Functions.{Header, HeaderAt, header, noHeader, thenH
 use Rattle.functions.specs.Functions.{optionalType, enteredD, signatureD, headerD, BuiltAt, built, notBuilt, thenBuilt, builtD}
 use Rattle.functions.specs.Functions.{isVoid, Function, FunctionAt, function, noFunction, thenFunction, functionD, functionsD, programD}
 use Rattle.functions.specs.Functions.{Program, programEnd, programStop, programThen, knownOf}
+use Rattle.functions.specs.Rows.{rowAt, formalsAt, rowCells}
+use Rattle.functions.specs.Answer.{countsWith}
+use Rattle.functions.specs.Laid.{rowsCells}
+use Rattle.functions.specs.declared.Counts.{Counts}
+use Rattle.functions.proofs.Types.{TypesFew, more-types, types-after-up, function-type-few}
+use Rattle.functions.proofs.Standing.{cell-there, rest-there, row-ret, row-type, row-count, row-formals, row-stands, rows-behind}
 use Rattle.functions.specs.declared.Entered.{Entered}
 use Rattle.functions.specs.declared.Entered.the-variants as E
+use Rattle.lexer.specs.Read.{readOf}
+use Rattle.sema.specs.Program.{programD as typedD}
+use Rattle.sema.specs.declared.Checked.{Checked}
+use Rattle.sema.specs.declared.Checked.the-variants as K
+use Rattle.typing.specs.Outcome.{Outcome, checked, refused, afterTyping, afterParsing, untyped, unitD, none}
+use Rattle.checker.specs.Check.{checkedOr, checkOf}
+use Rattle.checker.specs.Promise.{Lexed}
+use Rattle.checker.proofs.Lexed.{is-done, tokens-unpadded, names-short, lexed-itself}
+use Rattle.checker.specs.Header.{RowInRange, TableInRange}
 
 -- Types. ------------------------------------------------------------------------------------------------------------
 
@@ -122,6 +142,34 @@ formals-good ts (suc room) at =
     (h, picked (eqb (tokenAt ts i .kind) 31) (formalsFromD ts room (tokenAt ts i .next)) (ended (consumeD ts i 26))
     (formals-good ts room (tokenAt ts i .next)) tt))
 
+-- at most sixteen
+after-few : (d : Defined) (k : Variable → ℕ → Variables) (most : ℕ)
+    → ((v : Variable) (i : ℕ) → length (k v i .list) ≤ most) → length (thenDefined stopped d k .list) ≤ most
+unfolding thenDefined
+after-few (D.At v i) k most g = g v i
+after-few (D.Refused e) k most g = omega arith
+
+picked-few : (b : Bool) (x y : Variables) (most : ℕ) → length (x .list) ≤ most → length (y .list) ≤ most
+    → length (pick b x y .list) ≤ most
+unfolding pick
+picked-few true x y most h g = h
+picked-few false x y most h g = g
+
+formals-few : (ts : List Tok) (room at : ℕ) → length (formalsFromD ts room at .list) ≤ room
+unfolding formalsFromD look
+formals-few ts zero at = after-few (formalD ts true at) _ 0 (λ v i. omega arith)
+formals-few ts (suc room) at =
+    after-few (formalD ts false at) _ (suc room) (λ v i.
+    omega (arith, picked-few (eqb (tokenAt ts i .kind) 31) (formalsFromD ts room (tokenAt ts i .next)) (ended (consumeD ts i 26)) room
+    (formals-few ts room (tokenAt ts i .next)) (omega arith)))
+
+optional-few : (ts : List Tok) (at : ℕ) → length (optionalFormals ts at .list) ≤ 16
+unfolding optionalFormals formalsD look
+optional-few ts at =
+    picked-few (eqb (tokenAt ts at .kind) 25) _ (ended (C.At at)) 16
+    (picked-few (eqb (tokenAt ts (tokenAt ts at .next) .kind) 26) (ended (C.At (tokenAt ts (tokenAt ts at .next) .next)))
+    (formalsFromD ts 16 (tokenAt ts at .next)) 16 (omega arith) (formals-few ts 16 (tokenAt ts at .next))) (omega arith)
+
 optional-good : (ts : List Tok) (at : ℕ) → GoodFormals (optionalFormals ts at .list)
 unfolding optionalFormals formalsD look
 optional-good ts at =
@@ -132,7 +180,7 @@ optional-good ts at =
 -- Headers and functions. --------------------------------------------------------------------------------------------
 
 abbrev GoodHeader : Header → Type 0
-GoodHeader h = GoodRet (h .ret) × GoodFormals (h .formals)
+GoodHeader h = GoodRet (h .ret) × GoodFormals (h .formals) × (length (h .formals) ≤ 16)
 
 abbrev GoodHeaderAt : HeaderAt → Type 0
 GoodHeaderAt (header h i) = GoodHeader h
@@ -142,30 +190,31 @@ header-good : (ts : List Tok) (full : Bool) (known : List Known) (types at : ℕ
 unfolding headerD signatureD thenNamed thenFormals thenType thenAt thenEntered pick
 header-good ts full known types at = named (globalD ts at) full
   where
-    entered : (g : Identifier) (vs : List Variable) (ret : Ty) (x : Entered) → GoodRet ret → GoodFormals vs
+    entered : (g : Identifier) (vs : List Variable) (ret : Ty) (x : Entered) → GoodRet ret → GoodFormals vs → length vs ≤ 16
         → GoodHeaderAt (thenEntered noHeader x (λ type i. header (record { name = g; formals = vs; ret = ret; type = type }) i))
-    entered g vs ret (E.At type i) h k = (h, k)
-    entered g vs ret (E.Refused e) h k = tt
+    entered g vs ret (E.At type i) h k l = (h, k, l)
+    entered g vs ret (E.Refused e) h k l = tt
 
-    typed : (g : Identifier) (vs : List Variable) (x : TypeRead) → GoodRetRead x → GoodFormals vs
+    typed : (g : Identifier) (vs : List Variable) (x : TypeRead) → GoodRetRead x → GoodFormals vs → length vs ≤ 16
         → GoodHeaderAt (thenType noHeader x (λ ret at2.
         thenEntered noHeader (enteredD ts known types at g (signature ret vs) at2) (λ type i.
         header (record { name = g; formals = vs; ret = ret; type = type }) i)))
-    typed g vs (R.At ret at2) h k = entered g vs ret (enteredD ts known types at g (signature ret vs) at2) h k
-    typed g vs (R.Refused e) h k = tt
+    typed g vs (R.At ret at2) h k l = entered g vs ret (enteredD ts known types at g (signature ret vs) at2) h k l
+    typed g vs (R.Refused e) h k l = tt
 
-    formals : (g : Identifier) (vs : List Variable) (x : Consumed) → GoodFormals vs
+    formals : (g : Identifier) (vs : List Variable) (x : Consumed) → GoodFormals vs → length vs ≤ 16
         → GoodHeaderAt (thenAt noHeader x (λ at2. thenType noHeader (optionalType ts at2) (λ ret at3.
         thenEntered noHeader (enteredD ts known types at g (signature ret vs) at3) (λ type i.
         header (record { name = g; formals = vs; ret = ret; type = type }) i))))
-    formals g vs (C.At at2) k = typed g vs (optionalType ts at2) (ret-good ts at2) k
-    formals g vs (C.Refused e) k = tt
+    formals g vs (C.At at2) k l = typed g vs (optionalType ts at2) (ret-good ts at2) k l
+    formals g vs (C.Refused e) k l = tt
 
     named : (x : Named) (b : Bool)
         → GoodHeaderAt (thenNamed noHeader x (λ g at1. pick b (noHeader (refusal 35 at 0)) (signatureD ts known types at g at1)))
     named (N.At g at1) true = tt
     named (N.At g at1) false =
         formals g (optionalFormals ts at1 .list) (optionalFormals ts at1 .end) (optional-good ts at1)
+        (optional-few ts at1)
     named (N.Refused e) b = tt
 
 abbrev GoodFunctionAt : FunctionAt → Type 0
@@ -190,31 +239,196 @@ function-good ts full known types at = headed (headerD ts full known types at) (
 
 abbrev GoodFunctions : List Function → Type 0
 GoodFunctions [] = Unit
-GoodFunctions (f ∷ fs) = GoodHeader (f .head) × GoodFunctions fs
+GoodFunctions (f ∷ fs) = (GoodHeader (f .head) × (f .head .type ≤ 64)) × GoodFunctions fs
 
-picked-program : (b : Bool) (x y : Program) → GoodFunctions (x .functions) → GoodFunctions (y .functions)
-    → GoodFunctions (pick b x y .functions)
+-- these functions, at most so many
+abbrev GoodProgram : ℕ → Program → Type 0
+GoodProgram most u = GoodFunctions (u .functions) × (length (u .functions) ≤ most)
+
+picked-program : (b : Bool) (x y : Program) (most : ℕ) → GoodProgram most x → GoodProgram most y → GoodProgram most (pick b x y)
 unfolding pick
-picked-program true x y h g = h
-picked-program false x y h g = g
+picked-program true x y most h g = h
+picked-program false x y most h g = g
 
-after-function : (x : FunctionAt) (k : Function → Program) → GoodFunctionAt x
-    → ((f : Function) → GoodHeader (f .head) → GoodFunctions (k f .functions))
-    → GoodFunctions (thenFunction programStop x k .functions)
+after-function : (x : FunctionAt) (k : Function → Program) (most : ℕ) → GoodFunctionAt x
+    → ((f : Function) → x ≡ function f → GoodHeader (f .head) → GoodProgram most (k f))
+    → GoodProgram most (thenFunction programStop x k)
 unfolding thenFunction
-after-function (function f) k h g = g f h
-after-function (noFunction e) k h g = tt
+after-function (function f) k most h g = g f refl h
+after-function (noFunction e) k most h g = (tt, omega arith)
 
-functions-good : (ts : List Tok) (room : ℕ) (known : List Known) (types at : ℕ)
-    → GoodFunctions (functionsD ts room known types at .functions)
+types-grow : (types type : ℕ) → typesAfter types type ≤ types + 1
+unfolding typesAfter pick
+types-grow types type = by (eqb type types)
+  where
+    by : (b : Bool) → pick b (types + 1) types ≤ types + 1
+    by true = omega arith
+    by false = omega arith
+
+functions-good : (ts : List Tok) (room : ℕ) (known : List Known) (types at : ℕ) → TypesFew types known → types + room ≤ 64
+    → GoodProgram room (functionsD ts room known types at)
 unfolding functionsD look
-functions-good ts zero known types at =
-    picked-program (eqb (tokenAt ts at .kind) 38) (programEnd (C.At at)) _ tt
-    (after-function (functionD ts true known types at) _ (function-good ts true known types at) (λ f h. tt))
-functions-good ts (suc room) known types at =
-    picked-program (eqb (tokenAt ts at .kind) 38) (programEnd (C.At at)) _ tt
-    (after-function (functionD ts false known types at) _ (function-good ts false known types at) (λ f h.
-    (h, functions-good ts room (known ++ (knownOf (f .head) ∷ [])) (typesAfter types (f .head .type)) (f .next))))
+functions-good ts zero known types at w l =
+    picked-program (eqb (tokenAt ts at .kind) 38) (programEnd (C.At at)) _ 0 (tt, omega arith)
+    (after-function (functionD ts true known types at) _ 0 (function-good ts true known types at) (λ f e h. (tt, omega arith)))
+functions-good ts (suc room) known types at w l =
+    picked-program (eqb (tokenAt ts at .kind) 38) (programEnd (C.At at)) _ (suc room) (tt, omega arith)
+    (after-function (functionD ts false known types at) _ (suc room) (function-good ts false known types at) (λ f e h.
+    let few = function-type-few ts known types w false at e in
+    let grow = types-grow types (f .head .type) in
+    let up = types-after-up types (f .head .type) in
+    let more = functions-good ts room (known ++ (knownOf (f .head) ∷ [])) (typesAfter types (f .head .type)) (f .next)
+    (more-types types (typesAfter types (f .head .type)) known (knownOf (f .head)) up (omega (arith, few, up)) w)
+    (omega (arith, grow)) in
+    (((h, omega (arith, few)), more .0), omega (arith, more .1))))
 
-pub program-good : (ts : List Tok) → GoodFunctions (programD ts .functions)
-program-good ts = functions-good ts 64 [] 0 0
+program-good : (ts : List Tok) → GoodProgram 64 (programD ts)
+program-good ts = functions-good ts 64 [] 0 0 tt (omega arith)
+
+-- Places and lines. -------------------------------------------------------------------------------------------------
+
+-- of any index: past the last token they are 0
+module _ (s : List ℕ) (toks : List Token) (ns : List Part) (v : Sound s 1 toks ns) where
+  abbrev ts : List Tok
+  ts = tokensOf (padTo 0 (tokensCells toks))
+
+  count : length ts ≡ length toks
+  count =
+      let m : 0 - length (tokensCells toks) ≡ 0 = omega arith in
+      let l : length (padTo 0 (tokensCells toks)) ≡ length toks * 4 =
+      length-append (tokensCells toks) _ ∙ rw m (omega (arith, length-tokens-cells toks)) in
+      omega (arith, tokens-count (padTo 0 (tokensCells toks)), l)
+
+  pub token-in : (i : ℕ) → (tokenAt ts i .place ≤ 16384) × (tokenAt ts i .line .0 ≤ 16385)
+  unfolding tokenAt pick
+  token-in i = by (ltb i (length ts)) refl
+    where
+      by : (b : Bool) → ltb i (length ts) ≡ b → (tokenAt ts i .place ≤ 16384) × (tokenAt ts i .line .0 ≤ 16385)
+      by true e =
+          let k : i < length toks = omega (arith, ltb-true i (length ts) e, count) in
+          let r = v .ranges i k in
+          rw (e, cells-token 0 toks i k) (omega (arith, r .2, v .short), omega (arith, r .1, r .2, v .short))
+      by false e = rw e (omega arith, omega arith)
+
+-- The rows. ---------------------------------------------------------------------------------------------------------
+
+formal-types-in : (vs : List Variable) (cells : List ℕ) (at : ℕ) (rest : List ℕ) → drop at cells ≡ variablesCells vs ++ rest
+    → GoodFormals vs → (k : ℕ) → k < length vs
+    → (1 ≤ getD cells (at + k * 2 + 1) 0) × (getD cells (at + k * 2 + 1) 0 ≤ 2)
+unfolding variablesCells
+formal-types-in [] cells at rest h g k l = absurd (omega arith)
+formal-types-in (v ∷ vs) cells at rest h g zero l =
+    let e : at + 0 * 2 + 1 ≡ at + 1 = omega arith in
+    rw (e, cell-there at 1 cells (variablesCells (v ∷ vs) ++ rest) h) (g .0)
+formal-types-in (v ∷ vs) cells at rest h g (suc k) l =
+    let e : at + suc k * 2 + 1 ≡ at + 2 + k * 2 + 1 = omega arith in
+    rw e
+    (formal-types-in vs cells (at + 2) rest (rest-there at 2 cells (variablesCells (v ∷ vs) ++ rest) h) (g .1) k (omega arith))
+
+module _ (ts : List Tok) (names rows rest : List ℕ)
+    (tokens-in : (i : ℕ) → (tokenAt ts i .place ≤ 16384) × (tokenAt ts i .line .0 ≤ 16385))
+    (lengths-in : (i : ℕ) → getD names (i * 2 + 1) 0 ≤ 64) where
+  row-in : (n : Counts) (f : Function) (r : List ℕ) → GoodHeader (f .head) × (f .head .type ≤ 64)
+      → drop (rowAt (n .functions)) rows ≡ rowCells ts names f (n .items) (n .blocks) ++ r → RowInRange rows (n .functions)
+  row-in n f r q h =
+      let g = q .0 in
+      let i = n .functions in
+      let first = n .items in
+      let base = n .blocks in
+      let cell : (k j : ℕ) → k ≡ rowAt i + j → getD rows k 0 ≡ getD (rowCells ts names f first base ++ r) j 0 =
+      λ k j e. ap (λ (x : ℕ). getD rows x 0) e ∙ cell-there (rowAt i) j rows (rowCells ts names f first base ++ r) h in
+      let vs = f .head .formals in
+      record {
+        place = rw (cell (4 + i * 45) 3 (omega arith)) (tokens-in (f .token) .0);
+        length = rw (cell (5 + i * 45) 4 (omega arith)) (lengths-in (f .head .name .0));
+        line = rw (cell (6 + i * 45) 5 (omega arith)) (tokens-in (f .token) .1);
+        ret-least = rw (row-ret ts names f first base rows i r h) (g .0 .0);
+        ret-most = rw (row-ret ts names f first base rows i r h) (g .0 .1);
+        type = rw (row-type ts names f first base rows i r h) (q .1);
+        formals = rw (row-count ts names f first base rows i r h) (g .2);
+        formal-types = λ k l.
+            let e : 15 + i * 45 + k * 2 ≡ formalsAt i + k * 2 + 1 = omega arith in
+            rw e
+            (formal-types-in vs rows (formalsAt i) r (row-formals ts names f first base rows i r h) (g .1) k
+            (rw (row-count ts names f first base rows i r h) at l));
+      }
+
+  rows-in : (fs : List Function) (n : Counts) → GoodFunctions fs
+      → drop (rowAt (n .functions)) rows ≡ rowsCells ts names n fs ++ rest
+      → (k : ℕ) → k < length fs → RowInRange rows (n .functions + k)
+  rows-in [] n g h k l = absurd (omega arith)
+  rows-in (f ∷ fs) n g h zero l =
+      let s = row-stands ts names rows rest n f fs h in
+      let e : n .functions + 0 ≡ n .functions = omega arith in
+      rw e (row-in n f (s .0) (g .0) (s .1))
+  rows-in (f ∷ fs) n g h (suc k) l =
+      let e : n .functions + suc k ≡ n .functions + 1 + k = omega arith in
+      rw e
+      (rows-in fs (countsWith n f) (g .1) (rows-behind ts names rows rest n f fs (g .0 .0 .2) h) k (omega arith))
+
+-- The whole. --------------------------------------------------------------------------------------------------------
+
+-- the functions of a text that is accepted are those that were parsed
+typed-are : (gs fs : List Function) (e : Checked) → afterTyping gs e ≡ checked fs → fs ≡ gs
+typed-are gs fs K.Fine h = cc
+typed-are gs fs (K.Refused e) h = absurd (let z : _≡_ {A = ℕ} 0 1 = cc in omega arith)
+
+ended-are : (ts : List Tok) (gs fs : List Function) (e : Consumed) → afterParsing ts gs e ≡ checked fs → fs ≡ gs
+ended-are ts gs fs (C.At next) h = typed-are gs fs (typedD ts gs gs untyped .end) h
+ended-are ts gs fs (C.Refused e) h = absurd (let z : _≡_ {A = ℕ} 0 1 = cc in omega arith)
+
+parsed-are : (ts : List Tok) (fs : List Function) → unitD ts ≡ checked fs → fs ≡ programD ts .functions
+unfolding unitD
+parsed-are ts fs h = ended-are ts (programD ts .functions) fs (programD ts .end) h
+
+-- no functions
+first-zero : (m : ℕ) → _≡_ {A = ℕ} (getD (replicate m 0) 0 0) 0
+first-zero zero = refl
+first-zero (suc m) = refl
+
+none-in : (m : ℕ) → TableInRange (padTo m [])
+none-in m =
+    let k : m - 0 ≡ m = omega arith in
+    let z : _≡_ {A = ℕ} (getD (padTo m []) 0 0) 0 = rw k (first-zero m) in
+    record { count = omega (arith, z); each = λ i h. absurd (omega (arith, z, h)) }
+
+module _ (text : List ℕ) (m : ℕ) (v : Lexed text (readOf text .answer) (readOf text .message) (readOf text .tokens) (readOf text .names))
+  where
+    ts-is : readOf text .tokens ≡ padTo 0 (tokensCells (is-done v .ts))
+    ts-is = tokens-unpadded v
+
+    read-in : (i : ℕ)
+        → (tokenAt (tokensOf (readOf text .tokens)) i .place ≤ 16384)
+        × (tokenAt (tokensOf (readOf text .tokens)) i .line .0 ≤ 16385)
+    read-in = rw ts-is (token-in text (is-done v .ts) (is-done v .ns) (is-done v .sound))
+
+    lengths : (i : ℕ) → getD (readOf text .names) (i * 2 + 1) 0 ≤ 64
+    lengths i = names-short v i
+
+    by-outcome : (o : Outcome) → unitD (tokensOf (readOf text .tokens)) ≡ o
+        → TableInRange (padTo m (checkedOr text (readOf text) (tokensOf (readOf text .tokens)) o .unit .functions))
+    by-outcome (checked fs) e =
+        let ts = tokensOf (readOf text .tokens) in
+        let good = subst (λ (gs : List Function). GoodFunctions gs × (length gs ≤ 64)) (sym (parsed-are ts fs e)) (program-good ts) in
+        let rows = padTo m (length fs ∷ rowsCells ts (readOf text .names) none fs) in
+        record {
+          count = good .1;
+          each = λ i h.
+              let z : 0 + i ≡ i = omega arith in
+              rw z at
+              (rows-in ts (readOf text .names) rows
+              (replicate (m - length (length fs ∷ rowsCells ts (readOf text .names) none fs)) 0) read-in lengths fs none
+              (good .0) refl i h);
+        }
+    by-outcome (refused r) e = none-in m
+
+-- EVERY HEADER TABLE THAT `check` WRITES IS IN RANGE, also that of a refused text: it has no functions.
+pub header-in-range : (text : List ℕ) (m : ℕ) → TableInRange (padTo m (checkOf text .unit .functions))
+unfolding checkOf pick
+header-in-range text m = by (eqb (readOf text .answer .number) 0) refl
+  where
+    by : (b : Bool) → eqb (readOf text .answer .number) 0 ≡ b → TableInRange (padTo m (checkOf text .unit .functions))
+    by true e =
+        rw e
+        (by-outcome text m (lexed-itself text (eqb-true _ _ e)) (unitD (tokensOf (readOf text .tokens))) refl)
+    by false e = rw e (none-in m)

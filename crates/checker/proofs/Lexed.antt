@@ -3,7 +3,7 @@ use Prim.Native.Nat.{ℕ, _+_, _*_, _-_, _≤_, _<_}
 use mathlib.Core.Path.{_≡_, refl, sym, ap, subst, _∙_}
 use mathlib.Core.List.{List, [], _∷_, _++_, append-nil}
 use native.Mathlib.Omega.{arith}
-use lib.ListN.{length, take, drop, replicate}
+use lib.ListN.{length, getD, take, drop, replicate}
 use lib.Seq.{take-at}
 use Rattle.utils.specs.Bytes.{padTo}
 use Rattle.pieces.specs.Refusals.{factsOf}
@@ -19,12 +19,17 @@ use Rattle.lexer.proofs.Promise.{done-reading}
 use Rattle.lexer.proofs.Cells.{length-tokens-cells, length-names-cells, cells-token-last}
 use Rattle.body.specs.Room.{Within}
 use Rattle.messages.specs.Messages.{ShortNames}
-use Rattle.messages.proofs.Short.{short-names}
+use Rattle.messages.proofs.Short.{cell-short, short-names}
 use Rattle.checker.specs.Promise.{Lexed}
 
 unpadded : (l : List ℕ) → padTo 0 l ≡ l
 unpadded l =
     let m : 0 - length l ≡ 0 = omega arith in
+    ap (λ (k : ℕ). l ++ replicate k 0) m ∙ append-nil l
+
+padded-itself : (l : List ℕ) → padTo (length l) l ≡ l
+padded-itself l =
+    let m : length l - length l ≡ 0 = omega arith in
     ap (λ (k : ℕ). l ++ replicate k 0) m ∙ append-nil l
 
 -- the first cells of a padded list are the list
@@ -82,7 +87,7 @@ module _ {text m t n : List ℕ} {r : ReadAnswer} (v : Lexed text r m t n) where
       front (length n) (r .names * 2) (readOf text .names) n (v .names)
       (ap length read-names ∙ length-names-cells (is-done .ns) ∙ ap (λ (k : ℕ). k * 2) (sym (is-done .counted-names)))
 
-  tokens-unpadded : readOf text .tokens ≡ padTo 0 (tokensCells (is-done .ts))
+  pub tokens-unpadded : readOf text .tokens ≡ padTo 0 (tokensCells (is-done .ts))
   tokens-unpadded = read-tokens ∙ sym (unpadded (tokensCells (is-done .ts)))
 
   pub within : Within (tokensOf (readOf text .tokens)) 0
@@ -99,3 +104,20 @@ module _ {text m t n : List ℕ} {r : ReadAnswer} (v : Lexed text r m t n) where
   short =
       rw (read-names ∙ sym (unpadded (namesCells (is-done .ns))))
       (short-names text 1 0 (is-done .ts) (is-done .ns) (is-done .sound))
+
+  pub names-short : (i : ℕ) → getD (readOf text .names) (i * 2 + 1) 0 ≤ 64
+  names-short =
+      rw (read-names ∙ sym (unpadded (namesCells (is-done .ns))))
+      (cell-short text (is-done .ns) (0 - length (namesCells (is-done .ns))) (is-done .sound .within))
+
+-- a reading as it is
+pub lexed-itself : (text : List ℕ) → readOf text .answer .number ≡ 0
+    → Lexed text (readOf text .answer) (readOf text .message) (readOf text .tokens) (readOf text .names)
+lexed-itself text z =
+    record {
+      answer = refl;
+      fine = z;
+      message = sym (padded-itself (readOf text .message));
+      tokens = sym (padded-itself (readOf text .tokens));
+      names = sym (padded-itself (readOf text .names));
+    }
