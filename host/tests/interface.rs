@@ -1,15 +1,19 @@
 //! The declarations against docs/INTERFACE.md: every size and offset is read out of the document.
 use std::mem::{align_of, offset_of, size_of};
 
-use pitchsleet::raw::{self, ReadAnswer};
+use pitchsleet::raw::{self, CheckAnswer, ReadAnswer};
 use pitchsleet::{Reader, TokenValue};
 
 const DOCUMENT: &str = include_str!("../../docs/INTERFACE.md");
 
 /// The rows of the first table under a heading, without its head: cells without code marks.
 fn table(heading: &str) -> Vec<Vec<String>> {
-    let section = DOCUMENT.split(&format!("# {heading}\n")).nth(1);
-    let section = section.unwrap_or_else(|| panic!("docs/INTERFACE.md has no section {heading}"));
+    table_after(&format!("# {heading}\n"))
+}
+
+fn table_after(words: &str) -> Vec<Vec<String>> {
+    let section = DOCUMENT.split(words).nth(1);
+    let section = section.unwrap_or_else(|| panic!("docs/INTERFACE.md has no {words}"));
     let lines = section.lines().skip_while(|line| !line.starts_with('|'));
     let rows = lines.take_while(|line| line.starts_with('|')).skip(2);
     rows.map(cells).collect()
@@ -37,7 +41,12 @@ fn number_between(before: &str, after: &str) -> usize {
 
 #[test]
 fn sizes_of_the_slices() {
-    let sizes = [("text", raw::TEXT_BYTES), ("out", raw::OUT_BYTES), ("message", raw::MESSAGE_BYTES)];
+    let sizes = [
+        ("text", raw::TEXT_BYTES),
+        ("out of read", raw::OUT_BYTES),
+        ("out of check", raw::CHECK_OUT_BYTES),
+        ("message", raw::MESSAGE_BYTES),
+    ];
     assert_eq!(numbered(&table("The slices")), sizes);
 }
 
@@ -47,8 +56,17 @@ fn offsets_and_counts_of_the_records() {
     let numbers: Vec<Vec<usize>> = rows.iter().map(|row| row[1..].iter().map(|cell| number(cell)).collect()).collect();
     assert_eq!(
         numbers,
-        [[raw::TOKENS_OFFSET, raw::TOKEN_BYTES, raw::TOKENS], [raw::NAMES_OFFSET, raw::NAME_BYTES, raw::NAMES],]
+        [
+            [raw::TOKENS_OFFSET, raw::TOKEN_BYTES, raw::TOKENS],
+            [raw::NAMES_OFFSET, raw::NAME_BYTES, raw::NAMES],
+            [raw::FUNCTION_RECORDS_OFFSET, raw::FUNCTION_BYTES, raw::FUNCTIONS],
+            [raw::ITEMS_OFFSET, raw::ITEM_BYTES, raw::ITEMS],
+            [raw::ARGUMENTS_OFFSET, raw::ARGUMENT_BYTES, raw::ARGUMENTS],
+            [raw::BLOCKS_OFFSET, raw::BLOCK_BYTES, raw::BLOCKS],
+            [raw::PREDECESSORS_OFFSET, raw::PREDECESSOR_BYTES, raw::PREDECESSORS],
+        ]
     );
+    assert_eq!(number_between("At ", ", before the first function record"), raw::FUNCTIONS_OFFSET);
     assert_eq!(raw::TOKENS_OFFSET + raw::TOKENS * raw::TOKEN_BYTES, raw::NAMES_OFFSET);
     assert_eq!(raw::NAMES_OFFSET + raw::NAMES * raw::NAME_BYTES, raw::OUT_BYTES);
 }
@@ -81,8 +99,30 @@ fn fields_of_the_answer() {
         ("names", offset_of!(ReadAnswer, names)),
     ];
     assert_eq!(numbered(&table("The answer")), fields);
-    assert_eq!(number_between("The struct has ", " bytes"), size_of::<ReadAnswer>());
+    assert_eq!(number_between("The struct of read has ", " bytes"), size_of::<ReadAnswer>());
     assert_eq!(number_between("aligned to ", "."), align_of::<ReadAnswer>());
+}
+
+#[test]
+fn fields_of_check_s_answer() {
+    let first = [
+        (offset_of!(CheckAnswer, number), offset_of!(ReadAnswer, number)),
+        (offset_of!(CheckAnswer, line), offset_of!(ReadAnswer, line)),
+        (offset_of!(CheckAnswer, place), offset_of!(ReadAnswer, place)),
+        (offset_of!(CheckAnswer, tokens), offset_of!(ReadAnswer, tokens)),
+        (offset_of!(CheckAnswer, names), offset_of!(ReadAnswer, names)),
+    ];
+    assert!(first.iter().all(|(of_check, of_read)| of_check == of_read));
+    let fields = [
+        ("functions", offset_of!(CheckAnswer, functions)),
+        ("items", offset_of!(CheckAnswer, items)),
+        ("arguments", offset_of!(CheckAnswer, arguments)),
+        ("blocks", offset_of!(CheckAnswer, blocks)),
+        ("predecessors", offset_of!(CheckAnswer, predecessors)),
+    ];
+    assert_eq!(numbered(&table_after("That of check has ")), fields);
+    assert_eq!(number_between("That of check has ", " bytes"), size_of::<CheckAnswer>());
+    assert_eq!(align_of::<CheckAnswer>(), align_of::<ReadAnswer>());
 }
 
 /// The slices of the checker's records, which follow each other in `out` behind those of reading.
@@ -210,10 +250,13 @@ fn last_function_s_first_item(text: &str) -> Vec<u32> {
 
 /// The order of the function's parameters, in the C of the document and in the Rust of the declaration.
 #[test]
-fn parameters_of_the_function() {
-    let of_document = DOCUMENT.split("pitchsleet_read(\n").nth(1).expect("the C declaration");
-    let of_declaration = include_str!("../src/raw.rs").split("fn pitchsleet_read(\n").nth(1).expect("the Rust one");
-    assert_eq!(parameters(of_document, ')', c_parameter), parameters(of_declaration, ')', rust_parameter));
+fn parameters_of_the_functions() {
+    for name in ["pitchsleet_read", "pitchsleet_check"] {
+        let of_document = DOCUMENT.split(&format!("{name}(\n")).nth(1).expect("the C declaration");
+        let of_declaration =
+            include_str!("../src/raw.rs").split(&format!("fn {name}(\n")).nth(1).expect("the Rust one");
+        assert_eq!(parameters(of_document, ')', c_parameter), parameters(of_declaration, ')', rust_parameter));
+    }
 }
 
 fn parameters(declaration: &str, end: char, each: fn(&str) -> (String, &'static str)) -> Vec<(String, &'static str)> {
@@ -309,14 +352,78 @@ fn refusals() {
     }
 }
 
-/// The document's bound, with what the thread itself needs.
+/// Each refusal of the document that check alone has, from a text that has it.
+#[test]
+fn refusals_of_check() {
+    let many = |count: usize, each: &dyn Fn(usize) -> String| (0..count).map(each).collect::<String>();
+    let texts: [(usize, String, &str); 22] = [
+        (5, "@f { nop }".to_owned(), "}"),
+        (6, "@f { print 5; }".to_owned(), "5"),
+        (7, "x".to_owned(), "x"),
+        (8, "@f { jmp x; }".to_owned(), "x"),
+        (9, "@f { x: 5 }".to_owned(), "5"),
+        (10, "@f { x: int = const x; }".to_owned(), "const"),
+        (11, "@f { x: int = nop; }".to_owned(), "nop"),
+        (12, "@f { ret; x: int = const 7; }".to_owned(), "7"),
+        (13, "@f { nop; .a: nop; .a: nop; }".to_owned(), ".a: nop; }"),
+        (14, "@f { br x .a .a; }".to_owned(), "br"),
+        (15, "@f { x: int = const 1; x: bool = const true; }".to_owned(), "true"),
+        (16, "@f { ret x; }".to_owned(), "ret"),
+        (17, "@f { x: int = const true; }".to_owned(), "true"),
+        (18, "@f { x: int = call @f; }".to_owned(), "call"),
+        (19, "@f: int { ret; }".to_owned(), "ret"),
+        (20, "@f(a: int) { call @f; }".to_owned(), "call"),
+        (21, "@f: int { nop; }".to_owned(), "nop"),
+        (22, "@f { }".to_owned(), "@f"),
+        (35, many(65, &|i| format!("@f{i} {{ nop; }} ")), "@f64"),
+        (36, format!("@f({}", many(17, &|i| format!("p{i}: int, "))), "p16"),
+        (37, format!("@f {{ call @f{}", many(17, &|i| format!(" p{i}"))), "p16"),
+        (38, format!("@f {{ {}", many(256, &|i| format!(".l{i}: "))), ".l255"),
+    ];
+    let rows = table("Refusals of check");
+    assert_eq!(rows.len(), texts.len());
+    let mut reader = Reader::new();
+    for (row, (expected, text, token)) in rows.iter().zip(&texts) {
+        let refusal = reader.check(text.as_bytes()).expect_err("refused");
+        assert_eq!((number(&row[0]), refusal.number() as usize), (*expected, *expected));
+        assert!(text[refusal.place()..].starts_with(token), "{expected}: {}", &text[refusal.place()..]);
+        // What the document's words stand for in these texts.
+        let words = row[2].split(" with the token ").next().expect("a split has a first part");
+        let words = match expected {
+            5 => words.replace("'t'", "';'"),
+            13 => words.replace("NAME", ".a"),
+            14 => words.replace("NAME", ".a"),
+            15 => words.replace("NAME", "x").replace("'f'", "'bool'").replace("'e'", "'int'"),
+            16 => words.replace("NAME", "x"),
+            17 => words.replace("'e'", "'int'").replace("'f'", "'bool'"),
+            20 => words.replace("n arguments expected, got m", "1 arguments expected, got 0"),
+            _ => words.to_owned(),
+        };
+        let shown = if *token == "x" { if *expected == 7 { "local_0" } else { "local_1" } } else { token };
+        let message = format!("[line 1] Error {}\n", words.replace("ITEM", &format!("at '{shown}'")));
+        assert_eq!(String::from_utf8_lossy(refusal.message()), message);
+    }
+}
+
+/// The document's bounds, with what the thread itself needs.
 #[test]
 fn stack_of_a_call() {
-    let bound = number_between("A call needs less than ", " KiB of stack") * 1024;
-    let thread = std::thread::Builder::new().stack_size(bound + 8 * 1024);
-    let call = || {
+    let read = || {
         let mut reader = Reader::new();
         reader.read(b"@f { nop; }").is_ok() && reader.read(b"$").is_err()
     };
+    let check = || {
+        let mut reader = Reader::new();
+        let loops: String = (0..255).map(|i| format!(".l{i}: br q .l{} .l{};", (i + 1) % 255, i / 2)).collect();
+        let functions = "@f(a: int) { call @f a; }".repeat(60);
+        let texts = [format!("@f {{ {loops} }}"), functions];
+        texts.iter().all(|text| reader.check(text.as_bytes()).is_ok()) && reader.check(b"@f { ret x; }").is_err()
+    };
+    runs_in(number_between("A call of read needs less than ", " KiB of stack"), read);
+    runs_in(number_between("A call of check needs less than ", " KiB"), check);
+}
+
+fn runs_in(kibibytes: usize, call: impl FnOnce() -> bool + Send + 'static) {
+    let thread = std::thread::Builder::new().stack_size((kibibytes + 8) * 1024);
     assert!(thread.spawn(call).expect("a thread").join().expect("no panic"));
 }
