@@ -1,7 +1,7 @@
 -- Once a function is typed, the operands of its operations get their types: those that their names have in the table of
--- names, and a callee its function type. The operand kept in `ret`, `print`, `br` stays of placeholder type. The table is
--- the one that the function's typing leaves; it may stand for the table at each visit, since it has the type that was
--- found there for every name looked up (`Final`, crates/sema/specs/Visits.antt).
+-- names, and a callee its function type. The operand kept in `ret`, `print`, `br` stays of placeholder type. The table
+-- is the one that the function's typing leaves; it may stand for the table at each visit, since it has the type that
+-- was found there for every name looked up (`Final`, crates/sema/specs/Visits.antt).
 use Prim.Native.Nat.{ℕ, zero, suc, _+_, _*_}
 use mathlib.Core.List.{List, [], _∷_, _++_}
 use mathlib.Core.Bool.{Bool, true, false}
