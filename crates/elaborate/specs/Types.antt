@@ -1,5 +1,7 @@
 -- Once a function is typed, the operands of its operations get their types: those that their names have in the table of
--- names, and a callee its function type. The operand kept in `ret`, `print`, `br` stays of placeholder type.
+-- names, and a callee its function type. The operand kept in `ret`, `print`, `br` stays of placeholder type. The table
+-- is the one that the function's typing leaves; it may stand for the table at each visit, since it has the type that
+-- was found there for every name looked up (`Final`, crates/sema/specs/Visits.antt).
 use Prim.Native.Nat.{ℕ, zero, suc, _+_, _*_}
 use mathlib.Core.List.{List, [], _∷_, _++_}
 use mathlib.Core.Bool.{Bool, true, false}
@@ -25,10 +27,11 @@ calleeIn (f ∷ fs) name =
     let more = calleeIn fs name in
     pick (eqb (f .head .name .0) name) (f .head .type + 4) more
 
--- `callees` gives a callee's type. 2 binary, 3 unary, 5 and 6 calls (crates/body/specs/Records.antt)
+-- 5 and 6 are calls (crates/body/specs/Records.antt).
 unfoldable pub isCall : ℕ → Bool
 isCall kind = pick (eqb kind 5) true (eqb kind 6)
 
+-- `callees` gives a callee's type. 2 is binary, 3 unary.
 unfoldable pub typedRecord : List ℕ → (ℕ → ℕ) → ItemRecord → ItemRecord
 typedRecord table callees r =
     let k = r .kind in

@@ -1,5 +1,6 @@
--- Texts with a refusal and the message that the Rust writes: one table with one claim, shown by computation. A refusal
--- is its number, its token's index, what was wanted, what was found, and a name's number.
+-- Texts with a refusal and its message: one table with one claim, shown by computation. The message is the one that the
+-- Rust writes, except for 22 and 35 to 38, which the Rust doesn't have, and for the types that no text gives 17 with. A
+-- refusal is its number, its token's index, what was wanted, what was found, and a name's number.
 use Prim.Native.Nat.{ℕ}
 use Prim.Native.String.{String}
 use mathlib.Core.Path.{_≡_, refl}

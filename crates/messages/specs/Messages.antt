@@ -65,7 +65,7 @@ wordOf kind = getD words kind []
 unfoldable pub signed : ℕ → List ℕ
 signed bits = pick (ltb bits 2147483648) (decimal bits) (bytes "-" ++ decimal (4294967296 - bits))
 
--- T: `local_3` with the name's number, an integer, or the word or sign
+-- a token as Display shows it: `local_3` with the name's number, an integer, or the word or sign
 unfoldable pub shown : ℕ → ℕ → List ℕ
 shown kind value = pick (ltb 4 kind) (wordOf kind) (pick (eqb kind 4) (signed value) (wordOf kind ++ decimal value))
 

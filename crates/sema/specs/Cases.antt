@@ -74,7 +74,7 @@ cases =
     -- operands are looked up before the result is entered
     ∷ case "@f { x: int = id x; }" (16 ∷ 6 ∷ 0 ∷ 0 ∷ [])
     -- the result's type first; `eq`: right against left
-    ∷ case "@f { a: bool = const true; c: bool = add a a; }" (17 ∷ 13 ∷ 1 ∷ 2 ∷ [])
+    ∷ case "@f { a: bool = const true; c: int = lt a a; }" (17 ∷ 13 ∷ 2 ∷ 1 ∷ [])
     ∷ case "@f { a: int = const 1; b: bool = const true; c: int = eq a b; }" (17 ∷ 20 ∷ 1 ∷ 2 ∷ [])
     -- a call's result is entered before its arguments
     ∷ case "@f { x: int = call @g x; } @g(a: int): int { ret a; }" (0 ∷ [])

@@ -33,9 +33,8 @@ thenThree t token result left right wantedResult wantedOperands =
     (thenSame t token left wantedOperands
     (thenSame t token right wantedOperands (on t)))
 
--- Binary: left, right looked up; result entered; result type, left, right compared. `eq`: right against left, then
--- result. The kinds are those of the operators' words: 5 to 9 arithmetic, 12 `eq`, 13 to 16 comparisons, 18 and 19
--- `and`, `or`.
+-- What is compared: result type, left, right; `eq`: right against left, then result. The kinds are those of the
+-- operators' words: 5 to 9 arithmetic, 12 `eq`, 13 to 16 comparisons, 18 and 19 `and`, `or`.
 unfoldable pub operandsD : List ℕ → ℕ → ℕ → ℕ → ℕ → ℕ → Typed
 operandsD t kind token result left right =
     pick (leb kind 9) (thenThree t token result left right int int)
@@ -43,18 +42,20 @@ operandsD t kind token result left right =
     (pick (leb kind 16) (thenThree t token result left right bool int)
     (thenThree t token result left right bool bool)))
 
+-- Binary: left, right looked up; result entered; then compared.
 unfoldable pub binaryD : List ℕ → ℕ → ℕ → Identifier → ℕ → Identifier → Identifier → Typed
 binaryD t kind token result type x y =
     thenLook t token x (λ left.
     thenLook t token y (λ right.
     thenTyped (enterD t token result type) (λ t1. operandsD t1 kind token type left right)))
 
--- Unary: operand, result entered, then `id` (37): operand against result; `not`: result, operand.
+-- What is compared: `id` (37): operand against result; `not`: result, operand.
 unfoldable pub operandD : List ℕ → ℕ → ℕ → ℕ → ℕ → Typed
 operandD t kind token type operand =
     pick (eqb kind 37) (thenSame t token operand type (on t))
     (thenSame t token type bool (thenSame t token operand bool (on t)))
 
+-- Unary: operand looked up; result entered; then compared.
 unfoldable pub unaryD : List ℕ → ℕ → ℕ → Identifier → ℕ → Identifier → Typed
 unaryD t kind token result type x =
     thenLook t token x (λ operand.
@@ -103,17 +104,19 @@ argumentsD t token formals xs =
     (thenTyped (presentD t token xs) (λ t1. sameAll t1 token (typesOf t1 xs) formals))
     (stop t (facts 20 token (length formals) (length xs) noName))
 
--- `call`: callee looked up; with a result, void callee 18, type 17, result entered; without, non-void 19; then the
--- arguments. So the result is entered before the arguments.
+-- callee looked up
 unfoldable pub thenGlobal : List ℕ → ℕ → Identifier → Global → (ℕ → List ℕ → Typed) → Typed
 thenGlobal t token callee absent k = stop t (facts 16 token 0 0 callee)
 thenGlobal t token callee (global ret formals) k = k ret formals
 
+-- `call` without a result: callee looked up; non-void 19; then the arguments.
 unfoldable pub callD : List ℕ → Global → ℕ → Identifier → List Variable → Typed
 callD t g token callee xs =
     thenGlobal t token callee g (λ ret formals.
     pick (eqb ret void) (argumentsD t token formals xs) (stop t (refusal 19 token 0)))
 
+-- `call` with a result: callee looked up; void callee 18, type 17, result entered; then the arguments. So the result is
+-- entered before the arguments are looked up.
 unfoldable pub callIntoD : List ℕ → Global → ℕ → Identifier → ℕ → Identifier → List Variable → Typed
 callIntoD t g token result type callee xs =
     thenGlobal t token callee g (λ ret formals.
@@ -121,8 +124,8 @@ callIntoD t g token result type callee xs =
     (thenSame t token type ret
     (thenTyped (enterD t token result type) (λ t1. argumentsD t1 token formals xs))))
 
--- An operation by its form. `ret` is the result type of the function it stands in, `globals` the functions by name.
--- `print` operands and `br` conditions are never looked up.
+-- An operation that calls nothing, by its form. `ret` is the result type of the function it stands in. `print` operands
+-- and `br` conditions are never looked up.
 unfoldable pub plainD : List Tok → ℕ → List ℕ → Operation → Typed
 plainD ts ret t (O.BinaryOp w v x y) = binaryD t (tokenAt ts w .kind) w (v .id) (typeCell (v .ty)) x y
 plainD ts ret t (O.UnaryOp w v x) = unaryD t (tokenAt ts w .kind) w (v .id) (typeCell (v .ty)) x
@@ -134,6 +137,7 @@ plainD ts ret t (O.RetValue w x) = retValueD t ret w x
 plainD ts ret t (O.Print w x) = on t
 plainD ts ret t (O.Nop w) = on t
 
+-- An item by its form; `globals` gives the functions by name.
 unfoldable pub analyzeD : List Tok → (ℕ → Global) → ℕ → List ℕ → Item → Typed
 analyzeD ts globals ret t (label w l) = on t
 analyzeD ts globals ret t (plain o) = plainD ts ret t o
