@@ -202,7 +202,7 @@ unsafe extern "C" {
 /// Reads a text into records and a message.
 ///
 /// `out` needs [`OUT_BYTES`] and `message` [`MESSAGE_BYTES`]; where one is shorter the answer's number is 30 and nothing
-/// is written. What is longer is filled with zeros. The call allocates nothing and takes some 74,000 bytes of stack.
+/// is written. What is longer is filled with zeros. The call allocates nothing and takes less than 76 KiB of stack.
 ///
 /// ```
 /// use pitchsleet::raw;
@@ -229,7 +229,7 @@ pub fn read(text: &[u8], out: &mut [u8], message: &mut [u8]) -> ReadAnswer {
 ///
 /// `out` needs [`CHECK_OUT_BYTES`] and `message` [`MESSAGE_BYTES`]; where one is shorter the answer's number is 30 and
 /// nothing is written. What is longer is filled with zeros. The call allocates nothing, and has all of its room on the
-/// stack: docs/INTERFACE.md says how much.
+/// stack, less than 264 KiB.
 ///
 /// ```
 /// use pitchsleet::raw;

@@ -14,7 +14,7 @@ use crate::unit::Unit;
 ///
 /// The buffers are taken once, by [`Reader::new`]: 252,228 bytes for the records and 512 for a message. No call of
 /// [`Reader::read`] or [`Reader::check`] allocates: the room that they need is on the stack, less than 76 KiB for a
-/// reading and some 260 KiB for a check.
+/// reading and less than 264 KiB for a check.
 ///
 /// ```
 /// use pitchsleet::Reader;
