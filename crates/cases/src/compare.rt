@@ -1,10 +1,6 @@
 // Compares what `read` answered and wrote with a case of the file.
 use crate::load;
-
-// What every lent cell and byte holds before a call. `read` must write over all of them, or leave all alone.
-pub const OLD_CELL: u32 = 2863311530;
-
-pub const OLD_BYTE: u8 = 170;
+use fixed::held;
 
 // What came out otherwise than expected, or nothing.
 pub enum Part {
@@ -23,63 +19,6 @@ pub enum Part {
 pub struct Outcome {
     pub part: Part,
     pub next: usize,
-}
-
-// Whether a slice holds what it must, and the place in the file after its list.
-pub struct Held {
-    pub same: bool,
-    pub next: usize,
-}
-
-// The cell at an index of a list, and `rest` behind the list.
-fn cell_at(list: &[u32], count: usize, at: usize, rest: u32) -> u32 {
-    if count <= at {
-        return rest;
-    }
-    if list.len() <= at {
-        return rest;
-    }
-    list[at]
-}
-
-fn same_cells(got: &[u32], list: &[u32], count: usize, rest: u32) -> bool {
-    let mut i: usize = 0;
-    while i < got.len() {
-        if got[i] != cell_at(list, count, i, rest) {
-            return false;
-        }
-        i += 1;
-    }
-    count <= got.len()
-}
-
-fn same_bytes(got: &[u8], list: &[u32], count: usize, rest: u32) -> bool {
-    let mut i: usize = 0;
-    while i < got.len() {
-        if load::wide(got[i]) != cell_at(list, count, i, rest) {
-            return false;
-        }
-        i += 1;
-    }
-    count <= got.len()
-}
-
-// Whether a slice of cells holds the file's next list, and behind it `rest` alone.
-fn holds_cells(data: &[u8], from: usize, cells: &mut [u32], got: &[u32], rest: u32) -> Held {
-    let list = load::load(data, from, false, cells);
-    Held {
-        same: same_cells(got, cells, list.count, rest),
-        next: list.next,
-    }
-}
-
-// The same of a slice of bytes.
-fn holds_bytes(data: &[u8], from: usize, cells: &mut [u32], got: &[u8], rest: u32) -> Held {
-    let list = load::load(data, from, true, cells);
-    Held {
-        same: same_bytes(got, cells, list.count, rest),
-        next: list.next,
-    }
 }
 
 // The first number of an answer that differs.
@@ -116,14 +55,6 @@ fn slice_part(tokens: bool, names: bool, message: bool) -> Part {
     Part::Nothing
 }
 
-// What stands behind a list: zeros, but what stood there before where a slice was too short.
-fn rest_of(number: u32, old: u32) -> u32 {
-    if number == 30 {
-        return old;
-    }
-    0
-}
-
 // The slices, held to the three lists that stand in the file.
 fn compare_slices(
     data: &[u8],
@@ -134,15 +65,15 @@ fn compare_slices(
     names: &[u32],
     message: &[u8],
 ) -> Outcome {
-    let rest = rest_of(number, OLD_CELL);
-    let t = holds_cells(data, from, cells, tokens, rest);
-    let n = holds_cells(data, t.next, cells, names, rest);
-    let m = holds_bytes(
+    let rest = held::rest_of(number, held::OLD_CELL);
+    let t = held::holds_cells(data, from, cells, tokens, rest);
+    let n = held::holds_cells(data, t.next, cells, names, rest);
+    let m = held::holds_bytes(
         data,
         n.next,
         cells,
         message,
-        rest_of(number, load::wide(OLD_BYTE)),
+        held::rest_of(number, fixed::wide(held::OLD_BYTE)),
     );
     Outcome {
         part: slice_part(t.same, n.same, m.same),

@@ -3,10 +3,11 @@
 mod compare;
 mod load;
 
-use compare::OLD_BYTE;
-use compare::OLD_CELL;
 use compare::Outcome;
 use compare::Part;
+use fixed::held::OLD_BYTE;
+use fixed::held::OLD_CELL;
+use fixed::more;
 
 // How many cases there were, how many came out as expected, and the place in the file after them.
 struct Tally {
@@ -85,20 +86,13 @@ fn with_slices(data: &[u8], from: usize, text: &[u8], cells: &mut [u32]) -> Outc
 }
 
 fn run_case(data: &[u8], from: usize, cells: &mut [u32], text: &mut [u8]) -> Outcome {
-    let list = load::load(data, from, true, cells);
-    load::narrow(cells, text);
+    let list = fixed::load(data, from, true, cells);
+    fixed::narrow(cells, text);
     let n = list.count;
     if n <= text.len() {
         return with_slices(data, list.next, &text[..n], cells);
     }
     malformed(data)
-}
-
-fn more(n: u64) -> u64 {
-    if n < 18446744073709551615 {
-        return n + 1;
-    }
-    n
 }
 
 // How many are right with this one, which is told of where it is not.
@@ -116,7 +110,7 @@ fn tell(right: u64, index: u64, part: Part) -> u64 {
 
 // A list of cases, counted on from `first`.
 fn replay(data: &[u8], from: usize, first: u64, cells: &mut [u32], text: &mut [u8]) -> Tally {
-    let cases = load::number_at(data, from);
+    let cases = fixed::number_at(data, from);
     let count = cases.value as u64;
     let mut left = cases.value;
     let mut at = cases.next;
@@ -155,7 +149,7 @@ fn print_tally(tally: Tally, what: &[u8]) {
 fn run(data: &[u8], cells: &mut [u32], text: &mut [u8]) {
     let texts = replay(data, 0, 0, cells, text);
     let shorts = replay(data, texts.next, texts.count, cells, text);
-    let end = load::number_at(data, shorts.next);
+    let end = fixed::number_at(data, shorts.next);
     if data.len() <= end.next {
         io::write_all(1, b"the file of cases is malformed\n");
         return;

@@ -3,8 +3,8 @@ use borrow.Author.Needs.{needs}
 use Prim.Native.Nat.{_-_}
 use mathlib.Core.Path.{_≡_}
 use lib.ListN.{length}
-use Rattle.cases.proofs.load.narrow.Statement.{statement}
-use Rattle.cases.proofs.load.narrow.Tie as tie
+use Rattle.fixed.proofs.narrow.Statement.{statement}
+use Rattle.fixed.proofs.narrow.Tie as tie
 
 abbrev Inv-loop : tie.InvT-loop
 Inv-loop cells bytes₀ i₀ bytes i = length bytes ≡ length bytes₀

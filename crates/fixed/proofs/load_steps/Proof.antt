@@ -3,8 +3,8 @@ use borrow.Author.Needs.{needs}
 use Prim.Native.Nat.{_-_}
 use mathlib.Core.Path.{_≡_}
 use lib.ListN.{length}
-use Rattle.cases.proofs.load.load_steps.Statement.{statement}
-use Rattle.cases.proofs.load.load_steps.Tie as tie
+use Rattle.fixed.proofs.load_steps.Statement.{statement}
+use Rattle.fixed.proofs.load_steps.Tie as tie
 
 abbrev Inv-loop : tie.InvT-loop
 Inv-loop «data» from cells₀ start end width times at₀ first₀ count₀ cells at first count = length cells ≡ length cells₀

@@ -2,8 +2,8 @@
 use borrow.Author.Needs.{needs}
 use mathlib.Core.Path.{_≡_}
 use lib.ListN.{length}
-use Rattle.cases.proofs.load.repeat.Statement.{statement}
-use Rattle.cases.proofs.load.repeat.Tie as tie
+use Rattle.fixed.proofs.repeat.Statement.{statement}
+use Rattle.fixed.proofs.repeat.Tie as tie
 
 abbrev Inv-loop : tie.InvT-loop
 Inv-loop cells₀ first width times step at₀ left₀ cells at left = length cells ≡ length cells₀

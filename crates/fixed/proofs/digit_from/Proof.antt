@@ -2,17 +2,14 @@
 use borrow.Author.Needs.{needs}
 use Prim.Native.Nat.{_-_}
 use lib.ListN.{length}
-use Rattle.cases.proofs.load.number_at.Statement.{statement}
-use Rattle.cases.proofs.load.number_at.Tie as tie
+use Rattle.fixed.proofs.digit_from.Statement.{statement}
+use Rattle.fixed.proofs.digit_from.Tie as tie
 
 abbrev Inv-loop : tie.InvT-loop
-Inv-loop «data» from at₀ value₀ at value = Unit
+Inv-loop «data» from at₀ comment₀ at comment = Unit
 
 abbrev μ-loop : tie.MeasureT-loop
-μ-loop «data» from at₀ value₀ at value = length «data» - at
-
-digit-from-requires : tie.Need-digit-from-requires Inv-loop μ-loop
-digit-from-requires c κs = search needs
+μ-loop «data» from at₀ comment₀ at comment = length «data» - at
 
 loop-holds : tie.Need-loop-holds Inv-loop μ-loop
 loop-holds c = search needs
@@ -20,14 +17,14 @@ loop-holds c = search needs
 shared-slice-read-b : tie.Need-shared-slice-read-b Inv-loop μ-loop
 shared-slice-read-b c = search needs
 
-is-digit-requires : tie.Need-is-digit-requires Inv-loop μ-loop
-is-digit-requires c κs = search needs
+in-comment-requires : tie.Need-in-comment-requires Inv-loop μ-loop
+in-comment-requires c κs = search needs
+
+begins-number-requires : tie.Need-begins-number-requires Inv-loop μ-loop
+begins-number-requires c κs = search needs
 
 returns : tie.Need-returns Inv-loop μ-loop
 returns c = search needs
-
-with-digit-requires : tie.Need-with-digit-requires Inv-loop μ-loop
-with-digit-requires c κs = search needs
 
 add-at : tie.Need-add-at Inv-loop μ-loop
 add-at c = search needs
@@ -41,18 +38,17 @@ loop-again c = search needs
 returns-2 : tie.Need-returns-2 Inv-loop μ-loop
 returns-2 c = search needs
 
-pub number-at-spec : {M : Type 1} → statement M
-number-at-spec =
+pub digit-from-spec : {M : Type 1} → statement M
+digit-from-spec =
     tie.close
     (tie.spec
     Inv-loop
     μ-loop
-    digit-from-requires
     loop-holds
     shared-slice-read-b
-    is-digit-requires
+    in-comment-requires
+    begins-number-requires
     returns
-    with-digit-requires
     add-at
     loop-less
     loop-again

@@ -1,0 +1,97 @@
+// Calls `check`, lending as much of the slices as a case says.
+use crate::load::Lengths;
+use checker::CheckAnswer;
+
+// No answer of `check`: a case that says more than the slices have.
+fn none() -> CheckAnswer {
+    CheckAnswer {
+        number: 99,
+        line: 0,
+        place: 0,
+        tokens: 0,
+        names: 0,
+        functions: 0,
+        items: 0,
+        arguments: 0,
+        blocks: 0,
+        predecessors: 0,
+    }
+}
+
+// The tokens and names are lent already.
+fn lend_last(
+    lengths: Lengths,
+    text: &[u8],
+    tokens: &mut [u32],
+    names: &mut [u32],
+    functions: &mut [u32],
+    items: &mut [u32],
+    arguments: &mut [u32],
+    blocks: &mut [u32],
+    predecessors: &mut [u32],
+    message: &mut [u8],
+) -> CheckAnswer {
+    let a = lengths.arguments;
+    let b = lengths.blocks;
+    let p = lengths.predecessors;
+    let m = lengths.message;
+    if a <= arguments.len() {
+        if b <= blocks.len() {
+            if p <= predecessors.len() {
+                if m <= message.len() {
+                    return checker::check(
+                        text,
+                        tokens,
+                        names,
+                        functions,
+                        items,
+                        &mut arguments[..a],
+                        &mut blocks[..b],
+                        &mut predecessors[..p],
+                        &mut message[..m],
+                    );
+                }
+            }
+        }
+    }
+    none()
+}
+
+pub fn lend(
+    lengths: Lengths,
+    text: &[u8],
+    tokens: &mut [u32],
+    names: &mut [u32],
+    functions: &mut [u32],
+    items: &mut [u32],
+    arguments: &mut [u32],
+    blocks: &mut [u32],
+    predecessors: &mut [u32],
+    message: &mut [u8],
+) -> CheckAnswer {
+    let t = lengths.tokens;
+    let n = lengths.names;
+    let f = lengths.functions;
+    let i = lengths.items;
+    if t <= tokens.len() {
+        if n <= names.len() {
+            if f <= functions.len() {
+                if i <= items.len() {
+                    return lend_last(
+                        lengths,
+                        text,
+                        &mut tokens[..t],
+                        &mut names[..n],
+                        &mut functions[..f],
+                        &mut items[..i],
+                        arguments,
+                        blocks,
+                        predecessors,
+                        message,
+                    );
+                }
+            }
+        }
+    }
+    none()
+}

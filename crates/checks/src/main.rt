@@ -1,0 +1,182 @@
+// Replays fixed cases against `checker::check`, and compares all that it answers and writes. The cases stand on
+// standard input; host/examples/cases.rs makes them, and says what the file holds and where the expected answers come
+// from.
+mod compare;
+mod lend;
+mod load;
+mod part;
+
+use compare::Outcome;
+use fixed::held::OLD_BYTE;
+use fixed::held::OLD_CELL;
+use fixed::more;
+use part::Part;
+
+// How many cases there were, how many came out as expected, and the place in the file after them.
+struct Tally {
+    count: u64,
+    right: u64,
+    next: usize,
+}
+
+fn malformed(data: &[u8]) -> Outcome {
+    Outcome {
+        part: Part::Nothing,
+        next: data.len(),
+    }
+}
+
+// The call, and all that came of it held to the file.
+fn ask(
+    data: &[u8],
+    from: usize,
+    text: &[u8],
+    cells: &mut [u32],
+    tokens: &mut [u32],
+    names: &mut [u32],
+    functions: &mut [u32],
+    items: &mut [u32],
+    arguments: &mut [u32],
+    blocks: &mut [u32],
+    predecessors: &mut [u32],
+    message: &mut [u8],
+) -> Outcome {
+    let lengths = load::lengths_at(data, from);
+    let got = lend::lend(
+        lengths,
+        text,
+        tokens,
+        names,
+        functions,
+        items,
+        arguments,
+        blocks,
+        predecessors,
+        message,
+    );
+    compare::compare(
+        data,
+        lengths,
+        got,
+        cells,
+        tokens,
+        names,
+        functions,
+        items,
+        arguments,
+        blocks,
+        predecessors,
+        message,
+    )
+}
+
+// A case with its text: the slices are made anew, longer than their sizes, and hold the old pattern.
+fn with_slices(data: &[u8], from: usize, text: &[u8], cells: &mut [u32]) -> Outcome {
+    let mut tokens = [OLD_CELL; 16400];
+    let mut names = [OLD_CELL; 2064];
+    let mut functions = [OLD_CELL; 2897];
+    let mut items = [OLD_CELL; 24592];
+    let mut arguments = [OLD_CELL; 6944];
+    let mut blocks = [OLD_CELL; 8208];
+    let mut predecessors = [OLD_CELL; 2064];
+    let mut message = [OLD_BYTE; 528];
+    ask(
+        data,
+        from,
+        text,
+        cells,
+        &mut tokens,
+        &mut names,
+        &mut functions,
+        &mut items,
+        &mut arguments,
+        &mut blocks,
+        &mut predecessors,
+        &mut message,
+    )
+}
+
+fn run_case(data: &[u8], from: usize, cells: &mut [u32], text: &mut [u8]) -> Outcome {
+    let list = fixed::load(data, from, true, cells);
+    fixed::narrow(cells, text);
+    let n = list.count;
+    if n <= text.len() {
+        return with_slices(data, list.next, &text[..n], cells);
+    }
+    malformed(data)
+}
+
+// How many are right with this one, which is told of where it is not.
+fn tell(right: u64, index: u64, part: Part) -> u64 {
+    if part::is_nothing(part) {
+        return more(right);
+    }
+    io::write_all(1, b"case ");
+    io::print_decimal(1, index);
+    io::write_all(1, b": ");
+    part::print(part);
+    io::write_all(1, b"\n");
+    right
+}
+
+// A list of cases, counted on from `first`.
+fn replay(data: &[u8], from: usize, first: u64, cells: &mut [u32], text: &mut [u8]) -> Tally {
+    let cases = fixed::number_at(data, from);
+    let count = cases.value as u64;
+    let mut left = cases.value;
+    let mut at = cases.next;
+    let mut index = first;
+    let mut right: u64 = 0;
+    while 0 < left {
+        let case = run_case(data, at, cells, text);
+        at = case.next;
+        if data.len() <= at {
+            return Tally {
+                count,
+                right,
+                next: at,
+            };
+        }
+        let part = case.part;
+        right = tell(right, index, part);
+        index = more(index);
+        left -= 1;
+    }
+    Tally {
+        count,
+        right,
+        next: at,
+    }
+}
+
+fn print_tally(tally: Tally, what: &[u8]) {
+    io::print_decimal(1, tally.count);
+    io::write_all(1, what);
+    io::print_decimal(1, tally.right);
+    io::write_all(1, b" as expected\n");
+}
+
+// The two lists of cases, and the mark at the file's end: how many cases there were in all.
+fn run(data: &[u8], cells: &mut [u32], text: &mut [u8]) {
+    let texts = replay(data, 0, 0, cells, text);
+    let shorts = replay(data, texts.next, texts.count, cells, text);
+    let end = fixed::number_at(data, shorts.next);
+    if data.len() <= end.next {
+        io::write_all(1, b"the file of cases is malformed\n");
+        return;
+    }
+    if end.value as u64 != std::num::wrapping_add_u64(texts.count, shorts.count) {
+        io::write_all(1, b"the file of cases is malformed\n");
+        return;
+    }
+    print_tally(texts, b" texts: ");
+    print_tally(shorts, b" calls with a short slice: ");
+}
+
+fn main() {
+    let mut data = [0u8; 327680];
+    let got = io::read_full(0, &mut data);
+    let mut cells = [0u32; 24592];
+    let mut text = [0u8; 24592];
+    run(&data[..got], &mut cells, &mut text);
+}
