@@ -1,5 +1,5 @@
-// What is compared beside an entry: a constant before its result is entered, a call's arguments after. Parameters as in
-// entered.rt, so that each stands where the other could.
+// Steps that compare: a constant before its result is entered, a call's arguments after. The parameters are those of the
+// step of the same name in entered.rt.
 ghost use mathlib.Core.Path.{_≡_};
 ghost use Prim.Native.Nat.{ℕ, _≤_, _<_};
 ghost use lib.Dec.{eqb};
@@ -16,13 +16,7 @@ use crate::symbols;
 use pieces::Identifier;
 
 // A constant's type against its result's.
-pub fn constant(
-    table: &mut [u32],
-    kind: u32,
-    token: usize,
-    _result: Identifier,
-    ty: u32,
-) -> Checked
+pub fn constant(table: &mut [u32], kind: u32, token: usize, _result: Identifier, ty: u32) -> Checked
     ensures { λ r. ⌜ typed (now (table .exit)) r
         ≡ thenSame (now (table .entry)) token (pick (eqb kind 4) 1 2) ty (on (now (table .entry))) ⌝ }
 {

@@ -1,4 +1,4 @@
-// Results that are entered. Parameters as in compared.rt.
+// Steps that enter a result. The parameters are those of the step of the same name in compared.rt.
 ghost use mathlib.Core.Path.{_≡_};
 ghost use Rattle.sema.specs.Symbols.{typed, enterD};
 use crate::Checked;
@@ -6,13 +6,7 @@ use crate::symbols;
 use pieces::Identifier;
 
 // A constant's result.
-pub fn constant(
-    table: &mut [u32],
-    _kind: u32,
-    token: usize,
-    result: Identifier,
-    ty: u32,
-) -> Checked
+pub fn constant(table: &mut [u32], _kind: u32, token: usize, result: Identifier, ty: u32) -> Checked
     ensures { λ r. ⌜ typed (now (table .exit)) r ≡ enterD (now (table .entry)) token result ty ⌝ }
 {
     symbols::insert(table, token, result, ty)
