@@ -138,9 +138,11 @@ formals-good : (ts : List Tok) (room at : ℕ) → GoodFormals (formalsFromD ts 
 unfolding formalsFromD look
 formals-good ts zero at = after-formal (formalD ts true at) _ (formal-good ts true at) (λ v i h. tt)
 formals-good ts (suc room) at =
-    after-formal (formalD ts false at) _ (formal-good ts false at) (λ v i h.
-    (h, picked (eqb (tokenAt ts i .kind) 31) (formalsFromD ts room (tokenAt ts i .next)) (ended (consumeD ts i 26))
-    (formals-good ts room (tokenAt ts i .next)) tt))
+    after-formal (formalD ts false at) _ (formal-good ts false at) (λ v i h. (
+      h,
+      picked (eqb (tokenAt ts i .kind) 31) (formalsFromD ts room (tokenAt ts i .next)) (ended (consumeD ts i 26))
+          (formals-good ts room (tokenAt ts i .next)) tt,
+    ))
 
 -- at most sixteen
 after-few : (d : Defined) (k : Variable → ℕ → Variables) (most : ℕ)
@@ -160,8 +162,11 @@ unfolding formalsFromD look
 formals-few ts zero at = after-few (formalD ts true at) _ 0 (λ v i. omega arith)
 formals-few ts (suc room) at =
     after-few (formalD ts false at) _ (suc room) (λ v i.
-    omega (arith, picked-few (eqb (tokenAt ts i .kind) 31) (formalsFromD ts room (tokenAt ts i .next)) (ended (consumeD ts i 26)) room
-    (formals-few ts room (tokenAt ts i .next)) (omega arith)))
+    omega (
+      arith,
+      picked-few (eqb (tokenAt ts i .kind) 31) (formalsFromD ts room (tokenAt ts i .next)) (ended (consumeD ts i 26)) room
+          (formals-few ts room (tokenAt ts i .next)) (omega arith),
+    ))
 
 optional-few : (ts : List Tok) (at : ℕ) → length (optionalFormals ts at .list) ≤ 16
 unfolding optionalFormals formalsD look

@@ -36,6 +36,17 @@ module _ (t : List ℕ) (token found wanted : ℕ) (next : Typed) {r : Checked}
           let r : K.Fine ≡ K.Refused (facts 17 token wanted found noName) = ap (λ (x : Typed). x .end) q in
           absurd (let z : _≡_ {A = ℕ} 0 1 = cc in omega arith)
 
+-- a comparison as a step
+pub same-then : (t : List ℕ) (token found wanted : ℕ) (k : List ℕ → Typed)
+    → thenTyped (thenSame t token found wanted (on t)) k ≡ thenSame t token found wanted (k t)
+unfolding thenSame thenTyped thenEnd pick
+same-then t token found wanted k = by (eqb found wanted)
+  where
+    by : (b : Bool) → thenTyped (pick b (on t) (stop t (facts 17 token wanted found noName))) k
+        ≡ pick b (k t) (stop t (facts 17 token wanted found noName))
+    by true = refl
+    by false = refl
+
 -- the same of a step that changes the table
 pub typed-refused : (t : List ℕ) (this : Typed) (k : List ℕ → Typed) {r : Checked} {e : Refusal}
     → typed t r ≡ this → r ≡ K.Refused e → typed t (K.Refused e) ≡ thenTyped this k

@@ -10,6 +10,8 @@ ghost use Rattle.sema.specs.Items.{named, variablesAt};
 ghost use Rattle.sema.specs.Globals.{rowFrom, rowGlobal, globalsIn};
 use crate::Checked;
 use crate::FoundRow;
+use crate::compared;
+use crate::entered;
 use crate::symbols;
 use pieces::Identifier;
 
@@ -105,7 +107,7 @@ pub(crate) fn at_most_16(n: u32) -> u32
 }
 
 // The arguments of a call of the function in row i.
-fn analyze_arguments(
+pub(crate) fn analyze_arguments(
     table: &[u32],
     token: usize,
     rows: &[u32],
@@ -184,9 +186,9 @@ fn enter_result(
         (typesAt (now (rows .entry)) (formalsAt i) (atMost16 (getD (now (rows .entry)) (countAt i) 0)))
         (variablesAt (now (arguments .entry)) first count)) ⌝ }
 {
-    match symbols::insert(table, token, result, ty) {
+    match entered::call(table, token, rows, i, result, ty, arguments, first, count) {
         Checked::Refused(e) => Checked::Refused(e),
-        Checked::Fine => analyze_arguments(table, token, rows, i, arguments, first, count),
+        Checked::Fine => compared::call(table, token, rows, i, result, ty, arguments, first, count),
     }
 }
 

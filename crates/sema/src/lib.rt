@@ -1,6 +1,8 @@
 // Typing: Sema of bril-lib/src/parser.rs, with SymbolTable of ir.rs.
 mod blocks;
 mod calls;
+mod compared;
+mod entered;
 pub mod function;
 mod operations;
 mod symbols;

@@ -24,16 +24,18 @@ check-requires c κs = search needs
 
 -- src/check.rt:70:5
 put-all-requires : tie.Need-put-all-requires
-put-all-requires c κs =
-    (record {
-      tokens = c .before .before .before .before .before .before .before .before .before .before .before .before .before .before .before .before .before .check .kept .1 .0 ∙ c .before .before .before .before .before .before .before .before .before .before .before .before .before .before .before .before .before .before .before .before .before .before .before .before .before .before .before .before .before .pre .0 .tokens;
-      names = c .before .before .before .before .before .before .before .before .before .before .before .before .before .before .before .before .before .check .kept .1 .1 .0 ∙ c .before .before .before .before .before .before .before .before .before .before .before .before .before .before .before .before .before .before .before .before .before .before .before .before .before .before .before .before .before .pre .0 .names;
-      functions = c .before .before .before .before .before .before .before .before .before .before .before .before .before .before .before .before .before .check .kept .1 .1 .1 .0 ∙ c .before .before .before .before .before .before .before .before .before .before .before .before .before .before .before .before .before .before .before .before .before .before .before .before .before .before .before .before .before .pre .0 .functions;
-      items = c .before .before .before .before .before .before .before .before .before .before .before .before .before .before .before .before .before .check .kept .1 .1 .1 .1 .0 ∙ c .before .before .before .before .before .before .before .before .before .before .before .before .before .before .before .before .before .before .before .before .before .before .before .before .before .before .before .before .before .pre .0 .items;
-      arguments = c .before .before .before .before .before .before .before .before .before .before .before .before .before .before .before .before .before .check .kept .1 .1 .1 .1 .1 .0 ∙ c .before .before .before .before .before .before .before .before .before .before .before .before .before .before .before .before .before .before .before .before .before .before .before .before .before .before .before .before .before .pre .0 .arguments;
-      blocks = c .before .before .before .before .before .before .before .before .before .before .before .before .before .before .before .before .before .check .kept .1 .1 .1 .1 .1 .1 .0 ∙ c .before .before .before .before .before .before .before .before .before .before .before .before .before .before .before .before .before .before .before .before .before .before .before .before .before .before .before .before .before .pre .0 .blocks;
-      predecessors = c .before .before .before .before .before .before .before .before .before .before .before .before .before .before .before .before .before .check .kept .1 .1 .1 .1 .1 .1 .1 .0 ∙ c .before .before .before .before .before .before .before .before .before .before .before .before .before .before .before .before .before .before .before .before .before .before .before .before .before .before .before .before .before .pre .0 .predecessors;
-    }, c .before .before .before .before .before .before .before .before .before .before .before .before .before .before .before .before .before .before .before .before .before .before .before .before .before .before .before .before .before .pre .1)
+put-all-requires c κs = (
+  record {
+    tokens = c .before .before .before .before .before .before .before .before .before .before .before .before .before .before .before .before .before .check .kept .1 .0 ∙ c .before .before .before .before .before .before .before .before .before .before .before .before .before .before .before .before .before .before .before .before .before .before .before .before .before .before .before .before .before .pre .0 .tokens;
+    names = c .before .before .before .before .before .before .before .before .before .before .before .before .before .before .before .before .before .check .kept .1 .1 .0 ∙ c .before .before .before .before .before .before .before .before .before .before .before .before .before .before .before .before .before .before .before .before .before .before .before .before .before .before .before .before .before .pre .0 .names;
+    functions = c .before .before .before .before .before .before .before .before .before .before .before .before .before .before .before .before .before .check .kept .1 .1 .1 .0 ∙ c .before .before .before .before .before .before .before .before .before .before .before .before .before .before .before .before .before .before .before .before .before .before .before .before .before .before .before .before .before .pre .0 .functions;
+    items = c .before .before .before .before .before .before .before .before .before .before .before .before .before .before .before .before .before .check .kept .1 .1 .1 .1 .0 ∙ c .before .before .before .before .before .before .before .before .before .before .before .before .before .before .before .before .before .before .before .before .before .before .before .before .before .before .before .before .before .pre .0 .items;
+    arguments = c .before .before .before .before .before .before .before .before .before .before .before .before .before .before .before .before .before .check .kept .1 .1 .1 .1 .1 .0 ∙ c .before .before .before .before .before .before .before .before .before .before .before .before .before .before .before .before .before .before .before .before .before .before .before .before .before .before .before .before .before .pre .0 .arguments;
+    blocks = c .before .before .before .before .before .before .before .before .before .before .before .before .before .before .before .before .before .check .kept .1 .1 .1 .1 .1 .1 .0 ∙ c .before .before .before .before .before .before .before .before .before .before .before .before .before .before .before .before .before .before .before .before .before .before .before .before .before .before .before .before .before .pre .0 .blocks;
+    predecessors = c .before .before .before .before .before .before .before .before .before .before .before .before .before .before .before .before .before .check .kept .1 .1 .1 .1 .1 .1 .1 .0 ∙ c .before .before .before .before .before .before .before .before .before .before .before .before .before .before .before .before .before .before .before .before .before .before .before .before .before .before .before .before .before .pre .0 .predecessors;
+  },
+  c .before .before .before .before .before .before .before .before .before .before .before .before .before .before .before .before .before .before .before .before .before .before .before .before .before .before .before .before .before .pre .1,
+)
 
 -- src/check.rt:41:1
 same-length : tie.Need-same-length
