@@ -27,13 +27,13 @@ module _ (ts : List Tok) (rows : List ℕ) (n : ℕ) (blocks t₀ : List ℕ) (i
         rw (← same, m, ← row-same, g)
 
     pub rows-fine : r ≡ K.Fine
-        → typedRows ts rows n blocks t₀ (i + 1) (n - (i + 1))
-        (typedItems t₁ (calleeOf rows n) items (getD rows (firstItemAt i) 0) (getD rows (itemCountAt i) 0))
-        (typedCalls t₁ items args (getD rows (firstItemAt i) 0) (getD rows (itemCountAt i) 0)) ≡ d
+        → (first count : ℕ) → first ≡ getD rows (firstItemAt i) 0 → count ≡ getD rows (itemCountAt i) 0
+        → typedRows ts rows n blocks t₀ (i + 1) (n - (i + 1)) (typedItems t₁ (calleeOf rows n) items first count)
+        (typedCalls t₁ items args first count) ≡ d
     unfolding typedRows thenRow
-    rows-fine g =
+    rows-fine g first count f k =
         let m : n - i ≡ suc (n - (i + 1)) = omega arith in
-        rw (← same, m, ← row-same, g)
+        rw (f, k, ← same, m, ← row-same, g)
 
   pub rows-ended : n ≤ i → done K.Fine items args ≡ d
   unfolding typedRows

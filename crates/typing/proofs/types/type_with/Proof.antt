@@ -156,9 +156,9 @@ loop-again c =
       analyze .kept .1 .1 .1 .1 .0 ∙ g .1,
       elaborate .kept .1 .1 .1 .0 ∙ g .2,
       elaborate .kept .1 .1 .1 .1 .1 .1 .0 ∙ g .3,
-      rw (elaborate .ensures .0, elaborate .ensures .1, cell .ensures, cell2 .ensures)
+      rw (elaborate .ensures .0, elaborate .ensures .1)
           (rows-fine _ _ _ _ _ _ _ _ (g .4) (omega (arith, loop-test .taken)) (loop .table) (g .1) (analyze .ensures)
-          (enum-told .given .1)),
+          (enum-told .given .1) _ _ (cell .ensures) (cell2 .ensures)),
     )
 
 -- src/types.rt:20:1
