@@ -17,7 +17,7 @@ use Rattle.pieces.specs.Pieces.{token, pieceAt, onPiece, piecesFrom}
 use Rattle.lexer.specs.Numbered.{Part, part, spellings, spellingOf, indexOf, onFound, identified, named, Outcome}
 use Rattle.lexer.specs.Numbered.{thenIdentified, thenRoom, numberedFrom, numbered}
 use Rattle.lexer.specs.Read.{lexedFrom}
-use Rattle.lexer.specs.Sound.{Each, Pairs, noToken, noPart, spelling, Sound, SoundRefusal, HasNumber, HasSpelling}
+use Rattle.lexer.specs.Sound.{Each, Pairs, noToken, noPart, spelling, Sound, SoundRefusal, HasNumber, HasSpelling, HasLetter}
 use Rattle.lexer.specs.Sound.{InRange, Rises, InText, Differ}
 use Rattle.pieces.specs.declared.Cursor.{Cursor}
 use Rattle.pieces.specs.declared.Token.{Token}
@@ -93,6 +93,7 @@ record Before (s : List ℕ) (first : ℕ) (ns : List Part) (at line : ℕ) (t :
   range : InRange s first t
   number : HasNumber ns t
   bytes : HasSpelling s ns t
+  letter : HasLetter ns t
 
 record Going (s : List ℕ) (first : ℕ) (ts : List Token) (ns : List Part) (at line : ℕ) : Type 0 where
   at-in : at ≤ length s
@@ -115,6 +116,7 @@ module _ {s : List ℕ} {first : ℕ} {ns : List Part} {at line : ℕ} {t : Toke
         range = b .range;
         number = b .number;
         bytes = b .bytes;
+        letter = b .letter;
       }
 
   -- with one name more
@@ -126,6 +128,7 @@ module _ {s : List ℕ} {first : ℕ} {ns : List Part} {at line : ℕ} {t : Toke
         range = b .range;
         number = λ k. omega (arith, b .number k, length-append ns (p ∷ []));
         bytes = λ k. rw (List·getD-append ns (p ∷ []) noPart (carried (t .value)) (b .number k)) (b .bytes k);
+        letter = λ l k. rw (List·getD-append ns (p ∷ []) noPart (carried (t .value)) (b .number k)) (b .letter l k);
       }
 
 module _ {s : List ℕ} {first : ℕ} {ts : List Token} {ns : List Part} {at line : ℕ}
@@ -147,8 +150,9 @@ module _ {s : List ℕ} {first : ℕ} {ts : List Token} {ns : List Part} {at lin
 
   -- a token here, of a kind below the end's, where the text goes on at `next`
   going-token : (t : Token) (next : ℕ) → at < next → next ≤ length s → t .place ≡ at → t .line .0 ≡ line
-      → kindOf (t .value) < 38 → HasNumber ns t → HasSpelling s ns t → Going s first (ts ++ (t ∷ [])) ns next line
-  going-token t next h w p l k number bytes =
+      → kindOf (t .value) < 38 → HasNumber ns t → HasSpelling s ns t → HasLetter ns t
+      → Going s first (ts ++ (t ∷ [])) ns next line
+  going-token t next h w p l k number bytes letter =
       record {
         at-in = w;
         line-first = g .line-first;
@@ -163,6 +167,7 @@ module _ {s : List ℕ} {first : ℕ} {ts : List Token} {ns : List Part} {at lin
               range = omega arith;
               number = number;
               bytes = bytes;
+              letter = letter;
             });
         rise = pairs-snoc noToken ts t Rises (g .rise) (λ i b. omega (arith, g .before i b));
         few-names = g .few-names;
@@ -198,7 +203,8 @@ module _ {s : List ℕ} {first : ℕ} {ts : List Token} {ns : List Part} {at lin
       let l : q .len ≡ n .len = same-length s q (part (n .place) (n .len)) (g .within k h .2) (omega arith) e in
       rw (p .same-line)
       (going-token t (c .place) (p .on) (p .within) (p .name-place) (p .name-line) (omega arith) (λ _. omega arith)
-      (λ _. rw number (ap (λ (m : ℕ). spelling s (part (n .place) m)) l ∙ sym e)))
+      (λ _. rw number (ap (λ (m : ℕ). spelling s (part (n .place) m)) l ∙ sym e))
+      (λ h _. rw number (omega (arith, p .lettered (omega arith)))))
 
   -- a name that is new to the table
   going-new : (n : Name) (c : Cursor) → NamePast (length s) at line n c → n .len ≤ 64 → length ns < 1024
@@ -246,6 +252,7 @@ module _ (s : List ℕ) (first : ℕ) (short : length s ≤ 16384) (ascii : isAs
         few-names = g .few-names;
         numbered = each-snoc noToken ts t (HasNumber ns) (λ i h. g .before i h .number) (λ k. absurd (omega arith));
         spelled = each-snoc noToken ts t (HasSpelling s ns) (λ i h. g .before i h .bytes) (λ k. absurd (omega arith));
+        lettered = each-snoc noToken ts t (HasLetter ns) (λ i h. g .before i h .letter) (λ _ k. absurd (omega arith));
         ranges = each-snoc noToken ts t (InRange s first) (λ i h. g .before i h .range) (omega arith);
         rise = pairs-snoc noToken ts t Rises (g .rise) (λ i h. omega (arith, g .before i h));
         within = g .within;
@@ -282,7 +289,7 @@ module _ (s : List ℕ) (first : ℕ) (short : length s ≤ 16384) (ascii : isAs
         (λ _. later (ts ++ (t ∷ [])) ns (c .place) (c .line) (omega arith)
         (rw (p .same-line)
         (going-token g t (c .place) (p .on) (p .within) (p .token-place) (p .token-line) (p .kind-to)
-        (λ k. absurd (omega arith)) (λ k. absurd (omega arith)))))
+        (λ k. absurd (omega arith)) (λ k. absurd (omega arith)) (λ _ k. absurd (omega arith)))))
     turn-good (L.End c) p =
         room-good ts _ _ (omega arith) (omega arith) (end-sound ts ns at line c g p)
     turn-good (L.Refused r) p = omega arith

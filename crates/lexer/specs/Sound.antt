@@ -43,6 +43,10 @@ HasNumber ns t = kindOf (t .value) ≤ 3 → carried (t .value) < length ns
 abbrev pub HasSpelling : List ℕ → List Part → Token → Type 0
 HasSpelling s ns t = kindOf (t .value) ≤ 3 → spelling s (part (t .place) (partOf ns t .len)) ≡ spelling s (partOf ns t)
 
+-- A global or a label, of kind 2 or 3, has a letter behind its sigil.
+abbrev pub HasLetter : List Part → Token → Type 0
+HasLetter ns t = 2 ≤ kindOf (t .value) → kindOf (t .value) ≤ 3 → 2 ≤ partOf ns t .len
+
 -- No line comes before the first, a byte adds a line at most, and no token begins past the text's end.
 abbrev pub InRange : List ℕ → ℕ → Token → Type 0
 InRange s line t = (line ≤ t .line .0) × (t .line .0 ≤ line + t .place) × (t .place ≤ length s)
@@ -72,6 +76,7 @@ pub record Sound (s : List ℕ) (line : ℕ) (ts : List Token) (ns : List Part) 
   pub few-names : length ns ≤ 1024
   pub numbered : Each noToken (HasNumber ns) ts
   pub spelled : Each noToken (HasSpelling s ns) ts
+  pub lettered : Each noToken (HasLetter ns) ts
   pub ranges : Each noToken (InRange s line) ts
   pub rise : Pairs noToken Rises ts
   pub within : Each noPart (InText s) ns

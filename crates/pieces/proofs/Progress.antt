@@ -13,7 +13,7 @@ use Rattle.utils.specs.Bytes.{pick, sameBytes}
 use Rattle.pieces.specs.Classes.{isBlank, isDigit, isLetter, isNamePart}
 use Rattle.pieces.specs.Tokens.{kindOf, Word, words, wordIn, symbol}
 use Rattle.pieces.specs.Refusals.{factsOf}
-use Rattle.pieces.specs.Pieces.{cursor, token, lineEnd, closes, starAfter, commentEnd, digitsFrom, nameEnd}
+use Rattle.pieces.specs.Pieces.{cursor, token, lineEnd, closes, starAfter, commentEnd, digitsFrom, nameEnd, nameEndAt}
 use Rattle.pieces.specs.Pieces.{onComment, slashAt, digitAt, minusAt, nameAt, sigilAt, thenValue, wordAt}
 use Rattle.pieces.specs.Pieces.{symbolAt, tokenFrom, pieceAt, Pieces, onPiece, piecesFrom, pieces}
 use Rattle.pieces.specs.declared.Cursor.{Cursor}
@@ -120,6 +120,26 @@ name-end-to (b ∷ r) at =
     pick-either (λ (e : ℕ). e ≤ at + suc (length r)) (isNamePart b) _ _
     (λ t. omega (arith, name-end-to r (at + 1))) (λ t. omega arith)
 
+-- a letter goes on a name
+letter-part : (b : ℕ) → isLetter b ≡ true → isNamePart b ≡ true
+unfolding isNamePart pick
+letter-part b e = rw e
+
+-- 0 is none
+letter-in : (s : List ℕ) (n : ℕ) → isLetter (getD s n 0) ≡ true → n < length s
+unfolding isLetter pick
+letter-in s n e =
+    in-text s n (λ z.
+    let f : false ≡ true = rw z at e in
+    let g : _≡_ {A = ℕ} 0 1 = cc in
+    omega arith)
+
+-- where a letter stands behind a name's first byte, the name takes it
+name-end-past : (s : List ℕ) (at : ℕ) → at + 1 < length s → isNamePart (getD s (at + 1) 0) ≡ true → at + 2 ≤ nameEndAt s at
+unfolding nameEnd pick
+name-end-past s at h d =
+    rw (drop-cons s (at + 1) 0 h, d) (omega (arith, name-end-from (drop (suc (at + 1)) s) (at + 1 + 1)))
+
 -- The words and the tokens of one byte have kinds from 4 to 37: none is a name or the end. --------------------------
 
 abbrev pub Plain : OptionValue → Type 0
@@ -180,6 +200,8 @@ pub record NamePast (n at line : ℕ) (m : Name) (c : Cursor) : Type 0 where
   pub name-line : m .line .0 ≡ line
   pub kind-from : 1 ≤ m .kind
   pub kind-to : m .kind ≤ 3
+  -- a global or a label has a letter behind its sigil
+  pub lettered : 2 ≤ m .kind → 2 ≤ m .len
 
 pub record TokenPast (n at line : ℕ) (t : Token) (c : Cursor) : Type 0 where
   pub on : at < c .place
@@ -253,17 +275,32 @@ module _ (s : List ℕ) (at line : ℕ) (h : at < length s) where
       (λ _. omega arith) (λ _. omega arith))
       (λ _. omega arith)
 
-  name-past : (kind : ℕ) → 1 ≤ kind → kind ≤ 3 → Past (length s) at line (nameAt kind s at line)
+  name-past : (kind : ℕ) → 1 ≤ kind → kind ≤ 3 → (2 ≤ kind → at + 2 ≤ nameEndAt s at)
+      → Past (length s) at line (nameAt kind s at line)
   unfolding nameAt
-  name-past kind k₁ k₃ =
+  name-past kind k₁ k₃ second =
       let r = drop (at + 1) s in
-      omega (arith, name-end-from r (at + 1), name-end-to r (at + 1), left-from s (at + 1) (omega arith))
+      let from = name-end-from r (at + 1) in
+      let to = name-end-to r (at + 1) in
+      let all = left-from s (at + 1) (omega arith) in
+      record {
+        on = omega arith;
+        within = omega arith;
+        same-line = refl;
+        name-place = refl;
+        name-end = omega arith;
+        name-line = refl;
+        kind-from = k₁;
+        kind-to = k₃;
+        lettered = λ k. omega (arith, second k);
+      }
 
   sigil-past : (kind : ℕ) → 1 ≤ kind → kind ≤ 3 → Past (length s) at line (sigilAt kind s at line)
   unfolding sigilAt
   sigil-past kind k₁ k₃ =
       pick-either (Past (length s) at line) (isLetter (getD s (at + 1) 0)) _ _
-      (λ _. name-past kind k₁ k₃) (λ _. omega arith)
+      (λ e. name-past kind k₁ k₃ (λ _. name-end-past s at (letter-in s (at + 1) e) (letter-part (getD s (at + 1) 0) e)))
+      (λ _. omega arith)
 
   word-past : Past (length s) at line (wordAt s at line)
   unfolding wordAt thenValue
@@ -278,7 +315,7 @@ module _ (s : List ℕ) (at line : ℕ) (h : at < length s) where
       worded (O.Some v) p =
           let r = drop (at + 1) s in
           omega (arith, name-end-from r (at + 1), name-end-to r (at + 1), left-from s (at + 1) (omega arith))
-      worded O.None p = name-past 1 (omega arith) (omega arith)
+      worded O.None p = name-past 1 (omega arith) (omega arith) (λ k. absurd (omega arith))
 
   symbol-past : Past (length s) at line (symbolAt s at line)
   unfolding symbolAt thenValue
