@@ -1,15 +1,19 @@
 -- The simulation of demand 3 for one function: on related tokens its header, its body and its blocks are read alike, moved
--- and renamed, or refused alike. Names of functions are compared by equality alone, which the renaming keeps.
-use Prim.Native.Nat.{ℕ, _+_, _≤_, _<_}
-use mathlib.Core.Path.{_≡_, refl}
-use mathlib.Core.List.{List}
-use mathlib.Core.Bool.{Bool}
-use lib.Dec.{eqb}
-use Rattle.lexer.specs.Decoded.{Tok}
+-- and renamed, or refused alike. Names of functions are compared by equality alone, which the renaming keeps. At the end, the
+-- same for all functions of a text, where both readings end behind the related tokens.
+use Prim.Native.Nat.{ℕ, zero, suc, _+_, _≤_, _<_}
+use mathlib.Core.Path.{_≡_, refl, sym, subst}
+use mathlib.Core.List.{List, [], _∷_, _++_}
+use mathlib.Core.Bool.{Bool, true, false}
+use native.Mathlib.Omega.{arith}
+use borrow.Author.Tests.{ltb-true, ltb-false}
+use lib.Dec.{eqb, ltb}
+use Rattle.lexer.specs.Decoded.{Tok, tokenAt}
 use Rattle.pieces.specs.declared.Identifier.{Identifier}
-use Rattle.parser.specs.Step.{thenAt}
+use Rattle.parser.specs.Step.{look, thenAt}
 use Rattle.parser.specs.Runs.{Variables}
 use Rattle.parser.specs.Body.{Item, Body, closedItems}
+use Rattle.utils.specs.Bytes.{pick}
 use Rattle.parser.specs.Edges.{Resolved, resolveD}
 use Rattle.parser.specs.Moved.{Move, Sim, SimName, SimE, SimC, SimR, SimV, SimVs, SimNumber, SimItem, SimClose, SimBody}
 use Rattle.parser.specs.Moved.{SimResolved, Each, Rel}
@@ -17,17 +21,20 @@ use Rattle.parser.specs.declared.Refusal.{Refusal}
 use Rattle.parser.specs.declared.Ty.{Ty}
 use Rattle.parser.specs.declared.Variable.{Variable}
 use Rattle.parser.specs.declared.Consumed.{Consumed}
+use Rattle.parser.specs.declared.Consumed.the-variants as C
 use Rattle.parser.proofs.Sim.{pickS, thenAtS, thenNamedS, thenTypeS, endedS, eqbS, lookS, kindS, consumeS, globalS}
 use Rattle.parser.proofs.Sim.{typeS, formalsS}
 use Rattle.parser.proofs.SimBody.{number-of, bodyS}
 use Rattle.parser.proofs.SimBlocks.{countS, closedItemsS, bodyBlocksS, resolveS}
 use Rattle.functions.specs.declared.Entered.{Entered}
 use Rattle.functions.specs.declared.Entered.the-variants as E
-use Rattle.functions.specs.Known.{Known, formalTypes, signature, typeNumber, expectedType}
+use Rattle.functions.specs.Known.{Known, formalTypes, signature, typeNumber, typesAfter, expectedType}
 use Rattle.functions.specs.Functions.{Header, HeaderAt, BuiltAt, FunctionAt, thenHeader, thenFormals, thenEntered}
 use Rattle.functions.specs.Functions.{thenBuilt, optionalFormals, optionalType, enteredD, signatureD, headerD}
 use Rattle.functions.specs.Functions.{blocksIn, resolvedItems, builtD, isVoid, functionD, knownOf}
-use Rattle.functions.specs.Moved.{SimKnown, SimEntered, SimHeader, SimHeaderAt, SimBuilt, SimFunctionAt}
+use Rattle.functions.specs.Functions.{Function, Program, programEnd, programStop, programThen, thenFunction, functionsD}
+use Rattle.functions.specs.Moved.{SimKnown, SimEntered, SimHeader, SimHeaderAt, SimBuilt, SimFunction, SimFunctionAt}
+use Rattle.functions.specs.Moved.{SimProgram}
 
 -- Function types. -------------------------------------------------------------------------------------------------------
 
@@ -222,3 +229,77 @@ module _ {m : Move} {n : ℕ} {ts ts′ : List Tok} (s : Sim m n ts ts′) where
       rw (q .ret) (builtS (isVoid (a′ .ret)) i at1 g) in
       thenBuiltS SimFunctionAt m n FunctionAt.noFunction FunctionAt.noFunction _ _ body unread (λ is is′ p next l.
       Rel.is (SimFunctionAt.function (record { token = refl; head = q; items = p; next = refl; within = l }))))
+
+-- All functions. ----------------------------------------------------------------------------------------------------------
+
+-- one related element more
+pub each-more : {A : Type 0} {R : A → A → Type 0} {xs xs′ : List A} {x x′ : A} → Each R xs xs′ → R x x′
+    → Each R (xs ++ (x ∷ [])) (xs′ ++ (x′ ∷ []))
+each-more Each.none q = Each.more q Each.none
+each-more (Each.more p r) q = Each.more p (each-more r q)
+
+module _ {m : Move} {n : ℕ} where
+  unended : (e e′ : Refusal) → SimE m e e′ → Rel m n SimProgram (programStop e) (programStop e′)
+  unended e e′ r = Rel.is (record { functions = Each.none; end = SimClose.refused e e′ r })
+
+  endedAt : (i : ℕ) → i ≤ n → Rel m n SimProgram (programEnd (C.At (m .by + i))) (programEnd (C.At i))
+  endedAt i h = Rel.is (record { functions = Each.none; end = SimClose.at i h })
+
+  programThenS : {f f′ : Function} {u u′ : Program} → SimFunction m n f f′ → Rel m n SimProgram u u′
+      → Rel m n SimProgram (programThen f u) (programThen f′ u′)
+  programThenS q (Rel.is r) = Rel.is (record { functions = Each.more q (r .functions); end = r .end })
+
+  -- what follows a function
+  thenFunctionS : {a a′ : FunctionAt} (k k′ : Function → Program) → Rel m n SimFunctionAt a a′
+      → ((f f′ : Function) → SimFunction m n f f′ → Rel m n SimProgram (k f) (k′ f′))
+      → Rel m n SimProgram (thenFunction programStop a k) (thenFunction programStop a′ k′)
+  unfolding thenFunction
+  thenFunctionS k k′ (Rel.is (SimFunctionAt.function {f} {f′} q)) g = g f f′ q
+  thenFunctionS k k′ (Rel.is (SimFunctionAt.refused e e′ r)) g = unended e e′ r
+
+-- the end token here, or what follows
+abbrev endOr : List Tok → ℕ → Program → Program
+endOr ts at u = look (tokenAt ts at) (λ kind next. pick (eqb kind 38) (programEnd (C.At at)) u)
+
+module _ {m : Move} {n : ℕ} {ts ts′ : List Tok} (s : Sim m n ts ts′)
+    (over : tokenAt ts (m .by + n) .kind ≡ 38) (over′ : tokenAt ts′ n .kind ≡ 38) where
+  -- among the related tokens
+  amongS : (i : ℕ) {u u′ : Program} → i < n → Rel m n SimProgram u u′
+      → Rel m n SimProgram (endOr ts (m .by + i) u) (endOr ts′ i u′)
+  amongS i {u} {u′} h q =
+      lookS s SimProgram i (λ kind next. pick (eqb kind 38) (programEnd (C.At (m .by + i))) u)
+      (λ kind next. pick (eqb kind 38) (programEnd (C.At i)) u′) h
+      (λ kind next near inner. pickS SimProgram m n (eqb kind 38) _ _ _ _ (λ _. endedAt i (omega arith)) q)
+
+  -- behind them both readings end
+  behindS : (u u′ : Program) → Rel m n SimProgram (endOr ts (m .by + n) u) (endOr ts′ n u′)
+  unfolding look pick
+  behindS u u′ = rw (over, over′) (endedAt n (omega arith))
+
+  endOrS : (i : ℕ) (u u′ : Program) → i ≤ n → (i < n → Rel m n SimProgram u u′)
+      → Rel m n SimProgram (endOr ts (m .by + i) u) (endOr ts′ i u′)
+  endOrS i u u′ h g = by (ltb i n) refl
+    where
+      by : (b : Bool) → ltb i n ≡ b → Rel m n SimProgram (endOr ts (m .by + i) u) (endOr ts′ i u′)
+      by true e = amongS i (ltb-true i n e) (g (ltb-true i n e))
+      by false e =
+          let z : i ≡ n = omega (arith, ltb-false i n e) in
+          rw z (behindS u u′)
+
+  -- THE SIMULATION of the functions of a text, from any of its tokens on
+  pub functionsS : (room : ℕ) {known known′ : List Known} → Each (SimKnown m) known known′ → (types i : ℕ) → i ≤ n
+      → Rel m n SimProgram (functionsD ts room known types (m .by + i)) (functionsD ts′ room known′ types i)
+  unfolding functionsD
+  functionsS zero r types i h =
+      endOrS i _ _ h (λ k. thenFunctionS _ _ (functionS s r types true i k) (λ f f′ q. unended _ _ (SimE.moved 35 i 0)))
+  functionsS (suc room) {known} {known′} r types i h =
+      endOrS i _ _ h (λ k. thenFunctionS _ _ (functionS s r types false i k) (λ f f′ q.
+      let seen = known ++ (knownOf (f .head) ∷ []) in
+      let seen′ = known′ ++ (knownOf (f′ .head) ∷ []) in
+      let types′ = typesAfter types (f′ .head .type) in
+      let more : Rel m n SimProgram (functionsD ts room seen types′ (m .by + f′ .next))
+      (functionsD ts′ room seen′ types′ (f′ .next)) =
+      functionsS room (each-more r (knownOfS (q .head))) types′ (f′ .next) (q .within) in
+      programThenS q
+      (subst (λ (type : ℕ). Rel m n SimProgram (functionsD ts room seen (typesAfter types type) (f .next))
+      (functionsD ts′ room seen′ types′ (f′ .next))) (sym (q .head .type)) (rw (q .next) more))))

@@ -5,12 +5,12 @@ use Prim.Native.Nat.{ℕ, _+_, _≤_, _<_}
 use mathlib.Core.Path.{_≡_}
 use mathlib.Core.List.{List}
 use Rattle.parser.specs.Body.{Item}
-use Rattle.parser.specs.Moved.{Move, SimName, SimE, SimV, SimNumber, SimItem, Each}
+use Rattle.parser.specs.Moved.{Move, SimName, SimE, SimV, SimNumber, SimItem, SimClose, Each}
 use Rattle.parser.specs.declared.Refusal.{Refusal}
 use Rattle.functions.specs.declared.Entered.{Entered}
 use Rattle.functions.specs.declared.Entered.the-variants as E
 use Rattle.functions.specs.Known.{Known}
-use Rattle.functions.specs.Functions.{Header, HeaderAt, BuiltAt, Function, FunctionAt}
+use Rattle.functions.specs.Functions.{Header, HeaderAt, BuiltAt, Function, FunctionAt, Program}
 
 -- the same function type under the renamed name
 pub record SimKnown (m : Move) (k k′ : Known) : Type 0 where
@@ -53,3 +53,8 @@ pub data SimFunctionAt (m : Move) (l : ℕ) : FunctionAt → FunctionAt → Type
   function : {f f′ : Function} → SimFunction m l f f′
       → SimFunctionAt m l (FunctionAt.function f) (FunctionAt.function f′)
   refused : (e e′ : Refusal) → SimE m e e′ → SimFunctionAt m l (FunctionAt.noFunction e) (FunctionAt.noFunction e′)
+
+-- all functions, one by one, and the end or related refusals; the end may stand right behind the l tokens
+pub record SimProgram (m : Move) (l : ℕ) (u u′ : Program) : Type 0 where
+  pub functions : Each (SimFunction m l) (u .functions) (u′ .functions)
+  pub end : SimClose m l (u .end) (u′ .end)

@@ -120,6 +120,8 @@ cases =
     ∷ case "@f(x: int) { x: bool = call @g; } @g: int { ret x; }" (17 ∷ 11 ∷ 1 ∷ 2 ∷ 0 ∷ [])
     ∷ case "@f(x: bool) { x: int = call @g; } @g: int { ret x; }" (15 ∷ 11 ∷ 2 ∷ 1 ∷ 1 ∷ [])
     ∷ case "@f(a: int) { call @g a b; } @g(a: int, b: int) { ret; }" (16 ∷ 7 ∷ 0 ∷ 0 ∷ 3 ∷ [])
+    -- .. all of them, before the first is compared
+    ∷ case "@f(a: bool) { call @g a b; } @g(a: int, b: int) { ret; }" (16 ∷ 7 ∷ 0 ∷ 0 ∷ 3 ∷ [])
     ∷ case "@f(a: int, b: bool) { call @g a b; } @g(a: int, b: int) { ret; }" (17 ∷ 11 ∷ 1 ∷ 2 ∷ 0 ∷ [])
     -- one table per function, through its blocks; a block that no path reaches comes last
     ∷ case "@f(x: int) { x: int = const 1; y: int = id x; }" (0 ∷ [])

@@ -1,5 +1,5 @@
-// Steps that compare: a constant before its result is entered, a call's arguments after. The parameters are those of the
-// step of the same name in entered.rt.
+// Steps that compare: a constant before its result is entered, a call's arguments after. The parameters are those of
+// the step of the same name in entered.rt.
 ghost use mathlib.Core.Path.{_≡_};
 ghost use Prim.Native.Nat.{ℕ, _≤_, _<_};
 ghost use lib.Dec.{eqb};
