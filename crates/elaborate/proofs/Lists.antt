@@ -16,7 +16,7 @@ use Rattle.body.specs.Records.{argumentsCount}
 use Rattle.body.specs.declared.ItemRecord.{ItemRecord}
 use Rattle.body.proofs.Decode.{record-there}
 use Rattle.elaborate.specs.Types.{typeOf, isCall, typedRecord, typedRun, typedArguments, typedItems, typedCalls}
-use Rattle.elaborate.specs.Types.{typedItemsCells, typedVariables, typedArgumentsCells}
+use Rattle.elaborate.specs.Types.{typedItemsCells, typedVariables, typedArgumentsCells, Elaborated}
 
 -- How many cells there are. -------------------------------------------------------------------------------------------
 
@@ -179,3 +179,15 @@ calls-typed table (i ∷ is) items more before rest first used h f =
     ap (λ (r : List ℕ).
     typedCalls table r (before ++ (argumentsCells (i ∷ is) ++ rest)) first (length (i ∷ is))) cut
     ∙ calls-there table (i ∷ is) (take (first * 8) items) more before rest first used e f
+
+-- THE LIST FORM of what `elaborate` does to any cells
+pub elaborated : (table : List ℕ) (callees : ℕ → ℕ) (first count : ℕ) (items arguments : List ℕ)
+    → Elaborated table callees first count items (typedItems table callees items first count)
+    arguments (typedCalls table items arguments first count)
+elaborated table callees first count items arguments =
+    record {
+      items-are = λ is used before behind l e h.
+          rw (h, ← l) (items-typed table callees is before behind first used e);
+      arguments-are = λ is used before behind front back l e h f g.
+          rw (h, g, ← l) (calls-there table is before behind front back first used e f);
+    }

@@ -3,6 +3,7 @@
 -- is the one that the function's typing leaves; it may stand for the table at each visit, since it has the type that
 -- was found there for every name looked up (`Final`, crates/sema/specs/Visits.antt).
 use Prim.Native.Nat.{ℕ, zero, suc, _+_, _*_}
+use mathlib.Core.Path.{_≡_}
 use mathlib.Core.List.{List, [], _∷_, _++_}
 use mathlib.Core.Bool.{Bool, true, false}
 use lib.Dec.{eqb}
@@ -11,7 +12,7 @@ use lib.Seq.{sets}
 use Rattle.utils.specs.Bytes.{pick}
 use Rattle.parser.specs.Body.{Item, argumentsIn}
 use Rattle.parser.specs.declared.Variable.{Variable}
-use Rattle.body.specs.Records.{itemRecord, recordOf, recordAt, recordCells}
+use Rattle.body.specs.Records.{itemRecord, recordOf, recordAt, recordCells, itemsCells, argumentsCells}
 use Rattle.body.specs.declared.ItemRecord.{ItemRecord}
 use Rattle.functions.specs.Functions.{Function}
 use Rattle.functions.specs.Rows.{nameAt, typeAt}
@@ -58,7 +59,19 @@ unfoldable pub typedArgumentsCells : List ℕ → List Item → List ℕ
 typedArgumentsCells table [] = []
 typedArgumentsCells table (i ∷ is) = typedVariables table (argumentsIn i) ++ typedArgumentsCells table is
 
--- The same on cells. ----------------------------------------------------------------------------------------------
+-- What `elaborate` does to cells that hold `count` items from the item `first` on, and their arguments: they hold them
+-- with the types of their operands afterwards, and the cells before and behind are as they were.
+pub record Elaborated (table : List ℕ) (callees : ℕ → ℕ) (first count : ℕ) (items₀ items arguments₀ arguments : List ℕ) : Type 0
+  where
+    pub items-are : (is : List Item) (used : ℕ) (before behind : List ℕ) → length is ≡ count → length before ≡ first * 8
+        → items₀ ≡ before ++ (itemsCells used is ++ behind)
+        → items ≡ before ++ (typedItemsCells table callees used is ++ behind)
+    pub arguments-are : (is : List Item) (used : ℕ) (before behind front back : List ℕ) → length is ≡ count
+        → length before ≡ first * 8 → items₀ ≡ before ++ (itemsCells used is ++ behind)
+        → length front ≡ used * 2 → arguments₀ ≡ front ++ (argumentsCells is ++ back)
+        → arguments ≡ front ++ (typedArgumentsCells table is ++ back)
+
+-- The same on any cells, whatever they hold. ------------------------------------------------------------------------
 
 -- a callee's type, by the rows of the header table
 unfoldable pub calleeFrom : List ℕ → ℕ → ℕ → ℕ → ℕ

@@ -5,7 +5,7 @@ ghost use lib.ListN.{length, getD, set};
 ghost use Rattle.body.specs.Records.{itemRecord, recordAt};
 ghost use Rattle.functions.specs.Rows.{typeAt};
 ghost use Rattle.elaborate.specs.Types.{typeOf, calleeOf, isCall, typedRecord, typedRun, typedArguments};
-ghost use Rattle.elaborate.specs.Types.{typedItems, typedCalls};
+ghost use Rattle.elaborate.specs.Types.{typedItems, typedCalls, Elaborated};
 use body::ItemRecord;
 use body::records;
 use utils::cell_at;
@@ -144,7 +144,8 @@ fn elaborate_items(
     }
 }
 
-// A function's items and their arguments, by the table of names that its typing left.
+// A function's items and their arguments, by the table of names that its typing left. The first two clauses say what
+// becomes of any cells, the last what that is for cells that hold items.
 pub fn elaborate(
     table: &[u32],
     rows: &[u32],
@@ -160,6 +161,8 @@ pub fn elaborate(
         ≡ typedItems (now (table .entry)) (calleeOf (now (rows .entry)) n) (now (items .entry)) first count ⌝ }
     ensures { λ _. ⌜ now (arguments .exit)
         ≡ typedCalls (now (table .entry)) (now (items .entry)) (now (arguments .entry)) first count ⌝ }
+    ensures { λ _. ⌜ Elaborated (now (table .entry)) (calleeOf (now (rows .entry)) n) first count
+        (now (items .entry)) (now (items .exit)) (now (arguments .entry)) (now (arguments .exit)) ⌝ }
 {
     elaborate_calls(table, items, first, count, arguments);
     elaborate_items(table, rows, n, items, first, count);

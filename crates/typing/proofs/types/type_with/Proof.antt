@@ -156,7 +156,7 @@ loop-again c =
       analyze .kept .1 .1 .1 .1 .0 ∙ g .1,
       elaborate .kept .1 .1 .1 .0 ∙ g .2,
       elaborate .kept .1 .1 .1 .1 .1 .1 .0 ∙ g .3,
-      rw (elaborate .ensures .0, elaborate .ensures .1)
+      rw (elaborate .ensures .0, elaborate .ensures .1 .0)
           (rows-fine _ _ _ _ _ _ _ _ (g .4) (omega (arith, loop-test .taken)) (loop .table) (g .1) (analyze .ensures)
           (enum-told .given .1) _ _ (cell .ensures) (cell2 .ensures)),
     )
