@@ -100,7 +100,8 @@ cells-parts-padded n ns =
     let r : List ℕ = replicate (n - length (namesCells ns)) 0 in
     rw (take-at (namesCells ns) r (length ns * 2) (length-names-cells ns)) (cells-parts ns)
 
-names-cell : (ns : List Part) (r : List ℕ) (i : ℕ) → i < length ns
+-- a name's place and its length
+pub names-cell : (ns : List Part) (r : List ℕ) (i : ℕ) → i < length ns
     → (getD (namesCells ns ++ r) (i * 2) 0 ≡ getD ns i noPart .place)
     × (getD (namesCells ns ++ r) (i * 2 + 1) 0 ≡ getD ns i noPart .len)
 unfolding namesCells

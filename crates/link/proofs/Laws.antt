@@ -86,6 +86,16 @@ few-blocks ps = blocks-after ps 0 []
 pub at-most-256 : (ps : List Part) → length (namesIn ps) ≤ 255 → length (blocksOf ps) ≤ 256
 at-most-256 ps h = omega (arith, few-blocks ps)
 
+some-from : (ps : List Part) (here : ℕ) (ls : List ℕ) → 1 ≤ length (blocksAfter here ls ps)
+unfolding blocksAfter
+some-from [] here ls = omega arith
+some-from (name l ∷ ps) here ls = some-from ps (here + 1) (ls ++ (l ∷ []))
+some-from (operation w goes ∷ ps) here ls = omega (arith, blocks-from (operation w goes ∷ ps) here (fresh ls here))
+
+-- Any function has a block.
+pub at-least-1 : (ps : List Part) → 1 ≤ length (blocksOf ps)
+at-least-1 ps = some-from ps 0 []
+
 -- Where every label is resolved. ------------------------------------------------------------------------------------
 
 abbrev pub NonEmpty : List Block → Type 0

@@ -1,19 +1,20 @@
 -- Laws of a body's items, for those who use the definition: what stands behind what.
-use Prim.Native.Nat.{ℕ, zero, suc}
+use Prim.Native.Nat.{ℕ, zero, suc, _+_, _≤_, _<_}
 use mathlib.Core.Path.{_≡_, refl, sym}
 use mathlib.Core.List.{List, [], _∷_, _++_}
 use mathlib.Core.Bool.{Bool, true, false}
 use native.Mathlib.Omega.{arith}
-use borrow.Author.Tests.{eqb-false}
-use lib.Dec.{eqb}
+use borrow.Author.Tests.{eqb-false, leb-false}
+use lib.Dec.{eqb, leb}
+use lib.ListN.{length, length-append}
 use Rattle.utils.specs.Bytes.{pick}
 use Rattle.lexer.specs.Decoded.{Tok, tokenAt}
 use Rattle.lexer.specs.declared.TokenAt.{TokenAt}
 use Rattle.pieces.specs.declared.Identifier.{Identifier}
-use Rattle.parser.specs.Step.{look, thenAt, thenNamed}
-use Rattle.parser.specs.Grammar.{instructionD}
+use Rattle.parser.specs.Step.{refusal, look, thenAt, thenNamed}
+use Rattle.parser.specs.Grammar.{consumeD, labelD, instructionD}
 use Rattle.parser.specs.Runs.{callD}
-use Rattle.parser.specs.Labels.{labelledD}
+use Rattle.parser.specs.Labels.{has, labelledD}
 use Rattle.parser.specs.Body.{Item, label, plain, call, callInto, ItemAt, Body}
 use Rattle.parser.specs.Body.{afterLabel, afterOperation, afterTerminator, behind, closes, bodyEnd}
 use Rattle.parser.specs.Body.{bodyStop, bodyThen, thenItem, calledItem, parsedItem, itemD, bodyD, labelsOf, ret}
@@ -78,6 +79,12 @@ module _ (Q : Body → Type 0) where
   named (N.Refused e) k f g = f e
 
   -- with how it was read
+  named-of : (c : Named) (k : Identifier → ℕ → Body) → ((e : Refusal) → Q (bodyStop e))
+      → ((l : Identifier) (at : ℕ) → c ≡ N.At l at → Q (k l at)) → Q (thenNamed bodyStop c k)
+  unfolding thenNamed
+  named-of (N.At l at) k f g = g l at refl
+  named-of (N.Refused e) k f g = f e
+
   item-of : (r : ItemAt) (k : Item → ℕ → Body) → ((e : Refusal) → Q (bodyStop e))
       → ((i : Item) (at : ℕ) → r ≡ ItemAt.item i at → Q (k i at)) → Q (thenItem bodyStop r k)
   unfolding thenItem
@@ -162,6 +169,80 @@ pub first-item : (ts : List Tok) (room : ℕ) (ls : List ℕ) (at : ℕ) {next :
     → bodyD ts room ls afterLabel at .end ≡ C.At next → bodyD ts room ls afterLabel at .items ≡ [] → ⊥
 unfolding LabelsFollowed
 first-item ts room ls at h e = (rw e at (labels-followed ts room ls afterLabel at h)) refl
+
+-- How many labels. ------------------------------------------------------------------------------------------------------
+
+-- a label is read where there are fewer than 255 before it
+abbrev Roomy : List ℕ → Named → Type 0
+Roomy ls (N.At l at) = length ls < 255
+Roomy ls (N.Refused e) = Unit
+
+labelled-roomy : (ts : List Tok) (ls : List ℕ) (at : ℕ) → Roomy ls (labelledD ts ls at)
+unfolding labelledD thenNamed thenAt pick
+labelled-roomy ts ls at = read (labelD ts at)
+  where
+    tested : (l : Identifier) (at2 : ℕ) (full had : Bool) → leb 255 (length ls) ≡ full
+        → Roomy ls (pick full (N.Refused (refusal 38 at 0)) (pick had (N.Refused (refusal 13 at 0)) (N.At l at2)))
+    tested l at2 true had e = tt
+    tested l at2 false true e = tt
+    tested l at2 false false e = leb-false 255 (length ls) e
+
+    coloned : (l : Identifier) (x : Consumed)
+        → Roomy ls (thenAt N.Refused x (λ at2.
+        pick (leb 255 (length ls)) (N.Refused (refusal 38 at 0))
+        (pick (has ls (l .0)) (N.Refused (refusal 13 at 0)) (N.At l at2))))
+    coloned l (C.At at2) = tested l at2 (leb 255 (length ls)) (has ls (l .0)) refl
+    coloned l (C.Refused e) = tt
+
+    read : (x : Named)
+        → Roomy ls (thenNamed N.Refused x (λ l at1.
+        thenAt N.Refused (consumeD ts at1 29) (λ at2.
+        pick (leb 255 (length ls)) (N.Refused (refusal 38 at 0))
+        (pick (has ls (l .0)) (N.Refused (refusal 13 at 0)) (N.At l at2)))))
+    read (N.At l at1) = coloned l (consumeD ts at1 29)
+    read (N.Refused e) = tt
+
+-- labels so far and labels read
+abbrev FewIn : List ℕ → List Item → Type 0
+FewIn ls is = length ls + length (labelsOf is) ≤ 255
+
+abbrev Few : List ℕ → Body → Type 0
+Few ls r = FewIn ls (r .items)
+
+few-none : (ls : List ℕ) → length ls ≤ 255 → FewIn ls []
+unfolding labelsOf
+few-none ls h = omega arith
+
+few-label : (ls : List ℕ) (w : ℕ) (l : Identifier) (is : List Item) → FewIn (ls ++ (l .0 ∷ [])) is → FewIn ls (label w l ∷ is)
+unfolding labelsOf
+few-label ls w l is h = omega (arith, h, length-append ls (l .0 ∷ []))
+
+few-item : (ls : List ℕ) (i : Item) (is : List Item) → isLabel i ≡ false → FewIn ls is → FewIn ls (i ∷ is)
+unfolding labelsOf
+few-item ls (label w l) is e h = absurd (never e)
+few-item ls (plain o) is e h = h
+few-item ls (call w g xs) is e h = h
+few-item ls (callInto w v g xs) is e h = h
+
+labels-from : (ts : List Tok) (room : ℕ) (ls : List ℕ) (before at : ℕ) → length ls ≤ 255
+    → Few ls (bodyD ts room ls before at)
+unfolding bodyD
+labels-from ts zero ls before at h = few-none ls h
+labels-from ts (suc room) ls before at h =
+    looked (Few ls) (tokenAt ts at) _ (λ kind next.
+    picked (Few ls) (closes before kind) _ _ (λ _. few-none ls h) (λ _.
+    picked (Few ls) (eqb kind 3) _ _
+    (λ _. named-of (Few ls) (labelledD ts ls at) _ (λ e. few-none ls h) (λ l at1 e.
+    let room-left : length ls < 255 = rw e at (labelled-roomy ts ls at) in
+    few-label ls at l _
+    (labels-from ts room (ls ++ (l .0 ∷ [])) afterLabel at1 (omega (arith, room-left, length-append ls (l .0 ∷ []))))))
+    (λ _. item-of (Few ls) (itemD ts at) _ (λ e. few-none ls h) (λ i at1 e.
+    picked (Few ls) (eqb before afterTerminator) _ _ (λ _. few-none ls h) (λ f.
+    few-item ls i _ (item-operates ts at i at1 e .0) (labels-from ts room ls (behind i) at1 h))))))
+
+-- A body has at most 255 labels.
+pub labels-few : (ts : List Tok) (room before at : ℕ) → length (labelsOf (bodyD ts room [] before at .items)) ≤ 255
+labels-few ts room before at = omega (arith, labels-from ts room [] before at (omega arith))
 
 -- Of closed items. ------------------------------------------------------------------------------------------------------
 
