@@ -2,21 +2,31 @@
 use Prim.Native.Nat.{ℕ, zero, suc, _+_, _*_, _-_, _≤_, _<_}
 use mathlib.Core.Path.{_≡_, refl, sym, ap, subst, _∙_}
 use mathlib.Core.Bool.{Bool, true, false}
-use mathlib.Core.List.{List, [], _∷_, _++_}
+use mathlib.Core.List.{List, [], _∷_, _++_, append-nil}
 use native.Mathlib.Omega.{arith}
-use borrow.Author.Tests.{ltb-true, eqb-true}
+use borrow.Author.Tests.{ltb-true, ltb-false, le-ltb, eqb-true}
 use lib.Dec.{eqb, ltb}
-use lib.ListN.{length, getD, drop, replicate, length-append}
+use lib.ListN.{length, getD, take, drop, replicate, length-append, length-drop}
+use lib.Seq.{slice, length-slice}
 use Rattle.utils.specs.Bytes.{pick, padTo}
 use Rattle.pieces.specs.declared.Token.{Token}
 use Rattle.lexer.specs.Numbered.{Part, tokensCells, namesCells}
-use Rattle.lexer.specs.Sound.{Sound}
-use Rattle.lexer.specs.Decoded.{Tok, tokensOf, tokenAt}
-use Rattle.lexer.proofs.Cells.{length-tokens-cells, cells-token}
+use Rattle.lexer.specs.Sound.{Sound, noToken, noPart}
+use Rattle.pieces.specs.Tokens.{kindOf, carried}
+use Rattle.lexer.specs.Decoded.{Tok, tokensOf, withNext, tokenAt}
+use Rattle.lexer.specs.declared.TokenAt.{TokenAt}
+use Rattle.lexer.proofs.Cells.{tokOf, length-tokens-cells, cells-token-at, names-cell}
 use Rattle.lexer.proofs.Records.{tokens-count}
 use Rattle.pieces.specs.declared.Identifier.{Identifier}
 use Rattle.parser.specs.Step.{refusal, look, thenAt, thenNamed, thenType, thenDefined}
-use Rattle.parser.specs.Grammar.{consumeD, globalD, localD, typeD}
+use Rattle.parser.specs.Grammar.{consumeD, namedD, globalD, localD, typeD}
+use Rattle.parser.specs.Body.{Item, afterBrace, closedItems}
+use Rattle.parser.specs.Blocks.{partsOf, namesIn}
+use Rattle.parser.specs.Edges.{Resolved, resolveD}
+use Rattle.parser.specs.Edges.{fine, refused as unresolved}
+use Rattle.parser.proofs.BodyLaws.{labels-few, names-closed}
+use Rattle.link.proofs.Laws.{at-least-1, at-most-256}
+use Rattle.body.specs.Answer.{functionBody}
 use Rattle.parser.specs.Runs.{Variables, stopped, ended, andThen, variable, typeCell, variablesCells, formalD, formalsFromD, formalsD}
 use Rattle.parser.specs.declared.Ty.{Ty}
 use Rattle.parser.specs.declared.Ty.the-variants as Y
@@ -32,6 +42,7 @@ use Rattle.parser.specs.declared.Consumed.the-variants as C
 use Rattle.functions.specs.Known.{Known, signature, typesAfter}
 use Rattle.functions.specs.Functions.{Header, HeaderAt, header, noHeader, thenHeader, thenFormals, thenEntered, optionalFormals}
 use Rattle.functions.specs.Functions.{optionalType, enteredD, signatureD, headerD, BuiltAt, built, notBuilt, thenBuilt, builtD}
+use Rattle.functions.specs.Functions.{blocksIn, resolvedItems}
 use Rattle.functions.specs.Functions.{isVoid, Function, FunctionAt, function, noFunction, thenFunction, functionD, functionsD, programD}
 use Rattle.functions.specs.Functions.{Program, programEnd, programStop, programThen, knownOf}
 use Rattle.functions.specs.Rows.{rowAt, formalsAt, rowCells}
@@ -49,8 +60,8 @@ use Rattle.sema.specs.declared.Checked.the-variants as K
 use Rattle.typing.specs.Outcome.{Outcome, checked, refused, afterTyping, afterParsing, untyped, unitD, none}
 use Rattle.checker.specs.Check.{checkedOr, checkOf}
 use Rattle.checker.specs.Promise.{Lexed}
-use Rattle.checker.proofs.Lexed.{is-done, tokens-unpadded, names-short, lexed-itself}
-use Rattle.checker.specs.Header.{RowInRange, TableInRange}
+use Rattle.checker.proofs.Lexed.{is-done, tokens-unpadded, read-names, lexed-itself}
+use Rattle.checker.specs.Header.{placeAt, lengthAt, lineAt, blocksAt, formalTypeAt, Between, RowInRange, TableInRange}
 
 -- Types. ------------------------------------------------------------------------------------------------------------
 
@@ -184,83 +195,145 @@ optional-good ts at =
 
 -- Headers and functions. --------------------------------------------------------------------------------------------
 
-abbrev GoodHeader : Header → Type 0
-GoodHeader h = GoodRet (h .ret) × GoodFormals (h .formals) × (length (h .formals) ≤ 16)
+-- the global at this token
+abbrev IsGlobal : List Tok → ℕ → Identifier → Type 0
+IsGlobal ts at g = (tokenAt ts at .kind ≡ 2) × (g .0 ≡ tokenAt ts at .value)
 
-abbrev GoodHeaderAt : HeaderAt → Type 0
-GoodHeaderAt (header h i) = GoodHeader h
-GoodHeaderAt (noHeader e) = Unit
+abbrev GoodNamed : List Tok → ℕ → Named → Type 0
+GoodNamed ts at (N.At g i) = IsGlobal ts at g
+GoodNamed ts at (N.Refused e) = Unit
 
-header-good : (ts : List Tok) (full : Bool) (known : List Known) (types at : ℕ) → GoodHeaderAt (headerD ts full known types at)
-unfolding headerD signatureD thenNamed thenFormals thenType thenAt thenEntered pick
-header-good ts full known types at = named (globalD ts at) full
+global-good : (ts : List Tok) (at : ℕ) → GoodNamed ts at (globalD ts at)
+unfolding namedD pick
+global-good ts at = by (eqb (tokenAt ts at .kind) 2) refl
   where
-    entered : (g : Identifier) (vs : List Variable) (ret : Ty) (x : Entered) → GoodRet ret → GoodFormals vs → length vs ≤ 16
-        → GoodHeaderAt (thenEntered noHeader x (λ type i. header (record { name = g; formals = vs; ret = ret; type = type }) i))
-    entered g vs ret (E.At type i) h k l = (h, k, l)
-    entered g vs ret (E.Refused e) h k l = tt
+    by : (b : Bool) → eqb (tokenAt ts at .kind) 2 ≡ b
+        → GoodNamed ts at
+        (pick b (N.At (record { 0 = tokenAt ts at .value }) (tokenAt ts at .next)) (N.Refused (refusal 7 at 0)))
+    by true e = (eqb-true _ _ e, refl)
+    by false e = tt
 
-    typed : (g : Identifier) (vs : List Variable) (x : TypeRead) → GoodRetRead x → GoodFormals vs → length vs ≤ 16
-        → GoodHeaderAt (thenType noHeader x (λ ret at2.
+-- a header whose name stands at this token
+pub record GoodHeader (ts : List Tok) (at : ℕ) (h : Header) : Type 0 where
+  pub global : IsGlobal ts at (h .name)
+  pub ret : GoodRet (h .ret)
+  pub types : GoodFormals (h .formals)
+  pub few : length (h .formals) ≤ 16
+
+abbrev GoodHeaderAt : List Tok → ℕ → HeaderAt → Type 0
+GoodHeaderAt ts at (header h i) = GoodHeader ts at h
+GoodHeaderAt ts at (noHeader e) = Unit
+
+header-good : (ts : List Tok) (full : Bool) (known : List Known) (types at : ℕ)
+    → GoodHeaderAt ts at (headerD ts full known types at)
+unfolding headerD signatureD thenNamed thenFormals thenType thenAt thenEntered pick
+header-good ts full known types at = named (globalD ts at) full (global-good ts at)
+  where
+    entered : (g : Identifier) (vs : List Variable) (ret : Ty) (x : Entered) → IsGlobal ts at g → GoodRet ret → GoodFormals vs
+        → length vs ≤ 16
+        → GoodHeaderAt ts at
+        (thenEntered noHeader x (λ type i. header (record { name = g; formals = vs; ret = ret; type = type }) i))
+    entered g vs ret (E.At type i) n h k l = record { global = n; ret = h; types = k; few = l }
+    entered g vs ret (E.Refused e) n h k l = tt
+
+    typed : (g : Identifier) (vs : List Variable) (x : TypeRead) → IsGlobal ts at g → GoodRetRead x → GoodFormals vs
+        → length vs ≤ 16
+        → GoodHeaderAt ts at (thenType noHeader x (λ ret at2.
         thenEntered noHeader (enteredD ts known types at g (signature ret vs) at2) (λ type i.
         header (record { name = g; formals = vs; ret = ret; type = type }) i)))
-    typed g vs (R.At ret at2) h k l = entered g vs ret (enteredD ts known types at g (signature ret vs) at2) h k l
-    typed g vs (R.Refused e) h k l = tt
+    typed g vs (R.At ret at2) n h k l = entered g vs ret (enteredD ts known types at g (signature ret vs) at2) n h k l
+    typed g vs (R.Refused e) n h k l = tt
 
-    formals : (g : Identifier) (vs : List Variable) (x : Consumed) → GoodFormals vs → length vs ≤ 16
-        → GoodHeaderAt (thenAt noHeader x (λ at2. thenType noHeader (optionalType ts at2) (λ ret at3.
+    formals : (g : Identifier) (vs : List Variable) (x : Consumed) → IsGlobal ts at g → GoodFormals vs → length vs ≤ 16
+        → GoodHeaderAt ts at (thenAt noHeader x (λ at2. thenType noHeader (optionalType ts at2) (λ ret at3.
         thenEntered noHeader (enteredD ts known types at g (signature ret vs) at3) (λ type i.
         header (record { name = g; formals = vs; ret = ret; type = type }) i))))
-    formals g vs (C.At at2) k l = typed g vs (optionalType ts at2) (ret-good ts at2) k l
-    formals g vs (C.Refused e) k l = tt
+    formals g vs (C.At at2) n k l = typed g vs (optionalType ts at2) n (ret-good ts at2) k l
+    formals g vs (C.Refused e) n k l = tt
 
-    named : (x : Named) (b : Bool)
-        → GoodHeaderAt (thenNamed noHeader x (λ g at1. pick b (noHeader (refusal 35 at 0)) (signatureD ts known types at g at1)))
-    named (N.At g at1) true = tt
-    named (N.At g at1) false =
-        formals g (optionalFormals ts at1 .list) (optionalFormals ts at1 .end) (optional-good ts at1)
+    named : (x : Named) (b : Bool) → GoodNamed ts at x
+        → GoodHeaderAt ts at
+        (thenNamed noHeader x (λ g at1. pick b (noHeader (refusal 35 at 0)) (signatureD ts known types at g at1)))
+    named (N.At g at1) true n = tt
+    named (N.At g at1) false n =
+        formals g (optionalFormals ts at1 .list) (optionalFormals ts at1 .end) n (optional-good ts at1)
         (optional-few ts at1)
-    named (N.Refused e) b = tt
+    named (N.Refused e) b n = tt
 
-abbrev GoodFunctionAt : FunctionAt → Type 0
-GoodFunctionAt (function f) = GoodHeader (f .head)
-GoodFunctionAt (noFunction e) = Unit
+-- 1 to 256 blocks
+abbrev GoodBlocks : List Item → Type 0
+GoodBlocks is = Between 1 256 (length (blocksIn is))
+
+abbrev GoodBuilt : BuiltAt → Type 0
+GoodBuilt (built is i) = GoodBlocks is
+GoodBuilt (notBuilt e) = Unit
+
+closed-blocks : (ts : List Tok) (void : Bool) (at : ℕ) → GoodBlocks (closedItems void (functionBody ts at .items))
+closed-blocks ts void at =
+    let is = functionBody ts at .items in
+    let ps = partsOf (closedItems void is) in
+    let few : length (namesIn ps) ≤ 255 =
+    omega (arith, ap length (names-closed void 0 0 is), labels-few ts 4096 afterBrace at) in
+    (at-least-1 ps, at-most-256 ps few)
+
+built-good : (ts : List Tok) (void : Bool) (name at : ℕ) → GoodBuilt (builtD ts void name at)
+unfolding builtD thenAt
+built-good ts void name at = ended-at (functionBody ts at .end)
+  where
+    is : List Item
+    is = closedItems void (functionBody ts at .items)
+
+    resolved : (next : ℕ) (r : Resolved) → GoodBuilt (resolvedItems is next r)
+    resolved next fine = closed-blocks ts void at
+    resolved next (unresolved e) = tt
+
+    ended-at : (x : Consumed) → GoodBuilt (thenAt notBuilt x (λ next. resolvedItems is next (resolveD name (blocksIn is))))
+    ended-at (C.At next) = resolved next (resolveD name (blocksIn is))
+    ended-at (C.Refused e) = tt
+
+abbrev GoodFunction : List Tok → Function → Type 0
+GoodFunction ts f = GoodHeader ts (f .token) (f .head) × GoodBlocks (f .items)
+
+abbrev GoodFunctionAt : List Tok → FunctionAt → Type 0
+GoodFunctionAt ts (function f) = GoodFunction ts f
+GoodFunctionAt ts (noFunction e) = Unit
 
 function-good : (ts : List Tok) (full : Bool) (known : List Known) (types at : ℕ)
-    → GoodFunctionAt (functionD ts full known types at)
+    → GoodFunctionAt ts (functionD ts full known types at)
 unfolding functionD thenHeader thenBuilt
 function-good ts full known types at = headed (headerD ts full known types at) (header-good ts full known types at)
   where
-    bodied : (h : Header) (x : BuiltAt) → GoodHeader h
-        → GoodFunctionAt (thenBuilt noFunction x (λ is i. function (record { token = at; head = h; items = is; next = i })))
-    bodied h (built is i) g = g
-    bodied h (notBuilt e) g = tt
+    bodied : (h : Header) (x : BuiltAt) → GoodHeader ts at h → GoodBuilt x
+        → GoodFunctionAt ts (thenBuilt noFunction x (λ is i. function (record { token = at; head = h; items = is; next = i })))
+    bodied h (built is i) g b = (g, b)
+    bodied h (notBuilt e) g b = tt
 
-    headed : (x : HeaderAt) → GoodHeaderAt x
-        → GoodFunctionAt (thenHeader noFunction x (λ h at1. thenBuilt noFunction (builtD ts (isVoid (h .ret)) at at1) (λ is i.
+    headed : (x : HeaderAt) → GoodHeaderAt ts at x
+        → GoodFunctionAt ts (thenHeader noFunction x (λ h at1. thenBuilt noFunction (builtD ts (isVoid (h .ret)) at at1) (λ is i.
         function (record { token = at; head = h; items = is; next = i }))))
-    headed (header h at1) g = bodied h (builtD ts (isVoid (h .ret)) at at1) g
+    headed (header h at1) g = bodied h (builtD ts (isVoid (h .ret)) at at1) g (built-good ts (isVoid (h .ret)) at at1)
     headed (noHeader e) g = tt
 
-abbrev GoodFunctions : List Function → Type 0
-GoodFunctions [] = Unit
-GoodFunctions (f ∷ fs) = (GoodHeader (f .head) × (f .head .type ≤ 64)) × GoodFunctions fs
+abbrev GoodFunctions : List Tok → List Function → Type 0
+GoodFunctions ts [] = Unit
+GoodFunctions ts (f ∷ fs) = (GoodFunction ts f × (f .head .type < 64)) × GoodFunctions ts fs
 
 -- these functions, at most so many
-abbrev GoodProgram : ℕ → Program → Type 0
-GoodProgram most u = GoodFunctions (u .functions) × (length (u .functions) ≤ most)
+abbrev GoodProgram : List Tok → ℕ → Program → Type 0
+GoodProgram ts most u = GoodFunctions ts (u .functions) × (length (u .functions) ≤ most)
 
-picked-program : (b : Bool) (x y : Program) (most : ℕ) → GoodProgram most x → GoodProgram most y → GoodProgram most (pick b x y)
+picked-program : (ts : List Tok) (b : Bool) (x y : Program) (most : ℕ) → GoodProgram ts most x → GoodProgram ts most y
+    → GoodProgram ts most (pick b x y)
 unfolding pick
-picked-program true x y most h g = h
-picked-program false x y most h g = g
+picked-program ts true x y most h g = h
+picked-program ts false x y most h g = g
 
-after-function : (x : FunctionAt) (k : Function → Program) (most : ℕ) → GoodFunctionAt x
-    → ((f : Function) → x ≡ function f → GoodHeader (f .head) → GoodProgram most (k f))
-    → GoodProgram most (thenFunction programStop x k)
+after-function : (ts : List Tok) (x : FunctionAt) (k : Function → Program) (most : ℕ) → GoodFunctionAt ts x
+    → ((f : Function) → x ≡ function f → GoodFunction ts f → GoodProgram ts most (k f))
+    → GoodProgram ts most (thenFunction programStop x k)
 unfolding thenFunction
-after-function (function f) k most h g = g f refl h
-after-function (noFunction e) k most h g = (tt, omega arith)
+after-function ts (function f) k most h g = g f refl h
+after-function ts (noFunction e) k most h g = (tt, omega arith)
 
 types-grow : (types type : ℕ) → typesAfter types type ≤ types + 1
 unfolding typesAfter pick
@@ -271,14 +344,14 @@ types-grow types type = by (eqb type types)
     by false = omega arith
 
 functions-good : (ts : List Tok) (room : ℕ) (known : List Known) (types at : ℕ) → TypesFew types known → types + room ≤ 64
-    → GoodProgram room (functionsD ts room known types at)
+    → GoodProgram ts room (functionsD ts room known types at)
 unfolding functionsD look
 functions-good ts zero known types at w l =
-    picked-program (eqb (tokenAt ts at .kind) 38) (programEnd (C.At at)) _ 0 (tt, omega arith)
-    (after-function (functionD ts true known types at) _ 0 (function-good ts true known types at) (λ f e h. (tt, omega arith)))
+    picked-program ts (eqb (tokenAt ts at .kind) 38) (programEnd (C.At at)) _ 0 (tt, omega arith)
+    (after-function ts (functionD ts true known types at) _ 0 (function-good ts true known types at) (λ f e h. (tt, omega arith)))
 functions-good ts (suc room) known types at w l =
-    picked-program (eqb (tokenAt ts at .kind) 38) (programEnd (C.At at)) _ (suc room) (tt, omega arith)
-    (after-function (functionD ts false known types at) _ (suc room) (function-good ts false known types at) (λ f e h.
+    picked-program ts (eqb (tokenAt ts at .kind) 38) (programEnd (C.At at)) _ (suc room) (tt, omega arith)
+    (after-function ts (functionD ts false known types at) _ (suc room) (function-good ts false known types at) (λ f e h.
     let few = function-type-few ts known types w false at e in
     let grow = types-grow types (f .head .type) in
     let up = types-after-up types (f .head .type) in
@@ -287,12 +360,28 @@ functions-good ts (suc room) known types at w l =
     (omega (arith, grow)) in
     (((h, omega (arith, few)), more .0), omega (arith, more .1))))
 
-program-good : (ts : List Tok) → GoodProgram 64 (programD ts)
+program-good : (ts : List Tok) → GoodProgram ts 64 (programD ts)
 program-good ts = functions-good ts 64 [] 0 0 tt (omega arith)
 
--- Places and lines. -------------------------------------------------------------------------------------------------
+-- Names, places and lines. -----------------------------------------------------------------------------------------
 
--- of any index: past the last token they are 0
+take-within : (k : ℕ) (l : List ℕ) → length (take k l) ≤ length l
+take-within zero l = omega arith
+take-within (suc k) [] = omega arith
+take-within (suc k) (x ∷ l) = omega (arith, take-within k l)
+
+-- a part that has all its bytes lies in the text
+part-within : (s : List ℕ) (place len : ℕ) → 1 ≤ len → length (slice place (place + len) s) ≡ len → place + len ≤ length s
+part-within s place len h e =
+    omega (arith, e, length-drop place (take (place + len) s), take-within (place + len) s)
+
+-- what a global's token says
+record GlobalIn (text names : List ℕ) (t : TokenAt) : Type 0 where
+  place-in : t .place ≤ 16384
+  line-in : Between 1 16385 (t .line .0)
+  long : Between 2 64 (getD names (t .value * 2 + 1) 0)
+  inside : t .place + getD names (t .value * 2 + 1) 0 ≤ length text
+
 module _ (s : List ℕ) (toks : List Token) (ns : List Part) (v : Sound s 1 toks ns) where
   abbrev ts : List Tok
   ts = tokensOf (padTo 0 (tokensCells toks))
@@ -304,16 +393,50 @@ module _ (s : List ℕ) (toks : List Token) (ns : List Part) (v : Sound s 1 toks
       length-append (tokensCells toks) _ ∙ rw m (omega (arith, length-tokens-cells toks)) in
       omega (arith, tokens-count (padTo 0 (tokensCells toks)), l)
 
-  pub token-in : (i : ℕ) → (tokenAt ts i .place ≤ 16384) × (tokenAt ts i .line .0 ≤ 16385)
+  -- of a token of the text
+  global-is : (i next : ℕ) → i < length toks → kindOf (getD toks i noToken .value) ≡ 2
+      → GlobalIn s (namesCells ns ++ []) (withNext (tokOf (getD toks i noToken)) next)
+  global-is i next h e =
+      let t = getD toks i noToken in
+      let k = carried (t .value) in
+      let p = getD ns k noPart in
+      let numbered : k < length ns = v .numbered i h (omega (arith, e)) in
+      let cell : getD (namesCells ns ++ []) (k * 2 + 1) 0 ≡ p .len = names-cell ns [] k numbered .1 in
+      let long : 2 ≤ p .len = v .lettered i h (omega (arith, e)) (omega (arith, e)) in
+      let bytes : length (slice (t .place) (t .place + p .len) s) ≡ p .len =
+      ap length (v .spelled i h (omega (arith, e)))
+      ∙ length-slice (p .place) (p .place + p .len) s (v .within k numbered .2) ∙ omega arith in
+      let r = v .ranges i h in
+      record {
+        place-in = omega (arith, r .2, v .short);
+        line-in = (r .0, omega (arith, r .1, r .2, v .short));
+        long = rw cell (long, v .within k numbered .1);
+        inside = rw cell (part-within s (t .place) (p .len) (omega (arith, long)) bytes);
+      }
+
+  -- past the last token there is none
+  past-last : (i : ℕ) → length ts ≤ i → tokenAt ts i .kind ≡ 38
   unfolding tokenAt pick
-  token-in i = by (ltb i (length ts)) refl
+  past-last i h = rw (le-ltb i (length ts) h)
+
+  global-at : (i : ℕ) → tokenAt ts i .kind ≡ 2 → GlobalIn s (namesCells ns ++ []) (tokenAt ts i)
+  global-at i e = by (ltb i (length toks)) refl
     where
-      by : (b : Bool) → ltb i (length ts) ≡ b → (tokenAt ts i .place ≤ 16384) × (tokenAt ts i .line .0 ≤ 16385)
-      by true e =
-          let k : i < length toks = omega (arith, ltb-true i (length ts) e, count) in
-          let r = v .ranges i k in
-          rw (e, cells-token 0 toks i k) (omega (arith, r .2, v .short), omega (arith, r .1, r .2, v .short))
-      by false e = rw e (omega arith, omega arith)
+      by : (b : Bool) → ltb i (length toks) ≡ b → GlobalIn s (namesCells ns ++ []) (tokenAt ts i)
+      by true l =
+          let h = ltb-true i (length toks) l in
+          let at : tokenAt ts i
+              ≡ withNext (tokOf (getD toks i noToken)) (pick (eqb (kindOf (getD toks i noToken .value)) 38) i (i + 1)) =
+          cells-token-at 0 toks i h in
+          rw at (global-is i _ h (rw at at e))
+      by false l =
+          let z = past-last i (omega (arith, count, ltb-false i (length toks) l)) in
+          absurd (omega (arith, e, z))
+
+  -- .. of the cells that `read` left
+  global-in : (tokens names : List ℕ) → tokens ≡ padTo 0 (tokensCells toks) → names ≡ namesCells ns ++ []
+      → (i : ℕ) → tokenAt (tokensOf tokens) i .kind ≡ 2 → GlobalIn s names (tokenAt (tokensOf tokens) i)
+  global-in tokens names p q = rw (p, q) global-at
 
 -- The rows. ---------------------------------------------------------------------------------------------------------
 
@@ -330,37 +453,42 @@ formal-types-in (v ∷ vs) cells at rest h g (suc k) l =
     rw e
     (formal-types-in vs cells (at + 2) rest (rest-there at 2 cells (variablesCells (v ∷ vs) ++ rest) h) (g .1) k (omega arith))
 
-module _ (ts : List Tok) (names rows rest : List ℕ)
-    (tokens-in : (i : ℕ) → (tokenAt ts i .place ≤ 16384) × (tokenAt ts i .line .0 ≤ 16385))
-    (lengths-in : (i : ℕ) → getD names (i * 2 + 1) 0 ≤ 64) where
-  row-in : (n : Counts) (f : Function) (r : List ℕ) → GoodHeader (f .head) × (f .head .type ≤ 64)
-      → drop (rowAt (n .functions)) rows ≡ rowCells ts names f (n .items) (n .blocks) ++ r → RowInRange rows (n .functions)
+module _ (text : List ℕ) (ts : List Tok) (names rows rest : List ℕ)
+    (globals-in : (i : ℕ) → tokenAt ts i .kind ≡ 2 → GlobalIn text names (tokenAt ts i)) where
+  row-in : (n : Counts) (f : Function) (r : List ℕ) → GoodFunction ts f × (f .head .type < 64)
+      → drop (rowAt (n .functions)) rows ≡ rowCells ts names f (n .items) (n .blocks) ++ r
+      → RowInRange text rows (n .functions)
   row-in n f r q h =
-      let g = q .0 in
+      let g = q .0 .0 in
       let i = n .functions in
       let first = n .items in
       let base = n .blocks in
       let cell : (k j : ℕ) → k ≡ rowAt i + j → getD rows k 0 ≡ getD (rowCells ts names f first base ++ r) j 0 =
       λ k j e. ap (λ (x : ℕ). getD rows x 0) e ∙ cell-there (rowAt i) j rows (rowCells ts names f first base ++ r) h in
       let vs = f .head .formals in
+      let t = tokenAt ts (f .token) in
+      let global = globals-in (f .token) (g .global .0) in
+      let len : getD rows (lengthAt i) 0 ≡ getD names (t .value * 2 + 1) 0 =
+      cell (lengthAt i) 4 (omega arith) ∙ ap (λ (x : ℕ). getD names (x * 2 + 1) 0) (g .global .1) in
       record {
-        place = rw (cell (4 + i * 45) 3 (omega arith)) (tokens-in (f .token) .0);
-        length = rw (cell (5 + i * 45) 4 (omega arith)) (lengths-in (f .head .name .0));
-        line = rw (cell (6 + i * 45) 5 (omega arith)) (tokens-in (f .token) .1);
-        ret-least = rw (row-ret ts names f first base rows i r h) (g .0 .0);
-        ret-most = rw (row-ret ts names f first base rows i r h) (g .0 .1);
+        name = rw (cell (placeAt i) 3 (omega arith), len) (global .inside);
+        place = rw (cell (placeAt i) 3 (omega arith)) (global .place-in);
+        name-length = rw len (global .long);
+        line = rw (cell (lineAt i) 5 (omega arith)) (global .line-in);
+        ret = rw (row-ret ts names f first base rows i r h) (g .ret);
         type = rw (row-type ts names f first base rows i r h) (q .1);
-        formals = rw (row-count ts names f first base rows i r h) (g .2);
+        blocks = rw (cell (blocksAt i) 11 (omega arith)) (q .0 .1);
+        formals = rw (row-count ts names f first base rows i r h) (g .few);
         formal-types = λ k l.
-            let e : 15 + i * 45 + k * 2 ≡ formalsAt i + k * 2 + 1 = omega arith in
+            let e : formalTypeAt i k ≡ formalsAt i + k * 2 + 1 = omega arith in
             rw e
-            (formal-types-in vs rows (formalsAt i) r (row-formals ts names f first base rows i r h) (g .1) k
+            (formal-types-in vs rows (formalsAt i) r (row-formals ts names f first base rows i r h) (g .types) k
             (rw (row-count ts names f first base rows i r h) at l));
       }
 
-  rows-in : (fs : List Function) (n : Counts) → GoodFunctions fs
+  rows-in : (fs : List Function) (n : Counts) → GoodFunctions ts fs
       → drop (rowAt (n .functions)) rows ≡ rowsCells ts names n fs ++ rest
-      → (k : ℕ) → k < length fs → RowInRange rows (n .functions + k)
+      → (k : ℕ) → k < length fs → RowInRange text rows (n .functions + k)
   rows-in [] n g h k l = absurd (omega arith)
   rows-in (f ∷ fs) n g h zero l =
       let s = row-stands ts names rows rest n f fs h in
@@ -369,7 +497,7 @@ module _ (ts : List Tok) (names rows rest : List ℕ)
   rows-in (f ∷ fs) n g h (suc k) l =
       let e : n .functions + suc k ≡ n .functions + 1 + k = omega arith in
       rw e
-      (rows-in fs (countsWith n f) (g .1) (rows-behind ts names rows rest n f fs (g .0 .0 .2) h) k (omega arith))
+      (rows-in fs (countsWith n f) (g .1) (rows-behind ts names rows rest n f fs (g .0 .0 .0 .few) h) k (omega arith))
 
 -- The whole. --------------------------------------------------------------------------------------------------------
 
@@ -391,49 +519,44 @@ first-zero : (m : ℕ) → _≡_ {A = ℕ} (getD (replicate m 0) 0 0) 0
 first-zero zero = refl
 first-zero (suc m) = refl
 
-none-in : (m : ℕ) → TableInRange (padTo m [])
-none-in m =
+none-in : (text : List ℕ) (m : ℕ) → TableInRange text (padTo m [])
+none-in text m =
     let k : m - 0 ≡ m = omega arith in
     let z : _≡_ {A = ℕ} (getD (padTo m []) 0 0) 0 = rw k (first-zero m) in
     record { count = omega (arith, z); each = λ i h. absurd (omega (arith, z, h)) }
 
 module _ (text : List ℕ) (m : ℕ) (v : Lexed text (readOf text .answer) (readOf text .message) (readOf text .tokens) (readOf text .names))
   where
-    ts-is : readOf text .tokens ≡ padTo 0 (tokensCells (is-done v .ts))
-    ts-is = tokens-unpadded v
-
-    read-in : (i : ℕ)
-        → (tokenAt (tokensOf (readOf text .tokens)) i .place ≤ 16384)
-        × (tokenAt (tokensOf (readOf text .tokens)) i .line .0 ≤ 16385)
-    read-in = rw ts-is (token-in text (is-done v .ts) (is-done v .ns) (is-done v .sound))
-
-    lengths : (i : ℕ) → getD (readOf text .names) (i * 2 + 1) 0 ≤ 64
-    lengths i = names-short v i
+    read-in : (i : ℕ) → tokenAt (tokensOf (readOf text .tokens)) i .kind ≡ 2
+        → GlobalIn text (readOf text .names) (tokenAt (tokensOf (readOf text .tokens)) i)
+    read-in =
+        global-in text (is-done v .ts) (is-done v .ns) (is-done v .sound) (readOf text .tokens) (readOf text .names)
+        (tokens-unpadded v) (read-names v ∙ sym (append-nil (namesCells (is-done v .ns))))
 
     by-outcome : (o : Outcome) → unitD (tokensOf (readOf text .tokens)) ≡ o
-        → TableInRange (padTo m (checkedOr text (readOf text) (tokensOf (readOf text .tokens)) o .unit .functions))
+        → TableInRange text (padTo m (checkedOr text (readOf text) (tokensOf (readOf text .tokens)) o .unit .functions))
     by-outcome (checked fs) e =
         let ts = tokensOf (readOf text .tokens) in
-        let good = subst (λ (gs : List Function). GoodFunctions gs × (length gs ≤ 64)) (sym (parsed-are ts fs e)) (program-good ts) in
+        let good = subst (λ (gs : List Function). GoodFunctions ts gs × (length gs ≤ 64)) (sym (parsed-are ts fs e)) (program-good ts) in
         let rows = padTo m (length fs ∷ rowsCells ts (readOf text .names) none fs) in
         record {
           count = good .1;
           each = λ i h.
               let z : 0 + i ≡ i = omega arith in
               rw z at
-              (rows-in ts (readOf text .names) rows
-              (replicate (m - length (length fs ∷ rowsCells ts (readOf text .names) none fs)) 0) read-in lengths fs none
+              (rows-in text ts (readOf text .names) rows
+              (replicate (m - length (length fs ∷ rowsCells ts (readOf text .names) none fs)) 0) read-in fs none
               (good .0) refl i h);
         }
-    by-outcome (refused r) e = none-in m
+    by-outcome (refused r) e = none-in text m
 
 -- EVERY HEADER TABLE THAT `check` WRITES IS IN RANGE, also that of a refused text: it has no functions.
-pub header-in-range : (text : List ℕ) (m : ℕ) → TableInRange (padTo m (checkOf text .unit .functions))
+pub header-in-range : (text : List ℕ) (m : ℕ) → TableInRange text (padTo m (checkOf text .unit .functions))
 unfolding checkOf pick
 header-in-range text m = by (eqb (readOf text .answer .number) 0) refl
   where
-    by : (b : Bool) → eqb (readOf text .answer .number) 0 ≡ b → TableInRange (padTo m (checkOf text .unit .functions))
+    by : (b : Bool) → eqb (readOf text .answer .number) 0 ≡ b → TableInRange text (padTo m (checkOf text .unit .functions))
     by true e =
         rw e
         (by-outcome text m (lexed-itself text (eqb-true _ _ e)) (unitD (tokensOf (readOf text .tokens))) refl)
-    by false e = rw e (none-in m)
+    by false e = rw e (none-in text m)

@@ -1,22 +1,43 @@
--- The header table as recheck takes it: the ranges of its places, lines, lengths, counts and types (docs/INTERFACE.md).
--- That every table that `check` wrote is inside them is `header-in-range` (proofs/Header.antt).
+-- The header table as recheck takes it: the ranges of its cells (docs/INTERFACE.md). That every table that `check` wrote is
+-- inside them, with its text, is `header-in-range` (proofs/Header.antt).
 use Prim.Native.Nat.{ℕ, _+_, _*_, _≤_, _<_}
 use mathlib.Core.List.{List}
-use lib.ListN.{getD}
+use lib.ListN.{length, getD}
 use Rattle.functions.specs.Rows.{retAt, typeAt, countAt}
 
--- row i; formal k's type stands in cell 14 + 2 k of it
-pub record RowInRange (rows : List ℕ) (i : ℕ) : Type 0 where
-  pub place : getD rows (4 + i * 45) 0 ≤ 16384
-  pub length : getD rows (5 + i * 45) 0 ≤ 64
-  pub line : getD rows (6 + i * 45) 0 ≤ 16385
-  pub ret-least : 1 ≤ getD rows (retAt i) 0
-  pub ret-most : getD rows (retAt i) 0 ≤ 3
-  pub type : getD rows (typeAt i) 0 ≤ 64
-  pub formals : getD rows (countAt i) 0 ≤ 16
-  pub formal-types : (k : ℕ) → k < getD rows (countAt i) 0
-      → (1 ≤ getD rows (15 + i * 45 + k * 2) 0) × (getD rows (15 + i * 45 + k * 2) 0 ≤ 2)
+-- the cells of row i that the rows themselves don't read: the name's place, its length, its line, and how many blocks
+abbrev pub placeAt : ℕ → ℕ
+placeAt i = 4 + i * 45
 
-pub record TableInRange (rows : List ℕ) : Type 0 where
+abbrev pub lengthAt : ℕ → ℕ
+lengthAt i = 5 + i * 45
+
+abbrev pub lineAt : ℕ → ℕ
+lineAt i = 6 + i * 45
+
+abbrev pub blocksAt : ℕ → ℕ
+blocksAt i = 12 + i * 45
+
+-- where formal k's type stands
+abbrev pub formalTypeAt : ℕ → ℕ → ℕ
+formalTypeAt i k = 15 + i * 45 + k * 2
+
+-- of a cell: it is at least the one and at most the other
+abbrev pub Between : ℕ → ℕ → ℕ → Type 0
+Between least most x = (least ≤ x) × (x ≤ most)
+
+pub record RowInRange (text rows : List ℕ) (i : ℕ) : Type 0 where
+  -- the name lies in the text
+  pub name : getD rows (placeAt i) 0 + getD rows (lengthAt i) 0 ≤ length text
+  pub place : getD rows (placeAt i) 0 ≤ 16384
+  pub name-length : Between 2 64 (getD rows (lengthAt i) 0)
+  pub line : Between 1 16385 (getD rows (lineAt i) 0)
+  pub ret : Between 1 3 (getD rows (retAt i) 0)
+  pub type : getD rows (typeAt i) 0 < 64
+  pub blocks : Between 1 256 (getD rows (blocksAt i) 0)
+  pub formals : getD rows (countAt i) 0 ≤ 16
+  pub formal-types : (k : ℕ) → k < getD rows (countAt i) 0 → Between 1 2 (getD rows (formalTypeAt i k) 0)
+
+pub record TableInRange (text rows : List ℕ) : Type 0 where
   pub count : getD rows 0 0 ≤ 64
-  pub each : (i : ℕ) → i < getD rows 0 0 → RowInRange rows i
+  pub each : (i : ℕ) → i < getD rows 0 0 → RowInRange text rows i
