@@ -19,7 +19,7 @@ use Rattle.lexer.proofs.Promise.{done-reading}
 use Rattle.lexer.proofs.Cells.{length-tokens-cells, length-names-cells, cells-token-last}
 use Rattle.body.specs.Room.{Within}
 use Rattle.messages.specs.Messages.{ShortNames}
-use Rattle.messages.proofs.Short.{cell-short, short-names}
+use Rattle.messages.proofs.Short.{short-names}
 use Rattle.checker.specs.Promise.{Lexed}
 
 unpadded : (l : List ℕ) → padTo 0 l ≡ l
@@ -104,11 +104,6 @@ module _ {text m t n : List ℕ} {r : ReadAnswer} (v : Lexed text r m t n) where
   short =
       rw (read-names ∙ sym (unpadded (namesCells (is-done .ns))))
       (short-names text 1 0 (is-done .ts) (is-done .ns) (is-done .sound))
-
-  pub names-short : (i : ℕ) → getD (readOf text .names) (i * 2 + 1) 0 ≤ 64
-  names-short =
-      rw (read-names ∙ sym (unpadded (namesCells (is-done .ns))))
-      (cell-short text (is-done .ns) (0 - length (namesCells (is-done .ns))) (is-done .sound .within))
 
 -- a reading as it is
 pub lexed-itself : (text : List ℕ) → readOf text .answer .number ≡ 0
