@@ -28,7 +28,7 @@ short-requires c κs = search needs
 returns : tie.Need-returns
 unfolding exportDef pick
 returns c =
-    by-parts (rw (lt-ltb _ _ (c .before .if1 .taken), c .short .ensures))
+    by-parts (rw (lt-ltb _ 252228 (c .before .if1 .taken), c .short .ensures))
 
 -- src/lib.rt:111:9
 short-requires-2 : tie.Need-short-requires-2

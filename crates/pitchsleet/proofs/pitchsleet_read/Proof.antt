@@ -15,7 +15,7 @@ unfolding exportDef pick
 returns c =
     let if1 = c .before .if1 in
     let short = c .short in
-    by-parts (rw (lt-ltb _ _ (if1 .taken), short .ensures))
+    by-parts (rw (lt-ltb _ 73728 (if1 .taken), short .ensures))
 
 short-requires-2 : tie.Need-short-requires-2
 short-requires-2 c κs = search needs

@@ -1,10 +1,12 @@
 -- The steps, the limit and the look-up, in document 01's order.
 use borrow.Author.Tests.{le-leb, lt-leb}
+use mathlib.Core.Path.{_≡_}
+use lib.ListN.{take}
 use lib.Seq.{length-take-le}
 use denote.Ref.{now}
 use borrow.Author.Needs.{needs}
 use Rattle.parser.specs.Step.{opened}
-use Rattle.parser.specs.Labels.{labelledD}
+use Rattle.parser.specs.Labels.{has, labelledD}
 use Rattle.parser.proofs.labels.parse_label.Statement.{statement}
 use Rattle.parser.proofs.labels.parse_label.Tie as tie
 
@@ -73,6 +75,7 @@ returns-2 c =
     let if2 = c .before .if2 in
     let refuse2 = c .refuse2 in
     let count = length-take-le (a .count) (now (a .labels)) (pre) in
+    let among-all : _ ≡ has (take (a .count) (now (a .labels))) _ = has-label .ensures in
     rw (
       ← consume-named .ensures,
       label .given .1,
@@ -80,7 +83,7 @@ returns-2 c =
       at2 .given .1,
       count,
       lt-leb _ _ (if1 .left),
-      ← has-label .ensures,
+      ← among-all,
       if2 .taken,
       refuse2 .ensures,
     )
@@ -115,6 +118,7 @@ returns-5 c =
     let has-label = c .before .has-label in
     let if2 = c .if2 in
     let count = length-take-le (a .count) (now (a .labels)) (pre) in
+    let among-all : _ ≡ has (take (a .count) (now (a .labels))) _ = has-label .ensures in
     rw (
       ← consume-named .ensures,
       label .given .1,
@@ -122,7 +126,7 @@ returns-5 c =
       at2 .given .1,
       count,
       lt-leb _ _ (if1 .left),
-      ← has-label .ensures,
+      ← among-all,
       if2 .left,
     )
 
