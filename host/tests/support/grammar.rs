@@ -1,26 +1,12 @@
 //! Whole programs by the grammar, most of them well typed: as lists of tokens, and as texts in several layouts.
 use super::dice::Dice;
+use super::words::{ARITHMETIC, COMPARISONS, Type, push, push_definition, push_formals, push_result};
 
-#[derive(Clone, Copy, PartialEq, Eq)]
-enum Type {
-    Int,
-    Bool,
-}
-
-impl Type {
-    fn word(self) -> &'static str {
-        match self {
-            Self::Int => "int",
-            Self::Bool => "bool",
-        }
-    }
-
-    /// A spelling says its type, so that no name is ever entered with two.
-    fn names(self) -> &'static [&'static str] {
-        match self {
-            Self::Int => &["i", "n", "x1", "total", "i_2", "Int", "ints", "add1", "r", "long_name_of_a_number"],
-            Self::Bool => &["b", "flag", "is_ok", "t", "Bool", "true_", "c3", "not_a", "e", "B_9"],
-        }
+/// A spelling says its type, so that no name is ever entered with two.
+fn names(ty: Type) -> &'static [&'static str] {
+    match ty {
+        Type::Int => &["i", "n", "x1", "total", "i_2", "Int", "ints", "add1", "r", "long_name_of_a_number"],
+        Type::Bool => &["b", "flag", "is_ok", "t", "Bool", "true_", "c3", "not_a", "e", "B_9"],
     }
 }
 
@@ -32,8 +18,6 @@ struct Signature {
 
 const FUNCTIONS: [&str; 8] = ["@main", "@f", "@g2", "@double", "@fact", "@int", "@A_b", "@x"];
 const LABELS: [&str; 8] = [".a", ".b", ".loop", ".end", ".then", ".x", ".int", ".L_1"];
-const ARITHMETIC: [&str; 5] = ["add", "mul", "sub", "div", "mod"];
-const COMPARISONS: [&str; 5] = ["eq", "lt", "gt", "le", "ge"];
 const LOGIC: [&str; 2] = ["and", "or"];
 const NUMBERS: [&str; 9] = ["0", "1", "7", "42", "-1", "007", "2147483647", "-2147483648", "1000000"];
 
@@ -59,24 +43,16 @@ fn signature(dice: &mut Dice, name: &'static str) -> Signature {
 
 fn formal(dice: &mut Dice) -> (&'static str, Type) {
     let ty = dice.one(&[Type::Int, Type::Bool]);
-    (dice.one(ty.names()), ty)
+    (dice.one(names(ty)), ty)
 }
 
 fn header(tokens: &mut Vec<String>, own: &Signature) {
     push(tokens, &[own.name]);
-    for (i, (name, ty)) in own.formals.iter().enumerate() {
-        push(tokens, &[if i == 0 { "(" } else { "," }, name, ":", ty.word()]);
-    }
+    push_formals(tokens, &own.formals);
     if !own.formals.is_empty() {
         push(tokens, &[")"]);
     }
-    if let Some(result) = own.result {
-        push(tokens, &[":", result.word()]);
-    }
-}
-
-fn push(tokens: &mut Vec<String>, spellings: &[&str]) {
-    tokens.extend(spellings.iter().map(|spelling| (*spelling).to_owned()));
+    push_result(tokens, own.result);
 }
 
 /// A function's body as it is written: blocks that jump to each other, and operations on names that hold a value.
@@ -144,15 +120,13 @@ impl<'a> Body<'a> {
             Type::Int => self.dice.one(&NUMBERS),
             Type::Bool => self.dice.one(&["true", "false"]),
         };
-        let name = self.dice.one(ty.names());
+        let name = self.dice.one(names(ty));
         self.define(name, ty, &["const", value]);
         name
     }
 
     fn define(&mut self, name: &'static str, ty: Type, operation: &[&str]) {
-        push(self.tokens, &[name, ":", ty.word(), "="]);
-        push(self.tokens, operation);
-        push(self.tokens, &[";"]);
+        push_definition(self.tokens, name, ty, operation);
         self.known.push((name, ty));
     }
 
@@ -165,14 +139,14 @@ impl<'a> Body<'a> {
     fn binary(&mut self, operators: &[&'static str], operands: Type, result: Type) {
         let operator = self.dice.one(operators);
         let (left, right) = (self.value(operands), self.value(operands));
-        let name = self.dice.one(result.names());
+        let name = self.dice.one(names(result));
         self.define(name, result, &[operator, left, right]);
     }
 
     fn unary(&mut self) {
         let (operator, ty) = self.dice.one(&[("id", Type::Int), ("id", Type::Bool), ("not", Type::Bool)]);
         let operand = self.value(ty);
-        let name = self.dice.one(ty.names());
+        let name = self.dice.one(names(ty));
         self.define(name, ty, &[operator, operand]);
     }
 
@@ -182,7 +156,7 @@ impl<'a> Body<'a> {
         let call: Vec<&str> = ["call", callee.name].into_iter().chain(arguments).collect();
         match callee.result {
             Some(ty) => {
-                let name = self.dice.one(ty.names());
+                let name = self.dice.one(names(ty));
                 self.define(name, ty, &call);
             }
             None => {

@@ -17,3 +17,4 @@ pub mod programs;
 pub mod records;
 pub mod said;
 pub mod texts;
+pub mod words;

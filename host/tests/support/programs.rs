@@ -1,33 +1,12 @@
 //! Programs to check, by the grammar: most of them well typed, with branches, loops and calls, and copies with one slip or
 //! a few, as a person makes them.
 use super::dice::Dice;
+use super::words::{ARITHMETIC, COMPARISONS, Type, push, push_definition, push_formals, push_result};
 
-#[derive(Clone, Copy, PartialEq, Eq)]
-enum Type {
-    Int,
-    Bool,
-}
-
-impl Type {
-    fn word(self) -> &'static str {
-        match self {
-            Self::Int => "int",
-            Self::Bool => "bool",
-        }
-    }
-
-    fn names(self) -> &'static [&'static str] {
-        match self {
-            Self::Int => &["i", "n", "x1", "total", "k", "m", "add1", "hour", "least"],
-            Self::Bool => &["b", "flag", "is_ok", "t", "cold", "true_", "c3", "on"],
-        }
-    }
-
-    fn other(self) -> Self {
-        match self {
-            Self::Int => Self::Bool,
-            Self::Bool => Self::Int,
-        }
+fn names(ty: Type) -> &'static [&'static str] {
+    match ty {
+        Type::Int => &["i", "n", "x1", "total", "k", "m", "add1", "hour", "least"],
+        Type::Bool => &["b", "flag", "is_ok", "t", "cold", "true_", "c3", "on"],
     }
 }
 
@@ -49,8 +28,6 @@ struct Manner {
     leaves_blocks: bool,
 }
 
-const ARITHMETIC: [&str; 5] = ["add", "mul", "sub", "div", "mod"];
-const COMPARISONS: [&str; 5] = ["eq", "lt", "gt", "le", "ge"];
 const LOGIC: [&str; 3] = ["and", "or", "eq"];
 const NUMBERS: [&str; 7] = ["0", "1", "-7", "42", "007", "2147483647", "-2147483648"];
 
@@ -106,7 +83,7 @@ fn signature(dice: &mut Dice, number: usize) -> Signature {
     // Formals of one name are one name, of one type: its spelling says which.
     let formals = (0..dice.between(0, most)).map(|_| {
         let ty = dice.one(&[Type::Int, Type::Bool]);
-        (dice.one(ty.names()), ty)
+        (dice.one(names(ty)), ty)
     });
     let formals = formals.collect();
     let result = dice.one(&[None, None, Some(Type::Int), Some(Type::Bool)]);
@@ -115,21 +92,13 @@ fn signature(dice: &mut Dice, number: usize) -> Signature {
 
 fn header(dice: &mut Dice, tokens: &mut Vec<String>, own: &Signature) {
     push(tokens, &[&own.name]);
-    for (i, (name, ty)) in own.formals.iter().enumerate() {
-        push(tokens, &[if i == 0 { "(" } else { "," }, name, ":", ty.word()]);
-    }
+    push_formals(tokens, &own.formals);
     match own.formals.is_empty() {
         true if dice.once_in(4) => push(tokens, &["(", ")"]),
         true => {}
         false => push(tokens, &[")"]),
     }
-    if let Some(result) = own.result {
-        push(tokens, &[":", result.word()]);
-    }
-}
-
-fn push(tokens: &mut Vec<String>, spellings: &[&str]) {
-    tokens.extend(spellings.iter().map(|spelling| (*spelling).to_owned()));
+    push_result(tokens, own.result);
 }
 
 // ---- graphs ------------------------------------------------------------------------------------------------------------
@@ -250,13 +219,11 @@ impl Body<'_> {
 
     fn result_name(&mut self, ty: Type) -> &'static str {
         let mixed = self.manner.mixes_types && self.dice.once_in(6);
-        self.dice.one(if mixed { ty.other().names() } else { ty.names() })
+        self.dice.one(if mixed { names(ty.other()) } else { names(ty) })
     }
 
     fn define(&mut self, name: &'static str, ty: Type, operation: &[&str]) {
-        push(self.tokens, &[name, ":", ty.word(), "="]);
-        push(self.tokens, operation);
-        push(self.tokens, &[";"]);
+        push_definition(self.tokens, name, ty, operation);
         self.known.push((name, ty));
     }
 
