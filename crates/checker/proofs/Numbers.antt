@@ -1,8 +1,8 @@
--- Every number of `check` is one of document 01's: 0 for a text that is accepted, a listed one for a text that is refused,
--- and 30 where a lent slice is too short. By cases over lexing, then over what parsing and typing make of the tokens.
-use Prim.Native.Nat.{ℕ}
+-- Every number of `check` is one of document 01's: 0 for a text that is accepted, a listed one for any other, and 30
+-- where a lent slice is too short. By cases over lexing, then over what parsing and typing make of the tokens.
+use Prim.Native.Nat.{ℕ, _≤_}
 use mathlib.Core.Path.{_≡_, refl}
-use mathlib.Core.Logic.{⊎-elim, inl, inr}
+use mathlib.Core.Logic.{inl, inr}
 use mathlib.Core.Bool.{Bool, true, false}
 use mathlib.Core.List.{List, []}
 use native.Mathlib.Omega.{arith}
@@ -70,9 +70,13 @@ accepted-zero : (text : List ℕ) → Accepts text → checkOf text .answer .num
 unfolding checkOf readOf pick
 accepted-zero text a = rw (a .lexed, a .typed)
 
-refused-numbered : (text : List ℕ) → Listed (checkOf text .answer .number) → Numbered text (checkOf text .answer .number)
-refused-numbered text l =
-    inr (λ a. let z = accepted-zero text a in ⊎-elim (λ h. omega (arith, h .0)) (λ h. omega (arith, h .0)) l, l)
+listed-above : (n : ℕ) → Listed n → 1 ≤ n
+listed-above n (inl h) = h .0
+listed-above n (inr h) = omega (arith, h .0)
+
+refused-numbered : (text : List ℕ) → Listed (checkOf text .answer .number)
+    → Numbered text (checkOf text .answer .number)
+refused-numbered text l = inr (λ a. omega (arith, accepted-zero text a, listed-above _ l), l)
 
 -- EVERY NUMBER OF A TEXT IS LISTED, and is 0 exactly where the text is accepted
 pub every-number : (text : List ℕ) → Numbered text (checkOf text .answer .number)
@@ -89,20 +93,23 @@ every-number text = by-lexing (lexedFrom 1 text) refl
     by-lexing (lexes.Outcome.done toks ns) p =
         by-unit toks ns p (unitD (tokensOf (tokensCells toks))) refl
         (unit-listed _ (rw p at (within (lexed-itself text (rw p)))))
-    by-lexing (lexes.Outcome.refused r) p = refused-numbered text (rw (p, ne-eqb _ _ (refusal-number r)) (lexing-listed r))
+    by-lexing (lexes.Outcome.refused r) p =
+        refused-numbered text (rw (p, ne-eqb _ _ (refusal-number r)) (lexing-listed r))
     by-lexing lexes.Outcome.cut p = absurd (never-cut 1 text p)
 
+never-thirty : (text : List ℕ) (n : ℕ) → Numbered text n → n ≡ 30 → ⊥
+never-thirty text n (inl h) z = omega (arith, h .1)
+never-thirty text n (inr (f, inl h)) z = omega (arith, h .1)
+never-thirty text n (inr (f, inr h)) z = omega (arith, h .0)
+
 module _ (text m t n : List ℕ) (u : Slices) where
-  -- 30 IS THE GATE'S: given exactly where a lent slice is shorter than its size
+  -- 30 IS THE GATE'S: it is given exactly where a lent slice is shorter than its size
   pub thirty-is-the-gate : checkDef text m t n u .answer .number ≡ 30 → allSized m t n u ≡ false
   unfolding checkDef pick
   thirty-is-the-gate = by (allSized m t n u) refl
     where
       by : (b : Bool) → allSized m t n u ≡ b → checkDef text m t n u .answer .number ≡ 30 → b ≡ false
-      by true e h = absurd 
-          (let z = rw e at h in
-          ⊎-elim (λ k. omega (arith, k .1)) (λ k. ⊎-elim (λ l. omega (arith, l .1)) (λ l. omega (arith, l .0)) (k .1))
-          (every-number text))
+      by true e h = absurd (never-thirty text _ (every-number text) (rw e at h))
       by false e h = refl
 
   pub gate-gives-thirty : allSized m t n u ≡ false → checkDef text m t n u .answer .number ≡ 30

@@ -1,6 +1,6 @@
--- Every refusal of parsing has one of document 01's numbers for check. One lemma for each step helper, then one for each
--- definition: its own refusals have such numbers, and those of its steps are handed on. A body's room is never used up,
--- since each item goes on by two tokens and stays before the end token.
+-- Every refusal of parsing has one of document 01's numbers for check. One lemma for each step helper, then for the
+-- definitions from below: their own refusals have such numbers, and those of their steps are handed on. A body's room
+-- is never used up, since each item goes on by two tokens and stays before the end token.
 use Prim.Native.Nat.{ℕ, zero, suc, _+_, _≤_, _<_}
 use mathlib.Core.Path.{_≡_, refl}
 use mathlib.Core.Bool.{Bool, true, false}
@@ -40,8 +40,9 @@ use Rattle.body.proofs.Progress.{LabelIn, ItemIn, moves, label-in, item-in}
 use Rattle.functions.specs.Known.{Known, typesAfter}
 use Rattle.functions.specs.Functions.{Header, HeaderAt, header, noHeader, thenHeader, thenFormals, thenEntered}
 use Rattle.functions.specs.Functions.{optionalFormals, optionalType, enteredD, signatureD, headerD, BuiltAt, built}
-use Rattle.functions.specs.Functions.{notBuilt, thenBuilt, resolvedItems, builtD, isVoid, Function, FunctionAt, function}
-use Rattle.functions.specs.Functions.{noFunction, thenFunction, functionD, Program, programStop, knownOf, functionsD}
+use Rattle.functions.specs.Functions.{notBuilt, thenBuilt, resolvedItems, builtD, isVoid, Function, FunctionAt}
+use Rattle.functions.specs.Functions.{function, noFunction, thenFunction, functionD, Program, programStop, knownOf}
+use Rattle.functions.specs.Functions.{functionsD}
 use Rattle.functions.proofs.HeaderOn.{HeaderIn, header-in}
 use Rattle.functions.specs.declared.Entered.{Entered}
 use Rattle.functions.specs.declared.Entered.the-variants as E
@@ -53,6 +54,7 @@ pub data Fine (e : Refusal) : Type 0 where
   low : leb 1 (e .number) ≡ true → leb (e .number) 22 ≡ true → Fine e
   high : leb 31 (e .number) ≡ true → leb (e .number) 38 ≡ true → Fine e
 
+-- for each type of answers: found, or a refusal that is fine
 pub data FineC : Consumed → Type 0 where
   found : (i : ℕ) → FineC (C.At i)
   refused : (e : Refusal) → Fine e → FineC (C.Refused e)
@@ -155,10 +157,15 @@ module _ {A : Type 0} (T : A → Type 0) where
     thenEnteredF k (Is.so (FineE.refused e h)) w g = w e h
 
 ruleset numbers = (Is.so, Fine.low, Fine.high)
+
 ruleset followed = (pickF, lookF, placeF, thenAtF, thenNamedF, thenTypeF, thenDefinedF, thenFormalsF, thenEnteredF)
+
 ruleset founds = (FineC.found, FineN.found, FineR.found, FineD.found, FineI.found, FineE.found, FineH.found, FineS.fine)
+
 ruleset parsed = (FineP.done, FineP.call, FineP.callInto, FineP.refused)
+
 ruleset refusals = (FineC.refused, FineN.refused, FineR.refused, FineD.refused, FineI.refused, FineE.refused)
+
 ruleset shapes = (numbers, followed, founds, parsed, refusals, FineH.refused, FineS.refused)
 
 endedF : (c : Consumed) → Is FineC c → Is FineVs (ended c)
@@ -187,30 +194,18 @@ module _ (ts : List Tok) where
 
   ruleset steps = (shapes, endedF, andThenF, callingF, consumeF, namedF, typeF)
 
-  definedF : (i : ℕ) → Is FineD (definedD ts i)
-  unfolding definedD
-  definedF i = search steps depth 20
-
   valueF : (v : Variable) (i : ℕ) → Is FineP (valueD ts v i)
   unfolding valueD constD unaryD binaryD
   valueF v i = search steps depth 24
 
   instructionF : (i : ℕ) → Is FineP (instructionD ts i)
-  unfolding instructionD printD retD jumpD branchD nopD definitionD
-  instructionF i = search (steps, definedF, valueF) depth 24
-
-  formalF : (full : Bool) (i : ℕ) → Is FineD (formalD ts full i)
-  unfolding formalD
-  formalF full i = search steps depth 18
+  unfolding instructionD printD retD jumpD branchD nopD definitionD definedD
+  instructionF i = search (steps, valueF) depth 24
 
   formalsFromF : (room i : ℕ) → Is FineVs (formalsFromD ts room i)
-  unfolding formalsFromD
-  formalsFromF zero i = search (steps, formalF) depth 14
-  formalsFromF (suc room) i = search (steps, formalF, formalsFromF room) depth 16
-
-  formalsF : (i : ℕ) → Is FineVs (formalsD ts i)
-  unfolding formalsD
-  formalsF i = search (steps, formalsFromF) depth 14
+  unfolding formalsFromD formalD
+  formalsFromF zero i = search steps depth 20
+  formalsFromF (suc room) i = search (steps, formalsFromF room) depth 20
 
   argumentsF : (room i : ℕ) → Is FineVs (argumentsD ts room i)
   unfolding argumentsD
@@ -225,7 +220,7 @@ module _ (ts : List Tok) where
   unfolding labelledD
   labelledF labels i = search steps depth 16
 
-  -- an operation, a call with its arguments
+  -- a call with its arguments, any operation
   calledF : {c : Calling} (make : Identifier → List Variable → Item) → Is FineCalling c → Is FineI (calledItem c make)
   unfolding calledItem
   calledF make (Is.so h) = search shapes depth 14
@@ -241,23 +236,9 @@ module _ (ts : List Tok) where
   unfolding itemD
   itemF i = parsedF (instructionF i)
 
-  -- headers
-  optionalFormalsF : (i : ℕ) → Is FineVs (optionalFormals ts i)
-  unfolding optionalFormals
-  optionalFormalsF i = search (steps, formalsF) depth 14
-
-  optionalTypeF : (i : ℕ) → Is FineR (optionalType ts i)
-  unfolding optionalType
-  optionalTypeF i = search steps depth 14
-
-  enteredF : (known : List Known) (types token : ℕ) (name : Identifier) (signed : List ℕ) (i : ℕ)
-      → Is FineE (enteredD ts known types token name signed i)
-  unfolding enteredD
-  enteredF known types token name signed i = search steps depth 14
-
   headerF : (full : Bool) (known : List Known) (types i : ℕ) → Is FineH (headerD ts full known types i)
-  unfolding headerD signatureD
-  headerF full known types i = search (steps, optionalFormalsF, optionalTypeF, enteredF) depth 20
+  unfolding headerD signatureD optionalFormals formalsD optionalType enteredD
+  headerF full known types i = search (steps, formalsFromF) depth 24
 
 -- Labels. -----------------------------------------------------------------------------------------------------------
 
