@@ -4,3 +4,7 @@ pub mod Lexed
 pub mod Ends
 -- a table that `check` wrote is inside the ranges that recheck asks for
 pub mod Header
+-- every number is one of document 01's for check: those of parsing, of typing, the whole
+pub mod ParsedNumbers
+pub mod TypedNumbers
+pub mod Numbers

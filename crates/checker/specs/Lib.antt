@@ -5,5 +5,7 @@ pub mod Check
 pub mod Promise
 -- the ranges of the header table, for recheck
 pub mod Header
+-- document 01's numbers
+pub mod Numbers
 -- document 01's cases: one table, one claim
 pub mod Cases
