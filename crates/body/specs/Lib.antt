@@ -5,5 +5,5 @@ pub mod Records
 pub mod Room
 -- the whole body
 pub mod Answer
--- one turn of its loop
+-- one turn of its loop: the code's steps, which a reader of document 01 may pass over
 pub mod Turns

@@ -55,13 +55,16 @@ use Rattle.functions.specs.declared.Entered.{Entered}
 use Rattle.functions.specs.declared.Entered.the-variants as E
 use Rattle.lexer.specs.Read.{readOf}
 use Rattle.sema.specs.Program.{programD as typedD}
+use Rattle.sema.specs.Blocks.{blockCountAt}
 use Rattle.sema.specs.declared.Checked.{Checked}
 use Rattle.sema.specs.declared.Checked.the-variants as K
 use Rattle.typing.specs.Outcome.{Outcome, checked, refused, afterTyping, afterParsing, untyped, unitD, none}
 use Rattle.checker.specs.Check.{checkedOr, checkOf}
-use Rattle.checker.specs.Promise.{Lexed}
+use Rattle.checker.specs.declared.CheckAnswer.{CheckAnswer}
+use Rattle.functions.specs.Answer.{Slices}
+use Rattle.checker.specs.Promise.{Lexed, allSized, checkDef, Checks}
 use Rattle.checker.proofs.Lexed.{is-done, tokens-unpadded, read-names, lexed-itself}
-use Rattle.checker.specs.Header.{placeAt, lengthAt, lineAt, blocksAt, formalTypeAt, Between, RowInRange, TableInRange}
+use Rattle.checker.specs.Header.{placeAt, lengthAt, lineAt, formalTypeAt, Between, RowInRange, TableInRange}
 
 -- Types. ------------------------------------------------------------------------------------------------------------
 
@@ -477,7 +480,7 @@ module _ (text : List ℕ) (ts : List Tok) (names rows rest : List ℕ)
         line = rw (cell (lineAt i) 5 (omega arith)) (global .line-in);
         ret = rw (row-ret ts names f first base rows i r h) (g .ret);
         type = rw (row-type ts names f first base rows i r h) (q .1);
-        blocks = rw (cell (blocksAt i) 11 (omega arith)) (q .0 .1);
+        blocks = rw (cell (blockCountAt i) 11 (omega arith)) (q .0 .1);
         formals = rw (row-count ts names f first base rows i r h) (g .few);
         formal-types = λ k l.
             let e : formalTypeAt i k ≡ formalsAt i + k * 2 + 1 = omega arith in
@@ -560,3 +563,18 @@ header-in-range text m = by (eqb (readOf text .answer .number) 0) refl
         rw e
         (by-outcome text m (lexed-itself text (eqb-true _ _ e)) (unitD (tokensOf (readOf text .tokens))) refl)
     by false e = rw e (none-in text m)
+
+sized-in-range : (text m t n : List ℕ) (u : Slices) → (checkDef text m t n u .answer .number ≡ 30 → ⊥)
+    → TableInRange text (checkDef text m t n u .unit .functions)
+unfolding checkDef pick
+sized-in-range text m t n u k = by (allSized m t n u) refl
+  where
+    by : (b : Bool) → allSized m t n u ≡ b → TableInRange text (checkDef text m t n u .unit .functions)
+    by true e = rw e (header-in-range text (length (u .functions)))
+    by false e = absurd (k (rw e refl))
+
+-- .. and so is what stands in the slice that was lent, unless the answer is 30 and nothing is written.
+pub written-in-range : (text m₀ t₀ n₀ : List ℕ) (u₀ : Slices) (r : CheckAnswer) (m t n : List ℕ) (u : Slices)
+    → Checks text m₀ t₀ n₀ u₀ r m t n u → (r .number ≡ 30 → ⊥) → TableInRange text (u .functions)
+written-in-range text m₀ t₀ n₀ u₀ r m t n u p k =
+    rw (p .unit) (sized-in-range text m₀ t₀ n₀ u₀ (λ e. k (ap (λ (a : CheckAnswer). a .number) (p .answer) ∙ e)))

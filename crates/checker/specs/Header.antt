@@ -1,11 +1,12 @@
--- The header table as recheck takes it: the ranges of its cells (docs/INTERFACE.md). That every table that `check` wrote is
--- inside them, with its text, is `header-in-range` (proofs/Header.antt).
+-- The header table as recheck takes it: the ranges of the cells that it looks at (docs/INTERFACE.md). That every table
+-- that `check` wrote is inside them, with its text, is `header-in-range` (proofs/Header.antt).
 use Prim.Native.Nat.{ℕ, _+_, _*_, _≤_, _<_}
 use mathlib.Core.List.{List}
 use lib.ListN.{length, getD}
 use Rattle.functions.specs.Rows.{retAt, typeAt, countAt}
+use Rattle.sema.specs.Blocks.{blockCountAt}
 
--- the cells of row i that the rows themselves don't read: the name's place, its length, its line, and how many blocks
+-- the cells of row i that no other definition reads: the name's place, its length, its line
 abbrev pub placeAt : ℕ → ℕ
 placeAt i = 4 + i * 45
 
@@ -14,9 +15,6 @@ lengthAt i = 5 + i * 45
 
 abbrev pub lineAt : ℕ → ℕ
 lineAt i = 6 + i * 45
-
-abbrev pub blocksAt : ℕ → ℕ
-blocksAt i = 12 + i * 45
 
 -- where formal k's type stands
 abbrev pub formalTypeAt : ℕ → ℕ → ℕ
@@ -34,7 +32,7 @@ pub record RowInRange (text rows : List ℕ) (i : ℕ) : Type 0 where
   pub line : Between 1 16385 (getD rows (lineAt i) 0)
   pub ret : Between 1 3 (getD rows (retAt i) 0)
   pub type : getD rows (typeAt i) 0 < 64
-  pub blocks : Between 1 256 (getD rows (blocksAt i) 0)
+  pub blocks : Between 1 256 (getD rows (blockCountAt i) 0)
   pub formals : getD rows (countAt i) 0 ≤ 16
   pub formal-types : (k : ℕ) → k < getD rows (countAt i) 0 → Between 1 2 (getD rows (formalTypeAt i k) 0)
 

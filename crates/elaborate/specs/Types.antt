@@ -61,7 +61,8 @@ typedArgumentsCells table (i ∷ is) = typedVariables table (argumentsIn i) ++ t
 
 -- What `elaborate` does to cells that hold `count` items from the item `first` on, and their arguments: they hold them
 -- with the types of their operands afterwards, and the cells before and behind are as they were.
-pub record Elaborated (table : List ℕ) (callees : ℕ → ℕ) (first count : ℕ) (items₀ items arguments₀ arguments : List ℕ) : Type 0
+pub record Elaborated (table : List ℕ) (callees : ℕ → ℕ) (first count : ℕ)
+    (items₀ items arguments₀ arguments : List ℕ) : Type 0
   where
     pub items-are : (is : List Item) (used : ℕ) (before behind : List ℕ) → length is ≡ count → length before ≡ first * 8
         → items₀ ≡ before ++ (itemsCells used is ++ behind)

@@ -1,5 +1,5 @@
 -- Document 01's cases that are decided before typing, and the edges of each rule: one table with one claim, shown by
--- computation. A row is a text and what it gives: 0 and its functions, or a refusal's number, token and name.
+-- computation. A row is a text that reads as these functions, or one that is refused and what the refusal holds.
 use Prim.Native.Nat.{ℕ, _+_}
 use Prim.Native.String.{String}
 use mathlib.Core.Path.{_≡_, refl}
@@ -71,62 +71,97 @@ pub record Case : Type 0 where
   pub text : String
   pub gives : List ℕ
 
-abbrev case : String → List ℕ → Case
-case s g = record { text = s; gives = g }
+-- refused: the number, the token's index, and the name's number
+abbrev refuses : String → ℕ → ℕ → ℕ → Case
+refuses s number token name = record { text = s; gives = number ∷ token ∷ name ∷ [] }
+
+abbrev flat : List (List ℕ) → List ℕ
+flat [] = []
+flat (l ∷ ls) = l ++ flat ls
+
+-- accepted, with these functions
+abbrev reads : String → List (List ℕ) → Case
+reads s fs = record { text = s; gives = 0 ∷ length fs ∷ flat fs }
+
+-- a function's name token, its result type, its function type's number, how many formals, and its blocks
+abbrev function : ℕ → ℕ → ℕ → ℕ → List (List ℕ) → List ℕ
+function token ret type formals bs = token ∷ ret ∷ type ∷ formals ∷ length bs ∷ flat bs
+
+-- how many operations a block has, its successors, its predecessors, its dead mark
+abbrev block : ℕ → List ℕ → List ℕ → ℕ → List ℕ
+block operations successors predecessors dead =
+    operations ∷ length successors ∷ (successors ++ (length predecessors ∷ (predecessors ++ (dead ∷ []))))
+
+-- result types
+abbrev int : ℕ
+int = 1
+
+abbrev void : ℕ
+void = 3
 
 unfoldable cases : List Case
 cases =
     -- document 01's
-    case "" (0 ∷ 0 ∷ [])
-    ∷ case "@f { nop; }" (0 ∷ 1 ∷ 0 ∷ 3 ∷ 0 ∷ 0 ∷ 1 ∷ 2 ∷ 0 ∷ 0 ∷ 0 ∷ [])
-    ∷ case "@f { }" (22 ∷ 0 ∷ 0 ∷ [])
-    ∷ case "@f { .a: .b: nop; }" (0 ∷ 1 ∷ 0 ∷ 3 ∷ 0 ∷ 0 ∷ 1 ∷ 2 ∷ 0 ∷ 0 ∷ 0 ∷ [])
-    ∷ case "@f { nop; .a: .b: nop; }" (22 ∷ 0 ∷ 0 ∷ [])
-    ∷ case "@f { ret; nop; }" (12 ∷ 4 ∷ 0 ∷ [])
-    ∷ case "@f { .a: br q .a .a; }" (0 ∷ 1 ∷ 0 ∷ 3 ∷ 0 ∷ 0 ∷ 1 ∷ 1 ∷ 2 ∷ 0 ∷ 0 ∷ 2 ∷ 0 ∷ 0 ∷ 0 ∷ [])
-    ∷ case "@f { x: int = call @g x; } @g(a: int): int { ret a; }"
-    (0 ∷ 2 ∷ 0 ∷ 3 ∷ 0 ∷ 0 ∷ 1 ∷ 2 ∷ 0 ∷ 0 ∷ 0 ∷ 11 ∷ 1 ∷ 1 ∷ 1 ∷ 1 ∷ 1 ∷ 0 ∷ 0 ∷ 0 ∷ [])
-    ∷ case "@f { x: int = const 2147483648; }" (10 ∷ 6 ∷ 0 ∷ [])
-    ∷ case "@f { nop 2147483648; }" (0 ∷ 1 ∷ 0 ∷ 3 ∷ 0 ∷ 0 ∷ 1 ∷ 2 ∷ 0 ∷ 0 ∷ 0 ∷ [])
-    ∷ case "@f { nop; } @f { nop; }"
-    (0 ∷ 2 ∷ 0 ∷ 3 ∷ 0 ∷ 0 ∷ 1 ∷ 2 ∷ 0 ∷ 0 ∷ 0 ∷ 5 ∷ 3 ∷ 0 ∷ 0 ∷ 1 ∷ 2 ∷ 0 ∷ 0 ∷ 0 ∷ [])
-    ∷ case "@f { nop; } @f: int { nop; }" (15 ∷ 5 ∷ 0 ∷ [])
+    reads "" []
+    ∷ reads "@f { nop; }" (function 0 void 0 0 (block 2 [] [] 0 ∷ []) ∷ [])
+    ∷ refuses "@f { }" 22 0 0
+    ∷ reads "@f { .a: .b: nop; }" (function 0 void 0 0 (block 2 [] [] 0 ∷ []) ∷ [])
+    ∷ refuses "@f { nop; .a: .b: nop; }" 22 0 0
+    ∷ refuses "@f { ret; nop; }" 12 4 0
+    ∷ reads "@f { .a: br q .a .a; }" (function 0 void 0 0 (block 1 (0 ∷ 0 ∷ []) (0 ∷ 0 ∷ []) 0 ∷ []) ∷ [])
+    ∷ reads "@f { x: int = call @g x; } @g(a: int): int { ret a; }"
+    (function 0 void 0 0 (block 2 [] [] 0 ∷ [])
+    ∷ function 11 int 1 1 (block 1 [] [] 0 ∷ []) ∷ [])
+    ∷ refuses "@f { x: int = const 2147483648; }" 10 6 0
+    ∷ reads "@f { nop 2147483648; }" (function 0 void 0 0 (block 2 [] [] 0 ∷ []) ∷ [])
+    ∷ reads "@f { nop; } @f { nop; }"
+    (function 0 void 0 0 (block 2 [] [] 0 ∷ [])
+    ∷ function 5 void 0 0 (block 2 [] [] 0 ∷ []) ∷ [])
+    ∷ refuses "@f { nop; } @f: int { nop; }" 15 5 0
     -- edges, predecessors and a dead block
-    ∷ case "@f { jmp .b; .a: nop; .b: br x .a .b; }"
-    (0 ∷ 1 ∷ 0 ∷ 3 ∷ 0 ∷ 0 ∷ 3 ∷ 1 ∷ 1 ∷ 2 ∷ 0 ∷ 0 ∷ 2 ∷ 0 ∷ 1 ∷ 2 ∷ 0 ∷ 1 ∷ 2 ∷ 1 ∷ 2 ∷ 2 ∷ 0 ∷ 2 ∷ 0 ∷ [])
-    ∷ case "@f { ret; .a: nop; }" (0 ∷ 1 ∷ 0 ∷ 3 ∷ 0 ∷ 0 ∷ 2 ∷ 1 ∷ 0 ∷ 0 ∷ 0 ∷ 2 ∷ 0 ∷ 0 ∷ 1 ∷ [])
+    ∷ reads "@f { jmp .b; .a: nop; .b: br x .a .b; }"
+    (function 0 void 0 0
+    (block 1 (2 ∷ []) [] 0 ∷ block 2 [] (2 ∷ []) 0 ∷ block 1 (1 ∷ 2 ∷ []) (0 ∷ 2 ∷ []) 0 ∷ []) ∷ [])
+    ∷ reads "@f { ret; .a: nop; }" (function 0 void 0 0 (block 1 [] [] 0 ∷ block 2 [] [] 1 ∷ []) ∷ [])
     -- blocks are taken in order, and a terminator's labels first then second: 14 has the first that is missing
-    ∷ case "@f { br x .a .b; }" (14 ∷ 2 ∷ 2 ∷ [])
-    ∷ case "@f { .a: br x .a .b; }" (14 ∷ 4 ∷ 3 ∷ [])
-    ∷ case "@f { jmp .z; .a: .b: nop; }" (14 ∷ 2 ∷ 1 ∷ [])
-    ∷ case "@f { nop; .a: .b: jmp .z; }" (22 ∷ 0 ∷ 0 ∷ [])
-    ∷ case "@f { .a: nop; .a: nop; }" (13 ∷ 6 ∷ 0 ∷ [])
-    ∷ case "@f { jmp .a; x: int = add y z; .a: nop; }" (12 ∷ 9 ∷ 0 ∷ [])
-    ∷ case "@f { ret; call @g x; }" (12 ∷ 4 ∷ 0 ∷ [])
+    ∷ refuses "@f { br x .a .b; }" 14 2 2
+    ∷ refuses "@f { .a: br x .a .b; }" 14 4 3
+    ∷ refuses "@f { jmp .z; .a: .b: nop; }" 14 2 1
+    ∷ refuses "@f { nop; .a: .b: jmp .z; }" 22 0 0
+    ∷ refuses "@f { .a: nop; .a: nop; }" 13 6 0
+    ∷ refuses "@f { jmp .a; x: int = add y z; .a: nop; }" 12 9 0
+    ∷ refuses "@f { ret; call @g x; }" 12 4 0
     -- only a void function gets a `ret`
-    ∷ case "@f: int { nop; .a: ret x; }" (0 ∷ 1 ∷ 0 ∷ 1 ∷ 0 ∷ 0 ∷ 2 ∷ 1 ∷ 0 ∷ 0 ∷ 0 ∷ 1 ∷ 0 ∷ 0 ∷ 1 ∷ [])
+    ∷ reads "@f: int { nop; .a: ret x; }" (function 0 int 0 0 (block 1 [] [] 0 ∷ block 1 [] [] 1 ∷ []) ∷ [])
     -- a label needs an operation behind it; what is missing is reported with the token that stands there
-    ∷ case "@f { nop; .a: }" (6 ∷ 6 ∷ 0 ∷ [])
-    ∷ case "@f { print 5; }" (6 ∷ 3 ∷ 0 ∷ [])
-    ∷ case "@f { nop }" (5 ∷ 3 ∷ 0 ∷ [])
-    ∷ case "@f { x: y = id z; }" (9 ∷ 4 ∷ 0 ∷ [])
-    ∷ case "@f { x: int = x; }" (11 ∷ 6 ∷ 0 ∷ [])
-    ∷ case "@f { jmp x; }" (8 ∷ 3 ∷ 0 ∷ [])
-    ∷ case "@f { call f; }" (7 ∷ 3 ∷ 0 ∷ [])
-    ∷ case "@f { nop;" (6 ∷ 4 ∷ 0 ∷ [])
+    ∷ refuses "@f { nop; .a: }" 6 6 0
+    ∷ refuses "@f { print 5; }" 6 3 0
+    ∷ refuses "@f { nop }" 5 3 0
+    ∷ refuses "@f { x: y = id z; }" 9 4 0
+    ∷ refuses "@f { x: int = x; }" 11 6 0
+    ∷ refuses "@f { jmp x; }" 8 3 0
+    ∷ refuses "@f { call f; }" 7 3 0
+    ∷ refuses "@f { nop;" 6 4 0
     -- headers: function types are numbered in text order, and equal types share a number
-    ∷ case "@f(a: int): int { ret a; } @g(b: bool) { nop; } @h(c: int): int { ret c; }"
-    (0 ∷ 3 ∷ 0 ∷ 1 ∷ 0 ∷ 1 ∷ 1 ∷ 1 ∷ 0 ∷ 0 ∷ 0
-    ∷ 13 ∷ 3 ∷ 1 ∷ 1 ∷ 1 ∷ 2 ∷ 0 ∷ 0 ∷ 0 ∷ 23 ∷ 1 ∷ 0 ∷ 1 ∷ 1 ∷ 1 ∷ 0 ∷ 0 ∷ 0 ∷ [])
-    ∷ case "@f(a: int, b: bool) { nop; } @f(c: int, d: int) { nop; }" (15 ∷ 14 ∷ 0 ∷ [])
-    ∷ case "@f() { nop; }" (0 ∷ 1 ∷ 0 ∷ 3 ∷ 0 ∷ 0 ∷ 1 ∷ 2 ∷ 0 ∷ 0 ∷ 0 ∷ [])
-    ∷ case "f" (7 ∷ 0 ∷ 0 ∷ [])
-    ∷ case "@f { nop; } nop" (7 ∷ 5 ∷ 0 ∷ [])
-    ∷ case "@f nop" (5 ∷ 1 ∷ 0 ∷ [])
-    ∷ case "@f(a: int, ) { nop; }" (6 ∷ 6 ∷ 0 ∷ [])
-    ∷ case "@f(a int) { nop; }" (5 ∷ 3 ∷ 0 ∷ [])
-    ∷ case "@f: void { nop; }" (9 ∷ 2 ∷ 0 ∷ [])
-    ∷ case "@f(a: int { nop; }" (5 ∷ 5 ∷ 0 ∷ [])
+    ∷ reads "@f(a: int): int { ret a; } @g(b: bool) { nop; } @h(c: int): int { ret c; }"
+    (function 0 int 0 1 (block 1 [] [] 0 ∷ [])
+    ∷ function 13 void 1 1 (block 2 [] [] 0 ∷ [])
+    ∷ function 23 int 0 1 (block 1 [] [] 0 ∷ []) ∷ [])
+    ∷ refuses "@f(a: int, b: bool) { nop; } @f(c: int, d: int) { nop; }" 15 14 0
+    ∷ reads "@f() { nop; }" (function 0 void 0 0 (block 2 [] [] 0 ∷ []) ∷ [])
+    ∷ refuses "f" 7 0 0
+    ∷ refuses "@f { nop; } nop" 7 5 0
+    ∷ refuses "@f nop" 5 1 0
+    ∷ refuses "@f(a: int, ) { nop; }" 6 6 0
+    ∷ refuses "@f(a int) { nop; }" 5 3 0
+    ∷ refuses "@f: void { nop; }" 9 2 0
+    ∷ refuses "@f(a: int { nop; }" 5 5 0
+    -- sixteen formals and sixteen arguments, and one more
+    ∷ reads "@f(a:int,a:int,a:int,a:int,a:int,a:int,a:int,a:int,a:int,a:int,a:int,a:int,a:int,a:int,a:int,a:int){nop;}"
+    (function 0 void 0 16 (block 2 [] [] 0 ∷ []) ∷ [])
+    ∷ refuses "@f(a:int,a:int,a:int,a:int,a:int,a:int,a:int,a:int,a:int,a:int,a:int,a:int,a:int,a:int,a:int,a:int,a" 36 66 0
+    ∷ reads "@f { call @g a a a a a a a a a a a a a a a a; }" (function 0 void 0 0 (block 2 [] [] 0 ∷ []) ∷ [])
+    ∷ refuses "@f { call @g a a a a a a a a a a a a a a a a a; }" 37 20 0
     ∷ []
 
 right : List Case → Bool

@@ -11,16 +11,13 @@ use crate::Body;
 use crate::Counts;
 use crate::Head;
 use pieces::Identifier;
+use utils::cell_at;
 
 // A name's length, by its record.
 fn name_length(names: &[u32], name: Identifier) -> u32
     ensures { λ r. ⌜ r ≡ getD (now (names .entry)) (name .0 * 2 + 1) 0 ⌝ }
 {
-    let at = name.0 as usize * 2 + 1;
-    if at < names.len() {
-        return names[at];
-    }
-    0
+    cell_at(names, name.0 as usize * 2 + 1)
 }
 
 // The name's token, the name, the closing token, and the name's place, length and line.

@@ -1,5 +1,5 @@
 -- Document 01's cases that typing decides, and the edges of each rule: one table with one claim, shown by computation.
--- A row is a text, and what it gives: 0, or a refusal's number, token, what was wanted, what was found, and its name.
+-- A row is a text that is accepted, or one that is refused and what the refusal holds.
 use Prim.Native.Nat.{ℕ}
 use Prim.Native.String.{String}
 use mathlib.Core.Path.{_≡_, refl}
@@ -61,76 +61,81 @@ pub record Case : Type 0 where
   pub text : String
   pub gives : List ℕ
 
-abbrev case : String → List ℕ → Case
-case s g = record { text = s; gives = g }
+-- accepted
+abbrev accepts : String → Case
+accepts s = record { text = s; gives = 0 ∷ [] }
+
+-- refused: the number, the token's index, what was wanted, what was found, and the name's number
+abbrev refuses : String → ℕ → ℕ → ℕ → ℕ → ℕ → Case
+refuses s number token wanted found name = record { text = s; gives = number ∷ token ∷ wanted ∷ found ∷ name ∷ [] }
 
 unfoldable cases : List Case
 cases =
-    case "@f { x: int = const 1; ret; }" (0 ∷ [])
+    accepts "@f { x: int = const 1; ret; }"
     -- `const` is compared before it is entered
-    ∷ case "@f { x: int = const true; }" (17 ∷ 7 ∷ 1 ∷ 2 ∷ 0 ∷ [])
-    ∷ case "@f { x: int = const 1; x: bool = const true; }" (15 ∷ 14 ∷ 1 ∷ 2 ∷ 1 ∷ [])
-    ∷ case "@f { x: int = const 1; x: bool = const 2; }" (17 ∷ 14 ∷ 2 ∷ 1 ∷ 0 ∷ [])
+    ∷ refuses "@f { x: int = const true; }" 17 7 1 2 0
+    ∷ refuses "@f { x: int = const 1; x: bool = const true; }" 15 14 1 2 1
+    ∷ refuses "@f { x: int = const 1; x: bool = const 2; }" 17 14 2 1 0
     -- operands are looked up before the result is entered
-    ∷ case "@f { x: int = id x; }" (16 ∷ 6 ∷ 0 ∷ 0 ∷ 1 ∷ [])
+    ∷ refuses "@f { x: int = id x; }" 16 6 0 0 1
     -- the result's type first; `eq`: right against left
-    ∷ case "@f { a: bool = const true; c: int = lt a a; }" (17 ∷ 13 ∷ 2 ∷ 1 ∷ 0 ∷ [])
-    ∷ case "@f { a: int = const 1; b: bool = const true; c: int = eq a b; }" (17 ∷ 20 ∷ 1 ∷ 2 ∷ 0 ∷ [])
+    ∷ refuses "@f { a: bool = const true; c: int = lt a a; }" 17 13 2 1 0
+    ∷ refuses "@f { a: int = const 1; b: bool = const true; c: int = eq a b; }" 17 20 1 2 0
     -- a call's result is entered before its arguments
-    ∷ case "@f { x: int = call @g x; } @g(a: int): int { ret a; }" (0 ∷ [])
-    ∷ case "@f { x: int = call @g; }" (16 ∷ 6 ∷ 0 ∷ 0 ∷ 2 ∷ [])
-    ∷ case "@f { x: int = call @f; }" (18 ∷ 6 ∷ 0 ∷ 0 ∷ 0 ∷ [])
-    ∷ case "@f: int { call @f; }" (19 ∷ 4 ∷ 0 ∷ 0 ∷ 0 ∷ [])
-    ∷ case "@f { call @g; } @g(a: int) { ret; }" (20 ∷ 2 ∷ 1 ∷ 0 ∷ 0 ∷ [])
-    ∷ case "@f(a: bool) { call @g a; } @g(a: int) { ret; }" (17 ∷ 7 ∷ 1 ∷ 2 ∷ 0 ∷ [])
+    ∷ accepts "@f { x: int = call @g x; } @g(a: int): int { ret a; }"
+    ∷ refuses "@f { x: int = call @g; }" 16 6 0 0 2
+    ∷ refuses "@f { x: int = call @f; }" 18 6 0 0 0
+    ∷ refuses "@f: int { call @f; }" 19 4 0 0 0
+    ∷ refuses "@f { call @g; } @g(a: int) { ret; }" 20 2 1 0 0
+    ∷ refuses "@f(a: bool) { call @g a; } @g(a: int) { ret; }" 17 7 1 2 0
     -- `ret`; `print` and `br` are never looked up
-    ∷ case "@f { ret x; }" (16 ∷ 2 ∷ 0 ∷ 0 ∷ 1 ∷ [])
-    ∷ case "@f(x: int) { ret x; }" (18 ∷ 7 ∷ 0 ∷ 0 ∷ 0 ∷ [])
-    ∷ case "@f: int { ret; }" (19 ∷ 4 ∷ 0 ∷ 0 ∷ 0 ∷ [])
-    ∷ case "@f { print q; br q .a .a; .a: nop; }" (0 ∷ [])
+    ∷ refuses "@f { ret x; }" 16 2 0 0 1
+    ∷ refuses "@f(x: int) { ret x; }" 18 7 0 0 0
+    ∷ refuses "@f: int { ret; }" 19 4 0 0 0
+    ∷ accepts "@f { print q; br q .a .a; .a: nop; }"
     -- a block without terminator
-    ∷ case "@f { nop; }" (0 ∷ [])
-    ∷ case "@f: int { nop; }" (21 ∷ 4 ∷ 0 ∷ 0 ∷ 0 ∷ [])
+    ∷ accepts "@f { nop; }"
+    ∷ refuses "@f: int { nop; }" 21 4 0 0 0
     -- formals, with the function's name
-    ∷ case "@f(x: int, x: bool) { ret; }" (15 ∷ 0 ∷ 1 ∷ 2 ∷ 1 ∷ [])
+    ∷ refuses "@f(x: int, x: bool) { ret; }" 15 0 1 2 1
     -- the walk's order
-    ∷ case "@f { br q .a .b; .a: x: int = id y; .b: z: int = id w; }" (16 ∷ 13 ∷ 0 ∷ 0 ∷ 5 ∷ [])
-    ∷ case "@f { br q .b .a; .a: x: int = id y; .b: z: int = id w; }" (16 ∷ 22 ∷ 0 ∷ 0 ∷ 7 ∷ [])
+    ∷ refuses "@f { br q .a .b; .a: x: int = id y; .b: z: int = id w; }" 16 13 0 0 5
+    ∷ refuses "@f { br q .b .a; .a: x: int = id y; .b: z: int = id w; }" 16 22 0 0 7
     -- binary operations, kind by kind
-    ∷ case "@f(a: int) { c: int = mod a a; }" (0 ∷ [])
-    ∷ case "@f(a: bool, b: int) { c: int = add a b; }" (17 ∷ 15 ∷ 1 ∷ 2 ∷ 0 ∷ [])
-    ∷ case "@f(a: bool, b: int) { c: int = add b a; }" (17 ∷ 15 ∷ 1 ∷ 2 ∷ 0 ∷ [])
-    ∷ case "@f { c: int = add a b; }" (16 ∷ 6 ∷ 0 ∷ 0 ∷ 2 ∷ [])
-    ∷ case "@f(c: bool, a: bool) { c: int = add a a; }" (15 ∷ 15 ∷ 2 ∷ 1 ∷ 1 ∷ [])
-    ∷ case "@f(a: int) { c: bool = lt a a; }" (0 ∷ [])
-    ∷ case "@f(a: int) { c: bool = ge a a; }" (0 ∷ [])
-    ∷ case "@f(a: bool) { c: bool = ge a a; }" (17 ∷ 11 ∷ 1 ∷ 2 ∷ 0 ∷ [])
-    ∷ case "@f(a: bool) { c: bool = and a a; }" (0 ∷ [])
-    ∷ case "@f(a: int) { c: bool = or a a; }" (17 ∷ 11 ∷ 2 ∷ 1 ∷ 0 ∷ [])
-    ∷ case "@f(a: bool) { c: bool = eq a a; }" (0 ∷ [])
-    ∷ case "@f(a: int) { c: int = eq a a; }" (17 ∷ 11 ∷ 2 ∷ 1 ∷ 0 ∷ [])
+    ∷ accepts "@f(a: int) { c: int = mod a a; }"
+    ∷ refuses "@f(a: bool, b: int) { c: int = add a b; }" 17 15 1 2 0
+    ∷ refuses "@f(a: bool, b: int) { c: int = add b a; }" 17 15 1 2 0
+    ∷ refuses "@f { c: int = add a b; }" 16 6 0 0 2
+    ∷ refuses "@f(c: bool, a: bool) { c: int = add a a; }" 15 15 2 1 1
+    ∷ accepts "@f(a: int) { c: bool = lt a a; }"
+    ∷ accepts "@f(a: int) { c: bool = ge a a; }"
+    ∷ refuses "@f(a: bool) { c: bool = ge a a; }" 17 11 1 2 0
+    ∷ accepts "@f(a: bool) { c: bool = and a a; }"
+    ∷ refuses "@f(a: int) { c: bool = or a a; }" 17 11 2 1 0
+    ∷ accepts "@f(a: bool) { c: bool = eq a a; }"
+    ∷ refuses "@f(a: int) { c: int = eq a a; }" 17 11 2 1 0
     -- unary operations, `ret`
-    ∷ case "@f(a: bool) { c: int = id a; }" (17 ∷ 11 ∷ 1 ∷ 2 ∷ 0 ∷ [])
-    ∷ case "@f(c: bool, a: bool) { c: int = id a; }" (15 ∷ 15 ∷ 2 ∷ 1 ∷ 1 ∷ [])
-    ∷ case "@f(a: int) { c: bool = not a; }" (17 ∷ 11 ∷ 2 ∷ 1 ∷ 0 ∷ [])
-    ∷ case "@f(a: bool) { c: int = not a; }" (17 ∷ 11 ∷ 2 ∷ 1 ∷ 0 ∷ [])
-    ∷ case "@f(a: bool): int { ret a; }" (17 ∷ 9 ∷ 1 ∷ 2 ∷ 0 ∷ [])
+    ∷ refuses "@f(a: bool) { c: int = id a; }" 17 11 1 2 0
+    ∷ refuses "@f(c: bool, a: bool) { c: int = id a; }" 15 15 2 1 1
+    ∷ refuses "@f(a: int) { c: bool = not a; }" 17 11 2 1 0
+    ∷ refuses "@f(a: bool) { c: int = not a; }" 17 11 2 1 0
+    ∷ refuses "@f(a: bool): int { ret a; }" 17 9 1 2 0
     -- calls: type, then entry; arguments looked up, then compared
-    ∷ case "@f { x: bool = call @g; } @g: int { ret x; }" (17 ∷ 6 ∷ 1 ∷ 2 ∷ 0 ∷ [])
-    ∷ case "@f(x: int) { x: bool = call @g; } @g: int { ret x; }" (17 ∷ 11 ∷ 1 ∷ 2 ∷ 0 ∷ [])
-    ∷ case "@f(x: bool) { x: int = call @g; } @g: int { ret x; }" (15 ∷ 11 ∷ 2 ∷ 1 ∷ 1 ∷ [])
-    ∷ case "@f(a: int) { call @g a b; } @g(a: int, b: int) { ret; }" (16 ∷ 7 ∷ 0 ∷ 0 ∷ 3 ∷ [])
+    ∷ refuses "@f { x: bool = call @g; } @g: int { ret x; }" 17 6 1 2 0
+    ∷ refuses "@f(x: int) { x: bool = call @g; } @g: int { ret x; }" 17 11 1 2 0
+    ∷ refuses "@f(x: bool) { x: int = call @g; } @g: int { ret x; }" 15 11 2 1 1
+    ∷ refuses "@f(a: int) { call @g a b; } @g(a: int, b: int) { ret; }" 16 7 0 0 3
     -- .. all of them, before the first is compared
-    ∷ case "@f(a: bool) { call @g a b; } @g(a: int, b: int) { ret; }" (16 ∷ 7 ∷ 0 ∷ 0 ∷ 3 ∷ [])
-    ∷ case "@f(a: int, b: bool) { call @g a b; } @g(a: int, b: int) { ret; }" (17 ∷ 11 ∷ 1 ∷ 2 ∷ 0 ∷ [])
+    ∷ refuses "@f(a: bool) { call @g a b; } @g(a: int, b: int) { ret; }" 16 7 0 0 3
+    ∷ refuses "@f(a: int, b: bool) { call @g a b; } @g(a: int, b: int) { ret; }" 17 11 1 2 0
     -- one table per function, through its blocks; a block that no path reaches comes last
-    ∷ case "@f(x: int) { x: int = const 1; y: int = id x; }" (0 ∷ [])
-    ∷ case "@f { x: int = const 1; jmp .a; .a: y: int = id x; }" (0 ∷ [])
-    ∷ case "@f(x: int) { ret; } @g { y: int = id x; }" (16 ∷ 16 ∷ 0 ∷ 0 ∷ 1 ∷ [])
-    ∷ case "@f { jmp .b; .a: x: int = id y; .b: z: int = id w; }" (16 ∷ 20 ∷ 0 ∷ 0 ∷ 6 ∷ [])
-    ∷ case "@f { ret; .a: x: int = id y; }" (16 ∷ 10 ∷ 0 ∷ 0 ∷ 3 ∷ [])
+    ∷ accepts "@f(x: int) { x: int = const 1; y: int = id x; }"
+    ∷ accepts "@f { x: int = const 1; jmp .a; .a: y: int = id x; }"
+    ∷ refuses "@f(x: int) { ret; } @g { y: int = id x; }" 16 16 0 0 1
+    ∷ refuses "@f { jmp .b; .a: x: int = id y; .b: z: int = id w; }" 16 20 0 0 6
+    ∷ refuses "@f { ret; .a: x: int = id y; }" 16 10 0 0 3
     -- an equal header again
-    ∷ case "@f { call @g; } @g { ret; } @g { ret; }" (0 ∷ [])
+    ∷ accepts "@f { call @g; } @g { ret; } @g { ret; }"
     ∷ []
 
 right : List Case → Bool

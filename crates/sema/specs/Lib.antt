@@ -3,11 +3,11 @@
 pub mod Symbols
 -- one operation
 pub mod Typing
--- the items that cells hold
+-- the items that cells hold: for the code and its proofs, a reader of document 01 may pass over it
 pub mod Items
--- the functions by name
+-- the functions by name: as the cells hold them, likewise
 pub mod Globals
--- a block, a function, all functions
+-- a block, a function; at the end the same by the cells
 pub mod Blocks
 -- all functions, as they were parsed
 pub mod Program

@@ -14,6 +14,7 @@ use crate::compared;
 use crate::entered;
 use crate::symbols;
 use pieces::Identifier;
+use utils::cell_at;
 
 // The first function of this name among n.
 fn find_function(rows: &[u32], n: usize, name: Identifier) -> FoundRow
@@ -35,11 +36,7 @@ fn argument_at(arguments: &[u32], at: usize) -> Identifier
     requires { ⌜ at ≤ 8589934592 ⌝ }
     ensures { λ r. ⌜ r ≡ named (getD (now (arguments .entry)) (at * 2) 0) ⌝ }
 {
-    let i = at * 2;
-    if i < arguments.len() {
-        return Identifier(arguments[i]);
-    }
-    Identifier(0)
+    Identifier(cell_at(arguments, at * 2))
 }
 
 // 16 for the first argument that has no type.

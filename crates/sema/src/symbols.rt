@@ -8,16 +8,13 @@ ghost use Rattle.sema.specs.declared.Checked.the-variants as K;
 use crate::Checked;
 use parser::Refusal;
 use pieces::Identifier;
+use utils::cell_at;
 
 // The type that a name has, or 0.
 pub fn get(table: &[u32], name: Identifier) -> u32
     ensures { λ r. ⌜ r ≡ getD (now (table .entry)) (name .0) 0 ⌝ }
 {
-    let i = name.0 as usize;
-    if i < table.len() {
-        return table[i];
-    }
-    0
+    cell_at(table, name.0 as usize)
 }
 
 // A refusal that names a name or types.
