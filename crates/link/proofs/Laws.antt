@@ -2,11 +2,11 @@
 use Prim.Native.Nat.{ℕ, suc, _+_, _-_, _≤_, _<_}
 use mathlib.Core.Path.{_≡_, refl, ap}
 use mathlib.Core.Bool.{Bool, true, false}
-use mathlib.Core.List.{List, [], _∷_, _++_}
+use mathlib.Core.List.{List, [], _∷_, _++_, map}
 use native.Mathlib.Omega.{arith}
 use borrow.Author.Tests.{eqb-false}
 use lib.Dec.{eqb}
-use lib.ListN.{length}
+use lib.ListN.{length, length-append}
 use Rattle.utils.specs.Bytes.{pick}
 use Rattle.parser.specs.Step.{refusal}
 use Rattle.parser.specs.Labels.{has}
@@ -15,6 +15,7 @@ use Rattle.parser.specs.Edges.{Place, at, nowhere, placeOf, thenPlace, Resolved
 use Rattle.parser.specs.Edges.{resolveFrom, resolveD, places, successors}
 use Rattle.body.specs.Room.{filled}
 use Rattle.link.specs.Table.{leading}
+use Rattle.link.proofs.Partition.{Blocked, final, followed, blocks-are}
 
 -- Successors. -------------------------------------------------------------------------------------------------------
 
@@ -187,7 +188,7 @@ pub blocks-counted : (named : ℕ) (ps : List Part) → resolveD named (blocksOf
     → length (blocksOf ps) ≡ filled true ps
 blocks-counted named ps h = counted-after ps 0 [] (blocks-filled named (blocksOf ps) h)
 
--- Blocks partition the items. ---------------------------------------------------------------------------------------
+-- Where blocks begin and end. ---------------------------------------------------------------------------------------
 
 -- The first block begins at `start`, each later one behind the label that ends the one before, and the last ends at
 -- `end`.
@@ -195,26 +196,25 @@ abbrev pub Parted : ℕ → ℕ → List Block → Type 0
 Parted start end [] = start ≡ end + 1
 Parted start end (b ∷ bs) = (b .first ≡ start) × Parted (b .first + b .operations + 1) end bs
 
-parted-from : (ps : List Part) (here end : ℕ) (b : Block) → b .first + b .operations ≡ here → end ≡ here + length ps
-    → Parted (b .first) end (blocksFrom here b ps)
-unfolding blocksFrom
-parted-from [] here end b h e = (refl, omega arith)
-parted-from (name l ∷ ps) here end b h e =
-    let m : b .first + b .operations + 1 ≡ here + 1 = omega arith in
-    (refl, rw m (parted-from ps (here + 1) end (fresh (l ∷ []) (here + 1)) (omega arith) (omega arith)))
-parted-from (operation w goes ∷ ps) here end b h e =
-    parted-from ps (here + 1) end (grown b w goes) (omega arith) (omega arith)
+parted : (start end here : ℕ) (labels : List ℕ) (ps : List Part) (bs : List Block) → Blocked labels here ps bs
+    → start ≡ here → end ≡ here + length ps → Parted start end bs
+parted start end here labels ps bs (final h) s e = (omega (arith, h .begins), omega (arith, h .begins, h .counted))
+parted start end here labels ps bs (followed {l = l} {ops = ops} {ps = qs} h q) s e =
+    let all = length-append ops (name l ∷ qs) in
+    (omega (arith, h .begins), parted _ end _ _ qs _ q (omega (arith, h .begins, h .counted)) (omega arith))
 
-parted-after : (ps : List Part) (here end start : ℕ) (ls : List ℕ) → start ≡ here + leading ps → end ≡ here + length ps
-    → Parted start end (blocksAfter here ls ps)
-unfolding blocksAfter leading
-parted-after [] here end start ls s e = (omega arith, omega arith)
-parted-after (name l ∷ ps) here end start ls s e =
-    parted-after ps (here + 1) end start (ls ++ (l ∷ [])) (omega arith) (omega arith)
-parted-after (operation w goes ∷ ps) here end start ls s e =
-    let m : start ≡ here = omega arith in
-    rw m (parted-from (operation w goes ∷ ps) here end (fresh ls here) (omega arith) (omega arith))
+leading-are : (labels : List ℕ) (rest : List Part) → leading rest ≡ 0
+    → (leading (map name labels ++ rest) ≡ length labels)
+    × (length (map name labels ++ rest) ≡ length labels + length rest)
+unfolding leading
+leading-are [] rest h = (h, omega arith)
+leading-are (l ∷ ls) rest h =
+    let more = leading-are ls rest h in
+    (omega (arith, more .0), omega (arith, more .1))
 
 -- The first block begins behind the leading labels, each later one behind its label, and the last ends with the items.
 pub blocks-partition : (ps : List Part) → Parted (leading ps) (length ps) (blocksOf ps)
-blocks-partition ps = parted-after ps 0 (length ps) (leading ps) [] (omega arith) (omega arith)
+blocks-partition ps =
+    let p = blocks-are ps in
+    let n = rw (← p .whole) at (leading-are (p .labels) (p .rest) (p .all-leading)) in
+    parted (leading ps) (length ps) _ (p .labels) (p .rest) _ (p .blocked) (n .0) (n .1)

@@ -3,6 +3,7 @@ pub mod Entering
 pub mod Places
 pub mod Closing
 pub mod Cutting
+pub mod Partition
 pub mod Laws
 pub mod Edges
 pub mod Whole
