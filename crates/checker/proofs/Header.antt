@@ -429,7 +429,7 @@ module _ (s : List ℕ) (toks : List Token) (ns : List Part) (v : Sound s 1 toks
       by true l =
           let h = ltb-true i (length toks) l in
           let at : tokenAt ts i
-              ≡ withNext (tokOf (getD toks i noToken)) (pick (eqb (kindOf (getD toks i noToken .value)) 38) i (i + 1)) =
+          ≡ withNext (tokOf (getD toks i noToken)) (pick (eqb (kindOf (getD toks i noToken .value)) 38) i (i + 1)) =
           cells-token-at 0 toks i h in
           rw at (global-is i _ h (rw at at e))
       by false l =

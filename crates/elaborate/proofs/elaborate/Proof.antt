@@ -28,9 +28,13 @@ same-length-2 c = search needs
 returns : tie.Need-returns
 returns c =
     let elaborate-calls = c .before .before .before .before .before .before .elaborate-calls in
-    let elaborate-items = c .before .before .elaborate-items in
-    (elaborate-items .ensures, (elaborate-calls .ensures,
-    rw (elaborate-items .ensures, elaborate-calls .ensures) (elaborated _ _ _ _ _ _)))
+    let elaborate-items = c .before .before .elaborate-items in (
+      elaborate-items .ensures,
+      (
+        elaborate-calls .ensures,
+        rw (elaborate-items .ensures, elaborate-calls .ensures) (elaborated _ _ _ _ _ _),
+      ),
+    )
 
 pub elaborate-spec : {M : Type 1} → statement M
 elaborate-spec =
