@@ -6,12 +6,13 @@ use mathlib.Core.List.{List, [], _∷_}
 use mathlib.Core.Bool.{Bool, true, false}
 use Rattle.utils.specs.Bytes.{pick}
 use Rattle.lexer.specs.Decoded.{Tok, tokenAt}
+use Rattle.parser.specs.Kinds as T
 use Rattle.parser.specs.Blocks.{Part, name, operation}
 
 -- The end token is one of the first 4,096, and this index is not behind it.
 pub record Within (ts : List Tok) (at : ℕ) : Type 0 where
   pub last : ℕ
-  pub ends : tokenAt ts last .kind ≡ 38
+  pub ends : tokenAt ts last .kind ≡ T.endOfFile
   pub reached : at ≤ last
   pub few : last ≤ 4095
 

@@ -7,6 +7,7 @@ use lib.Dec.{eqb}
 use Rattle.utils.specs.Bytes.{pick}
 use Rattle.lexer.specs.Decoded.{Tok, tokenAt}
 use Rattle.pieces.specs.declared.Identifier.{Identifier}
+use Rattle.parser.specs.Kinds as T
 use Rattle.parser.specs.Step.{refusal, look, thenAt, thenNamed, thenType}
 use Rattle.parser.specs.Grammar.{consumeD, globalD, typeD}
 use Rattle.parser.specs.Runs.{Variables, ended, typeCell, formalsD}
@@ -46,18 +47,19 @@ thenFormals fail r k = thenAt fail (r .end) (λ at. k (r .list) at)
 
 -- optionally formals in parentheses
 unfoldable pub optionalFormals : List Tok → ℕ → Variables
-optionalFormals ts at = look (tokenAt ts at) (λ kind next. pick (eqb kind 25) (formalsD ts next) (ended (C.At at)))
+optionalFormals ts at =
+    look (tokenAt ts at) (λ kind next. pick (eqb kind T.leftParen) (formalsD ts next) (ended (C.At at)))
 
 -- optionally colon and type
 unfoldable pub optionalType : List Tok → ℕ → TypeRead
-optionalType ts at = look (tokenAt ts at) (λ kind next. pick (eqb kind 29) (typeD ts next) (R.At Y.Void at))
+optionalType ts at = look (tokenAt ts at) (λ kind next. pick (eqb kind T.colon) (typeD ts next) (R.At Y.Void at))
 
 -- The name is entered with its function type, after the type and before `{`.
 unfoldable pub enteredD : List Tok → List Known → ℕ → ℕ → Identifier → List ℕ → ℕ → Entered
 enteredD ts known types token name signed at =
     let type = typeNumber known signed types in
     let expected = expectedType known (name .0) type in
-    pick (eqb expected type) (thenAt E.Refused (consumeD ts at 27) (λ next. E.At type next))
+    pick (eqb expected type) (thenAt E.Refused (consumeD ts at T.leftBrace) (λ next. E.At type next))
     (E.Refused (unexpected token name))
 
 unfoldable pub thenEntered : {A : Type 0} → (Refusal → A) → Entered → (ℕ → ℕ → A) → A
@@ -150,11 +152,11 @@ knownOf h = record { name = h .name .0; type = h .type; signed = signature (h .r
 unfoldable pub functionsD : List Tok → ℕ → List Known → ℕ → ℕ → Program
 functionsD ts zero known types at =
     look (tokenAt ts at) (λ kind next.
-    pick (eqb kind 38) (programEnd (C.At at))
+    pick (eqb kind T.endOfFile) (programEnd (C.At at))
     (thenFunction programStop (functionD ts true known types at) (λ f. programStop (refusal 35 at 0))))
 functionsD ts (suc room) known types at =
     look (tokenAt ts at) (λ kind next.
-    pick (eqb kind 38) (programEnd (C.At at))
+    pick (eqb kind T.endOfFile) (programEnd (C.At at))
     (thenFunction programStop (functionD ts false known types at) (λ f.
     programThen f
     (functionsD ts room (known ++ (knownOf (f .head) ∷ [])) (typesAfter types (f .head .type)) (f .next)))))

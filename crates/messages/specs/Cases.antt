@@ -14,6 +14,7 @@ use Rattle.pieces.specs.declared.OptionValue.the-variants as O
 use Rattle.lexer.specs.Cases as lexing
 use Rattle.lexer.specs.Read.{readOf}
 use Rattle.lexer.specs.Decoded.{tokensOf, tokenAt, nameOf}
+use Rattle.parser.specs.Kinds as T
 use Rattle.parser.specs.declared.Refusal.{Refusal}
 use Rattle.messages.specs.Messages.{words, signed, shown, typeWord, atToken, itemOf, fixed, textOf, messageOf}
 
@@ -44,12 +45,12 @@ cases =
     -- document 01's
     case "@f { x: int = const true; }" (facts 17 7 1 2 0) "[line 1] Error at 'true': 'int' type expected; 'bool' found"
     -- 5: what stands there, and what was wanted
-    ∷ case "@f { nop }" (facts 5 3 30 0 0) "[line 1] Error at '}': ';' expected."
-    ∷ case "@f\nnop" (facts 5 1 27 0 0) "[line 2] Error at 'nop': '{' expected."
-    ∷ case "@f { .a nop; }" (facts 5 3 29 0 0) "[line 1] Error at 'nop': ':' expected."
-    ∷ case "@f { x int = id y; }" (facts 5 3 29 0 0) "[line 1] Error at 'int': ':' expected."
-    ∷ case "@f { x: int id y; }" (facts 5 5 24 0 0) "[line 1] Error at 'id': '=' expected."
-    ∷ case "@f(x: int { nop; }" (facts 5 5 26 0 0) "[line 1] Error at '{': ')' expected."
+    ∷ case "@f { nop }" (facts 5 3 T.semicolon 0 0) "[line 1] Error at '}': ';' expected."
+    ∷ case "@f\nnop" (facts 5 1 T.leftBrace 0 0) "[line 2] Error at 'nop': '{' expected."
+    ∷ case "@f { .a nop; }" (facts 5 3 T.colon 0 0) "[line 1] Error at 'nop': ':' expected."
+    ∷ case "@f { x int = id y; }" (facts 5 3 T.colon 0 0) "[line 1] Error at 'int': ':' expected."
+    ∷ case "@f { x: int id y; }" (facts 5 5 T.define 0 0) "[line 1] Error at 'id': '=' expected."
+    ∷ case "@f(x: int { nop; }" (facts 5 5 T.rightParen 0 0) "[line 1] Error at '{': ')' expected."
     -- 6 to 8: integers from their 32 bits, names by their number
     ∷ case "@f { print 5; }" (plain 6 3) "[line 1] Error at '5': Local identifier expected."
     ∷ case "@f { print -5; }" (plain 6 3) "[line 1] Error at '-5': Local identifier expected."

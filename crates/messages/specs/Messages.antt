@@ -9,6 +9,7 @@ use Rattle.utils.specs.Bytes.{pick, bytes}
 use Rattle.utils.specs.Message.{decimal, reported}
 use Rattle.lexer.specs.Decoded.{Tok, tokenAt, nameOf}
 use Rattle.lexer.specs.declared.TokenAt.{TokenAt}
+use Rattle.parser.specs.Kinds as T
 use Rattle.parser.specs.declared.Refusal.{Refusal}
 
 -- Words. --------------------------------------------------------------------------------------------------------------
@@ -67,7 +68,10 @@ signed bits = pick (ltb bits 2147483648) (decimal bits) (bytes "-" ++ decimal (4
 
 -- a token as Display shows it: `local_3` with the name's number, an integer, or the word or sign
 unfoldable pub shown : ℕ → ℕ → List ℕ
-shown kind value = pick (ltb 4 kind) (wordOf kind) (pick (eqb kind 4) (signed value) (wordOf kind ++ decimal value))
+shown kind value =
+    pick (ltb T.integer kind) (wordOf kind)
+    (pick (eqb kind T.integer) (signed value)
+    (wordOf kind ++ decimal value))
 
 -- Display for Type (ir.rs), by a type's cell
 unfoldable pub typeWord : ℕ → List ℕ
@@ -85,7 +89,7 @@ quoted s = bytes "'" ++ (s ++ bytes "'")
 
 -- Token::error (lexer.rs): the token itself
 unfoldable pub atToken : ℕ → ℕ → List ℕ
-atToken kind value = pick (eqb kind 38) (bytes "at end of file") (bytes "at " ++ quoted (shown kind value))
+atToken kind value = pick (eqb kind T.endOfFile) (bytes "at end of file") (bytes "at " ++ quoted (shown kind value))
 
 -- SymbolTable and LabelsToBlocks (ir.rs, parser.rs): a name as the text spells it
 abbrev pub atName : List ℕ → List ℕ

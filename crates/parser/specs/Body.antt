@@ -6,6 +6,7 @@ use lib.Dec.{eqb}
 use Rattle.utils.specs.Bytes.{pick}
 use Rattle.lexer.specs.Decoded.{Tok, tokenAt}
 use Rattle.pieces.specs.declared.Identifier.{Identifier}
+use Rattle.parser.specs.Kinds as T
 use Rattle.parser.specs.Step.{refusal, look, thenAt, thenNamed}
 use Rattle.parser.specs.Grammar.{instructionD}
 use Rattle.parser.specs.Runs.{Variables, Calling, callD}
@@ -137,7 +138,7 @@ behind i = pick (isTerminator i) afterTerminator afterOperation
 
 -- the closing brace ends the body, but not right behind a label: there an operation has to stand
 unfoldable pub closes : ℕ → ℕ → Bool
-closes before kind = pick (eqb before afterLabel) false (eqb kind 28)
+closes before kind = pick (eqb before afterLabel) false (eqb kind T.rightBrace)
 
 -- From after the opening brace: `room` bounds the items, and is never used up, since an item takes two tokens of at
 -- most 4,096 (`Reading`, crates/body/proofs); `labels` are the labels so far. An operation after a terminator in the
@@ -147,7 +148,7 @@ bodyD ts zero labels before at = bodyStop (refusal 0 at 0)
 bodyD ts (suc room) labels before at =
     look (tokenAt ts at) (λ kind next.
     pick (closes before kind) (bodyEnd (C.At next))
-    (pick (eqb kind 3)
+    (pick (eqb kind T.label)
     (thenNamed bodyStop (labelledD ts labels at) (λ l at1.
     bodyThen (label at l) (bodyD ts room (labels ++ (l .0 ∷ [])) afterLabel at1)))
     (thenItem bodyStop (itemD ts at) (λ i at1.

@@ -1,10 +1,12 @@
--- The grammar of one operation (parse_instruction and parse_type of parser.rs), over the tokens and an index.
+-- The grammar of one operation (parse_instruction and parse_type of parser.rs), over the tokens and an index. `T.int`
+-- and so on are the kinds of tokens (Kinds.antt).
 use Prim.Native.Nat.{ℕ}
 use mathlib.Core.List.{List}
 use mathlib.Core.Bool.{Bool, true, false}
 use lib.Dec.{leb, eqb}
 use Rattle.utils.specs.Bytes.{pick}
 use Rattle.lexer.specs.Decoded.{Tok, tokenAt}
+use Rattle.parser.specs.Kinds as T
 use Rattle.parser.specs.Step.{refusal, look, thenAt, thenNamed, thenType, thenDefined}
 use Rattle.parser.specs.declared.Ty.the-variants as Y
 use Rattle.parser.specs.declared.Variable.{Variable}
@@ -20,9 +22,6 @@ use Rattle.parser.specs.declared.Defined.the-variants as D
 use Rattle.parser.specs.declared.Parsed.{Parsed}
 use Rattle.parser.specs.declared.Parsed.the-variants as P
 
--- The kinds of tokens are those of `kindOf` (crates/pieces/specs/Tokens.antt): 1 local, 2 global, 3 label, 4 integer,
--- 5 to 23 and 32 to 37 the words, 24 `=`, 25 `(`, 26 `)`, 27 `{`, 28 `}`, 29 `:`, 30 `;`, 31 `,`, 38 the end.
-
 -- 't' expected (5).
 unfoldable pub consumeD : List Tok → ℕ → ℕ → Consumed
 consumeD ts at kind =
@@ -35,20 +34,20 @@ namedD ts at kind number =
     pick (eqb (t .kind) kind) (N.At (record { 0 = t .value }) (t .next)) (N.Refused (refusal number at 0))
 
 abbrev pub localD : List Tok → ℕ → Named
-localD ts at = namedD ts at 1 6
+localD ts at = namedD ts at T.local 6
 
 abbrev pub globalD : List Tok → ℕ → Named
-globalD ts at = namedD ts at 2 7
+globalD ts at = namedD ts at T.global 7
 
 abbrev pub labelD : List Tok → ℕ → Named
-labelD ts at = namedD ts at 3 8
+labelD ts at = namedD ts at T.label 8
 
 -- Types are `int`, `bool`. Type expected (9).
 unfoldable pub typeD : List Tok → ℕ → TypeRead
 typeD ts at =
     look (tokenAt ts at) (λ k next.
-    pick (eqb k 32) (R.At Y.Int next)
-    (pick (eqb k 33) (R.At Y.Bool next)
+    pick (eqb k T.int) (R.At Y.Int next)
+    (pick (eqb k T.bool) (R.At Y.Bool next)
     (R.Refused (refusal 9 at 0))))
 
 -- Statements: `word` is the index of the operation's word, `at` of the token after it. ------------------------------
@@ -56,21 +55,21 @@ typeD ts at =
 unfoldable pub printD : List Tok → ℕ → ℕ → Parsed
 printD ts word at =
     thenNamed P.Refused (localD ts at) (λ x at1.
-    thenAt P.Refused (consumeD ts at1 30) (λ at2.
+    thenAt P.Refused (consumeD ts at1 T.semicolon) (λ at2.
     P.Done (O.Print word x) at2))
 
 unfoldable pub retD : List Tok → ℕ → ℕ → Parsed
 retD ts word at =
     look (tokenAt ts at) (λ k next.
-    pick (eqb k 30) (P.Done (O.Ret word) next)
+    pick (eqb k T.semicolon) (P.Done (O.Ret word) next)
     (thenNamed P.Refused (localD ts at) (λ x at1.
-    thenAt P.Refused (consumeD ts at1 30) (λ at2.
+    thenAt P.Refused (consumeD ts at1 T.semicolon) (λ at2.
     P.Done (O.RetValue word x) at2))))
 
 unfoldable pub jumpD : List Tok → ℕ → ℕ → Parsed
 jumpD ts word at =
     thenNamed P.Refused (labelD ts at) (λ l at1.
-    thenAt P.Refused (consumeD ts at1 30) (λ at2.
+    thenAt P.Refused (consumeD ts at1 T.semicolon) (λ at2.
     P.Done (O.Jump word l) at2))
 
 unfoldable pub branchD : List Tok → ℕ → ℕ → Parsed
@@ -78,11 +77,11 @@ branchD ts word at =
     thenNamed P.Refused (localD ts at) (λ x at1.
     thenNamed P.Refused (labelD ts at1) (λ l at2.
     thenNamed P.Refused (labelD ts at2) (λ m at3.
-    thenAt P.Refused (consumeD ts at3 30) (λ at4.
+    thenAt P.Refused (consumeD ts at3 T.semicolon) (λ at4.
     P.Done (O.Branch word x l m) at4))))
 
 unfoldable pub nopD : List Tok → ℕ → ℕ → Parsed
-nopD ts word at = thenAt P.Refused (consumeD ts at 30) (λ at1. P.Done (O.Nop word) at1)
+nopD ts word at = thenAt P.Refused (consumeD ts at T.semicolon) (λ at1. P.Done (O.Nop word) at1)
 
 -- Operations with a result. -----------------------------------------------------------------------------------------
 
@@ -90,54 +89,55 @@ nopD ts word at = thenAt P.Refused (consumeD ts at 30) (λ at1. P.Done (O.Nop wo
 unfoldable pub definedD : List Tok → ℕ → Defined
 definedD ts at =
     thenNamed D.Refused (localD ts at) (λ x at1.
-    thenAt D.Refused (consumeD ts at1 29) (λ at2.
+    thenAt D.Refused (consumeD ts at1 T.colon) (λ at2.
     thenType D.Refused (typeD ts at2) (λ t at3.
-    thenAt D.Refused (consumeD ts at3 24) (λ at4.
+    thenAt D.Refused (consumeD ts at3 T.define) (λ at4.
     D.At (record { id = x; ty = t }) at4))))
 
 -- `true`, `false` or an integer
 unfoldable pub isConstant : ℕ → Bool
-isConstant k = pick (eqb k 4) true (pick (eqb k 10) true (eqb k 11))
+isConstant k = pick (eqb k T.integer) true (pick (eqb k T.true) true (eqb k T.false))
 
 -- Integer or boolean constant expected (10), with the word `const`; the operation's token is the value.
 unfoldable pub constD : List Tok → Variable → ℕ → ℕ → Parsed
 constD ts v word at =
     look (tokenAt ts at) (λ k next.
-    pick (isConstant k) (thenAt P.Refused (consumeD ts next 30) (λ at1. P.Done (O.Const at v) at1))
+    pick (isConstant k) (thenAt P.Refused (consumeD ts next T.semicolon) (λ at1. P.Done (O.Const at v) at1))
     (P.Refused (refusal 10 word 0)))
 
 unfoldable pub unaryD : List Tok → Variable → ℕ → ℕ → Parsed
 unaryD ts v word at =
     thenNamed P.Refused (localD ts at) (λ x at1.
-    thenAt P.Refused (consumeD ts at1 30) (λ at2.
+    thenAt P.Refused (consumeD ts at1 T.semicolon) (λ at2.
     P.Done (O.UnaryOp word v x) at2))
 
 unfoldable pub binaryD : List Tok → Variable → ℕ → ℕ → Parsed
 binaryD ts v word at =
     thenNamed P.Refused (localD ts at) (λ x at1.
     thenNamed P.Refused (localD ts at1) (λ y at2.
-    thenAt P.Refused (consumeD ts at2 30) (λ at3.
+    thenAt P.Refused (consumeD ts at2 T.semicolon) (λ at3.
     P.Done (O.BinaryOp word v x y) at3)))
 
 -- `id`, `not`
 unfoldable pub isUnary : ℕ → Bool
-isUnary k = pick (eqb k 17) true (eqb k 37)
+isUnary k = pick (eqb k T.not) true (eqb k T.id)
 
--- `add` `mul` `sub` `div` `mod`, `eq` `lt` `gt` `le` `ge`, `and` `or`
+-- `add` `mul` `sub` `div` `mod`, `eq` `lt` `gt` `le` `ge`, `and` `or`. The kinds stand in this order: an integer, the
+-- first five words, `true` and `false`, the next five, `not`, and the last two.
 unfoldable pub isBinary : ℕ → Bool
 isBinary k =
-    pick (leb k 4) false
-    (pick (leb k 9) true
-    (pick (leb k 11) false
-    (pick (leb k 16) true
-    (pick (eqb k 18) true (eqb k 19)))))
+    pick (leb k T.integer) false
+    (pick (leb k T.«mod») true
+    (pick (leb k T.false) false
+    (pick (leb k T.ge) true
+    (pick (eqb k T.and) true (eqb k T.or)))))
 
 -- What stands after `=`: a call, a constant, a unary or a binary operation. Unexpected token (11).
 unfoldable pub valueD : List Tok → Variable → ℕ → Parsed
 valueD ts v at =
     look (tokenAt ts at) (λ k next.
-    pick (eqb k 22) (P.CallInto v at)
-    (pick (eqb k 34) (constD ts v at next)
+    pick (eqb k T.call) (P.CallInto v at)
+    (pick (eqb k T.const) (constD ts v at next)
     (pick (isUnary k) (unaryD ts v at next)
     (pick (isBinary k) (binaryD ts v at next)
     (P.Refused (refusal 11 at 0))))))
@@ -149,10 +149,10 @@ definitionD ts at = thenDefined P.Refused (definedD ts at) (λ v at1. valueD ts 
 unfoldable pub instructionD : List Tok → ℕ → Parsed
 instructionD ts at =
     look (tokenAt ts at) (λ k next.
-    pick (eqb k 35) (printD ts at next)
-    (pick (eqb k 23) (retD ts at next)
-    (pick (eqb k 20) (jumpD ts at next)
-    (pick (eqb k 21) (branchD ts at next)
-    (pick (eqb k 36) (nopD ts at next)
-    (pick (eqb k 22) (P.Call at)
+    pick (eqb k T.print) (printD ts at next)
+    (pick (eqb k T.ret) (retD ts at next)
+    (pick (eqb k T.jmp) (jumpD ts at next)
+    (pick (eqb k T.br) (branchD ts at next)
+    (pick (eqb k T.nop) (nopD ts at next)
+    (pick (eqb k T.call) (P.Call at)
     (definitionD ts at)))))))

@@ -1,4 +1,6 @@
 -- What the parser takes a token for, in reading order.
+-- the kinds of tokens by name
+pub mod Kinds
 -- refusals, and what follows a step
 pub mod Step
 -- the grammar of one operation

@@ -11,6 +11,7 @@ use Rattle.utils.specs.Bytes.{pick}
 use Rattle.lexer.specs.Decoded.{Tok, tokenAt}
 use Rattle.lexer.specs.declared.TokenAt.{TokenAt}
 use Rattle.pieces.specs.declared.Identifier.{Identifier}
+use Rattle.parser.specs.Kinds as T
 use Rattle.parser.specs.Step.{refusal}
 use Rattle.parser.specs.Runs.{Variables, stopped, Calling, calling}
 use Rattle.parser.specs.Body.{Item, ItemAt, Body}
@@ -40,9 +41,9 @@ pub record Move : Type 0 where
   pub name : ℕ → ℕ
   pub apart : (x y : ℕ) → x < names → y < names → name x ≡ name y → x ≡ y
 
--- kinds 1 to 3 are names
+-- locals, globals and labels, the first kinds
 unfoldable pub isName : ℕ → Bool
-isName k = pick (leb k 0) false (leb k 3)
+isName k = pick (leb k 0) false (leb k T.label)
 
 -- a token, moved
 abbrev pub moveT : Move → TokenAt → TokenAt
@@ -55,12 +56,12 @@ moveT m t =
       next = m .by + t .next;
     }
 
--- The first n tokens of ts′ stand in ts from `by` on. Only a closing brace, 28, may be the last of them.
+-- The first n tokens of ts′ stand in ts from `by` on. Only a closing brace may be the last of them.
 pub record Sim (m : Move) (n : ℕ) (ts ts′ : List Tok) : Type 0 where
   pub same : (i : ℕ) → i < n → tokenAt ts (m .by + i) ≡ moveT m (tokenAt ts′ i)
   pub fit : (i : ℕ) → i < n → isName (tokenAt ts′ i .kind) ≡ true → tokenAt ts′ i .value < m .names
   pub near : (i : ℕ) → i < n → tokenAt ts′ i .next ≤ n
-  pub inner : (i : ℕ) → i < n → (tokenAt ts′ i .kind ≡ 28 → ⊥) → tokenAt ts′ i .next < n
+  pub inner : (i : ℕ) → i < n → (tokenAt ts′ i .kind ≡ T.rightBrace → ⊥) → tokenAt ts′ i .next < n
 
 pub data SimName (m : Move) : Identifier → Identifier → Type 0 where
   renamed : (x : ℕ) → x < m .names → SimName m (record { 0 = m .name x }) (record { 0 = x })

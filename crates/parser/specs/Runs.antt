@@ -8,6 +8,7 @@ use lib.ListN.{length}
 use Rattle.utils.specs.Bytes.{pick}
 use Rattle.lexer.specs.Decoded.{Tok, tokenAt}
 use Rattle.pieces.specs.declared.Identifier.{Identifier}
+use Rattle.parser.specs.Kinds as T
 use Rattle.parser.specs.Step.{refusal, look, thenAt, thenNamed, thenType, thenDefined}
 use Rattle.parser.specs.Grammar.{consumeD, localD, globalD, typeD}
 use Rattle.parser.specs.declared.Refusal.{Refusal}
@@ -64,7 +65,7 @@ unfoldable pub formalD : List Tok → Bool → ℕ → Defined
 formalD ts full at =
     thenNamed D.Refused (localD ts at) (λ x at1.
     pick full (D.Refused (refusal 36 at 0))
-    (thenAt D.Refused (consumeD ts at1 29) (λ at2.
+    (thenAt D.Refused (consumeD ts at1 T.colon) (λ at2.
     thenType D.Refused (typeD ts at2) (λ t at3.
     D.At (variable x t) at3))))
 
@@ -75,25 +76,26 @@ formalsFromD ts zero at = thenDefined stopped (formalD ts true at) (λ v at1. st
 formalsFromD ts (suc room) at =
     thenDefined stopped (formalD ts false at) (λ v at1.
     andThen v
-    (look (tokenAt ts at1) (λ k next. pick (eqb k 31) (formalsFromD ts room next) (ended (consumeD ts at1 26)))))
+    (look (tokenAt ts at1) (λ k next.
+    pick (eqb k T.comma) (formalsFromD ts room next) (ended (consumeD ts at1 T.rightParen)))))
 
 -- the closing parenthesis behind n formals
 unfoldable pub closedD : List Tok → ℕ → ℕ → Run
-closedD ts at n = thenAt U.Refused (consumeD ts at 26) (λ i. U.Done n i)
+closedD ts at n = thenAt U.Refused (consumeD ts at T.rightParen) (λ i. U.Done n i)
 
 -- From after the opening parenthesis.
 unfoldable pub formalsD : List Tok → ℕ → Variables
-formalsD ts at = look (tokenAt ts at) (λ k next. pick (eqb k 26) (ended (C.At next)) (formalsFromD ts 16 at))
+formalsD ts at = look (tokenAt ts at) (λ k next. pick (eqb k T.rightParen) (ended (C.At next)) (formalsFromD ts 16 at))
 
 -- Arguments, locals up to the semicolon. Their types are not known yet.
 unfoldable pub argumentsD : List Tok → ℕ → ℕ → Variables
 argumentsD ts zero at =
     look (tokenAt ts at) (λ k next.
-    pick (eqb k 30) (ended (C.At next))
+    pick (eqb k T.semicolon) (ended (C.At next))
     (thenNamed stopped (localD ts at) (λ x at1. stopped (refusal 37 at 0))))
 argumentsD ts (suc room) at =
     look (tokenAt ts at) (λ k next.
-    pick (eqb k 30) (ended (C.At next))
+    pick (eqb k T.semicolon) (ended (C.At next))
     (thenNamed stopped (localD ts at) (λ x at1. andThen (variable x Y.Placeholder) (argumentsD ts room at1))))
 
 -- A call from its word: the callee, and the arguments behind it.
@@ -109,7 +111,7 @@ uncalled e = calling (record { 0 = 0 }) (stopped e)
 
 unfoldable pub callD : List Tok → ℕ → Calling
 callD ts word =
-    thenAt uncalled (consumeD ts word 22) (λ at.
+    thenAt uncalled (consumeD ts word T.call) (λ at.
     thenNamed uncalled (globalD ts at) (λ g at1.
     calling g (argumentsD ts 16 at1)))
 

@@ -17,6 +17,9 @@ use Rattle.parser.specs.declared.TypeRead.the-variants as R
 use Rattle.parser.specs.declared.Defined.{Defined}
 use Rattle.parser.specs.declared.Defined.the-variants as D
 
+-- What a refusal's `wanted` and `found` hold: for 5 the kind that had to stand there, and 0; for 15 the cells of the
+-- type that the name has and of the one it is entered with; for 17 the cells of two types; for 20 two counts of
+-- arguments; for all others 0 and 0. Its `name` is the one that 14, 15 and 16 spell.
 abbrev pub refusal : ℕ → ℕ → ℕ → Refusal
 refusal number token wanted =
     record { number = number; token = token; wanted = wanted; found = 0; name = record { 0 = 0 } }

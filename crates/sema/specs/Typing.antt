@@ -8,6 +8,7 @@ use lib.ListN.{length, getD}
 use Rattle.utils.specs.Bytes.{pick}
 use Rattle.lexer.specs.Decoded.{Tok, tokenAt}
 use Rattle.pieces.specs.declared.Identifier.{Identifier}
+use Rattle.parser.specs.Kinds as T
 use Rattle.parser.specs.Step.{refusal}
 use Rattle.parser.specs.Runs.{typeCell}
 use Rattle.parser.specs.Body.{Item, label, plain, call, callInto}
@@ -33,13 +34,14 @@ thenThree t token result left right wantedResult wantedOperands =
     (thenSame t token left wantedOperands
     (thenSame t token right wantedOperands (on t)))
 
--- What is compared: result type, left, right; `eq`: right against left, then result. The kinds are those of the
--- operators' words: 5 to 9 arithmetic, 12 `eq`, 13 to 16 comparisons, 18 and 19 `and`, `or`.
+-- What is compared: result type, left, right; `eq`: right against left, then result. The kind is that of the operator's
+-- word, and they stand in this order (crates/parser/specs/Kinds.antt): `add` `mul` `sub` `div` `mod`, then `eq`, then
+-- `lt` `gt` `le` `ge`, then `and` `or`.
 unfoldable pub operandsD : List ℕ → ℕ → ℕ → ℕ → ℕ → ℕ → Typed
 operandsD t kind token result left right =
-    pick (leb kind 9) (thenThree t token result left right int int)
-    (pick (eqb kind 12) (thenSame t token right left (thenSame t token result bool (on t)))
-    (pick (leb kind 16) (thenThree t token result left right bool int)
+    pick (leb kind T.«mod») (thenThree t token result left right int int)
+    (pick (eqb kind T.eq) (thenSame t token right left (thenSame t token result bool (on t)))
+    (pick (leb kind T.ge) (thenThree t token result left right bool int)
     (thenThree t token result left right bool bool)))
 
 -- Binary: left, right looked up; result entered; then compared.
@@ -49,10 +51,10 @@ binaryD t kind token result type x y =
     thenLook t token y (λ right.
     thenTyped (enterD t token result type) (λ t1. operandsD t1 kind token type left right)))
 
--- What is compared: `id` (37): operand against result; `not`: result, operand.
+-- What is compared: `id`: operand against result; `not`: result, operand.
 unfoldable pub operandD : List ℕ → ℕ → ℕ → ℕ → ℕ → Typed
 operandD t kind token type operand =
-    pick (eqb kind 37) (thenSame t token operand type (on t))
+    pick (eqb kind T.id) (thenSame t token operand type (on t))
     (thenSame t token type bool (thenSame t token operand bool (on t)))
 
 -- Unary: operand looked up; result entered; then compared.
@@ -61,10 +63,10 @@ unaryD t kind token result type x =
     thenLook t token x (λ operand.
     thenTyped (enterD t token result type) (λ t1. operandD t1 kind token type operand))
 
--- `const`: type against result, then entered. An integer's kind is 4.
+-- `const`: type against result, then entered.
 unfoldable pub constD : List ℕ → ℕ → ℕ → Identifier → ℕ → Typed
 constD t kind token result type =
-    thenSame t token (pick (eqb kind 4) int bool) type (enterD t token result type)
+    thenSame t token (pick (eqb kind T.integer) int bool) type (enterD t token result type)
 
 -- `ret x`: x looked up, void 18, type. `ret`: 19.
 unfoldable pub retValueD : List ℕ → ℕ → ℕ → Identifier → Typed
