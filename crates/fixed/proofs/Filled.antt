@@ -6,7 +6,7 @@ use mathlib.Core.Bool.{Bool, true, false}
 use mathlib.Core.Logic.{_⊎_, inl, inr, ⊎-elim}
 use native.Mathlib.Omega.{arith}
 use native.Mathlib.Numerals.{add-one}
-use borrow.Author.Tests.{leb-true, leb-false, le-leb, lt-leb, eq-eqb, ne-eqb}
+use borrow.Author.Tests.{leb-true, leb-false, le-leb, lt-leb}
 use lib.Dec.{leb, eqb}
 use lib.ListN.{
   length,
@@ -74,13 +74,13 @@ module _ (rest : ℕ) (got list : List ℕ) where
           add-one i,
         )
 
-    pub differs : (getD got i 0 ≡ getD list i rest → ⊥) → false ≡ sameBytes got (filled rest (length got) list)
+    pub differs : eqb (getD got i 0) (getD list i rest) ≡ false → false ≡ sameBytes got (filled rest (length got) list)
     unfolding pick
-    differs n = rw (opened, ne-eqb _ _ n) at known
+    differs e = rw (opened, e) at known
 
-    pub agrees : getD got i 0 ≡ getD list i rest → FromOn (i + 1)
+    pub agrees : eqb (getD got i 0) (getD list i rest) ≡ true → FromOn (i + 1)
     unfolding pick
-    agrees e = rw (opened, eq-eqb _ _ e) at known
+    agrees e = rw (opened, e) at known
 
   module _ (i : ℕ) (known : FromOn i) (h : i ≡ length got) where
     none : drop i got ≡ []

@@ -1,6 +1,7 @@
 // Whether a lent slice holds what a list of the file says.
 ghost use mathlib.Core.Path.{_≡_};
 ghost use mathlib.Core.Bool.{true, false};
+ghost use lib.Dec.{eqb};
 ghost use lib.ListN.{length, getD};
 ghost use lib.Seq.{sets};
 ghost use Rattle.utils.specs.Bytes.{sameBytes};
@@ -20,14 +21,14 @@ fn wide(b: u8) -> u32
     b as u32
 }
 
-// The cell at an index of a list, and `rest` behind the list.
-fn cell_at(list: &[u32], at: usize, rest: u32) -> u32
-    ensures { λ r. ⌜ r ≡ getD (now (list .entry)) at rest ⌝ }
+// Whether a cell is what stands at an index of a list, or `rest` behind the list.
+fn is_at(cell: u32, list: &[u32], at: usize, rest: u32) -> bool
+    ensures { λ r. ⌜ r ≡ eqb cell (getD (now (list .entry)) at rest) ⌝ }
 {
     if at < list.len() {
-        return list[at];
+        return cell == list[at];
     }
-    rest
+    cell == rest
 }
 
 fn same_cells(got: &[u32], list: &[u32], rest: u32) -> bool
@@ -35,7 +36,7 @@ fn same_cells(got: &[u32], list: &[u32], rest: u32) -> bool
 {
     let mut i: usize = 0;
     while i < got.len() {
-        if got[i] != cell_at(list, i, rest) {
+        if !is_at(got[i], list, i, rest) {
             return false;
         }
         i += 1;
@@ -48,7 +49,7 @@ fn same_bytes(got: &[u8], list: &[u32], rest: u32) -> bool
 {
     let mut i: usize = 0;
     while i < got.len() {
-        if wide(got[i]) != cell_at(list, i, rest) {
+        if !is_at(wide(got[i]), list, i, rest) {
             return false;
         }
         i += 1;

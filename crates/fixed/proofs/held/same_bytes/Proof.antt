@@ -1,10 +1,12 @@
 -- The slice and the filled list are the same from `i` on exactly where they are from the start.
 use borrow.Author.Needs.{needs}
+use borrow.Author.Tests.{not-true, not-false}
 use native.Mathlib.Omega.{arith}
-use Prim.Native.Nat.{_-_, _≤_}
-use mathlib.Core.Path.{refl, sym, _∙_}
-use lib.ListN.{length}
+use Prim.Native.Nat.{ℕ, _-_, _≤_}
+use mathlib.Core.Path.{refl, sym, ap, _∙_}
+use lib.ListN.{length, getD}
 use denote.Ref.{now}
+use lib.Dec.{eqb}
 use Rattle.fixed.proofs.Filled.{FromOn, differs, agrees, whole}
 use Rattle.fixed.proofs.held.same_bytes.Statement.{statement}
 use Rattle.fixed.proofs.held.same_bytes.Tie as tie
@@ -24,8 +26,8 @@ shared-slice-read-wide c = search needs
 wide-requires : tie.Need-wide-requires Inv-loop μ-loop
 wide-requires c κs = search needs
 
-cell-at-requires : tie.Need-cell-at-requires Inv-loop μ-loop
-cell-at-requires c κs = search needs
+is-at-requires : tie.Need-is-at-requires Inv-loop μ-loop
+is-at-requires c κs = search needs
 
 returns : tie.Need-returns Inv-loop μ-loop
 returns c =
@@ -33,10 +35,10 @@ returns c =
     let loop = c .before .before .before .before .before .loop in
     let loop-test = c .before .before .before .before .loop-test in
     let wide = c .before .before .wide in
-    let cell-at = c .before .cell-at in
+    let is-at = c .before .is-at in
     let if1 = c .if1 in
     differs (a .rest) (now (a .got)) (now (a .list)) (loop .i) (loop .inv .1) (loop-test .taken)
-    (λ e. if1 .taken (wide .ensures ∙ (e ∙ sym (cell-at .ensures))))
+    (ap (λ (x : ℕ). eqb x (getD (now (a .list)) (loop .i) (a .rest))) (sym (wide .ensures)) ∙ (sym (is-at .ensures) ∙ not-true (is-at .result) (if1 .taken)))
 
 add-i : tie.Need-add-i Inv-loop μ-loop
 add-i c = search needs
@@ -50,11 +52,11 @@ loop-again c =
     let loop = c .before .before .before .before .before .loop in
     let loop-test = c .before .before .before .before .loop-test in
     let wide = c .before .before .wide in
-    let cell-at = c .before .cell-at in
+    let is-at = c .before .is-at in
     let if1 = c .if1 in (
       omega arith,
       agrees (a .rest) (now (a .got)) (now (a .list)) (loop .i) (loop .inv .1) (loop-test .taken)
-          (sym (wide .ensures) ∙ (if1 .left ∙ cell-at .ensures)),
+          (ap (λ (x : ℕ). eqb x (getD (now (a .list)) (loop .i) (a .rest))) (sym (wide .ensures)) ∙ (sym (is-at .ensures) ∙ not-false (is-at .result) (if1 .left))),
     )
 
 returns-2 : tie.Need-returns-2 Inv-loop μ-loop
@@ -72,7 +74,7 @@ same-bytes-spec =
     loop-holds
     shared-slice-read-wide
     wide-requires
-    cell-at-requires
+    is-at-requires
     returns
     add-i
     loop-less

@@ -1,11 +1,12 @@
--- `getD` with what stands behind the list.
-use mathlib.Core.Path.{sym}
+-- Behind the list `getD` gives `rest`.
+use mathlib.Core.Path.{sym, ap}
 use lib.ListN.{List·getD-eq-default}
 use denote.Ref.{now}
 use borrow.Author.Needs.{needs}
+use lib.Dec.{eqb}
 use Rattle.fixed.proofs.Filled.{getD-any}
-use Rattle.fixed.proofs.held.cell_at.Statement.{statement}
-use Rattle.fixed.proofs.held.cell_at.Tie as tie
+use Rattle.fixed.proofs.held.is_at.Statement.{statement}
+use Rattle.fixed.proofs.held.is_at.Tie as tie
 
 mul-result : tie.Need-mul-result
 mul-result c = search needs
@@ -17,13 +18,13 @@ returns : tie.Need-returns
 returns c =
     let a = c .before .before .args in
     let if1 = c .before .if1 in
-    getD-any (now (a .list)) (a .at) 0 (a .rest) (if1 .taken)
+    ap (eqb (a .cell)) (getD-any (now (a .list)) (a .at) 0 (a .rest) (if1 .taken))
 
 returns-2 : tie.Need-returns-2
 returns-2 c =
     let a = c .before .args in
     let if1 = c .if1 in
-    sym (List·getD-eq-default (now (a .list)) (a .rest) (if1 .left))
+    ap (eqb (a .cell)) (sym (List·getD-eq-default (now (a .list)) (a .rest) (if1 .left)))
 
-pub cell-at-spec : {M : Type 1} → statement M
-cell-at-spec = tie.close (tie.spec mul-result shared-slice-read-result returns returns-2)
+pub is-at-spec : {M : Type 1} → statement M
+is-at-spec = tie.close (tie.spec mul-result shared-slice-read-result returns returns-2)
