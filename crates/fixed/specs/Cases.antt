@@ -1,5 +1,5 @@
--- Pieces of files with the lists that they hold, and slices that hold a list or not. Tables with one claim each, shown by
--- computation.
+-- Pieces of files with the lists that they hold, and slices that hold a list or not. Tables with one claim each, shown
+-- by computation.
 use Prim.Native.Nat.{ℕ}
 use Prim.Native.String.{String}
 use mathlib.Core.Path.{_≡_, refl}
@@ -25,9 +25,13 @@ use Rattle.fixed.specs.Lists.{
 }
 use Rattle.fixed.specs.Held.{oldCell, restOf, holding}
 
--- To unfold this is to unfold the whole definition.
+-- To unfold these is to unfold the numbers, and the whole definition.
+unfoldable pub read : ℕ
+unfolding pick isDigit inComment beginsNumber toDigit digitsOf decimal numberAt hexOf escapedAt byteAt
+read = 0
+
 unfoldable pub opened : ℕ
-unfolding pick sameBytes isDigit inComment beginsNumber toDigit digitsOf decimal numberAt hexOf escapedAt byteAt valueAt valuesAt stepped repeated behindQuote runAt fitting runsAt listAt restOf holding
+unfolding read sameBytes valueAt valuesAt stepped repeated behindQuote runAt fitting runsAt listAt restOf holding
 opened = 0
 
 -- A piece, of quoted bytes or not, and the room for its list; the list's cells, and the place behind them.

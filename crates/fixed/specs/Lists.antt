@@ -1,6 +1,6 @@
--- A list begins with how many runs it has. A run is TIMES, WIDTH, and WIDTH values, which stand once; where TIMES is above
--- 1, WIDTH steps follow, and the values stand TIMES times, each time larger by the steps than the time before. The values
--- of a list of bytes stand between quotes, behind a blank.
+-- A list begins with how many runs it has. A run is TIMES, WIDTH, and WIDTH values, which stand once; where TIMES is
+-- above 1, WIDTH steps follow, and the values stand TIMES times, each time larger by the steps than the time before.
+-- The values of a list of bytes stand between quotes, behind a blank.
 use Prim.Native.Nat.{ℕ, zero, suc, _+_, _-_, _*_, _%_, min}
 use mathlib.Core.List.{List, [], _∷_, _++_}
 use mathlib.Core.Bool.{Bool, false}

@@ -75,7 +75,8 @@ pub fn holds_cells(
     cells: &mut [u32],
     got: &[u32],
 ) -> Compared
-    ensures { λ r. ⌜ r ≡ holding (now (got .entry)) (listAt false (now («data» .entry)) (length (now (cells .entry))) from) number oldCell ⌝ }
+    ensures { λ r. ⌜ r ≡ holding (now (got .entry))
+        (listAt false (now («data» .entry)) (length (now (cells .entry))) from) number oldCell ⌝ }
     ensures { λ r. ⌜ now (cells .exit) ≡ sets (now (cells .entry)) 0
         (listAt false (now («data» .entry)) (length (now (cells .entry))) from .cells) ⌝ }
 {
@@ -90,7 +91,8 @@ pub fn holds_cells(
 
 // The same of a slice of bytes.
 pub fn holds_bytes(data: &[u8], from: usize, number: u32, cells: &mut [u32], got: &[u8]) -> Compared
-    ensures { λ r. ⌜ r ≡ holding (now (got .entry)) (listAt true (now («data» .entry)) (length (now (cells .entry))) from) number oldByte ⌝ }
+    ensures { λ r. ⌜ r ≡ holding (now (got .entry))
+        (listAt true (now («data» .entry)) (length (now (cells .entry))) from) number oldByte ⌝ }
     ensures { λ r. ⌜ now (cells .exit) ≡ sets (now (cells .entry)) 0
         (listAt true (now («data» .entry)) (length (now (cells .entry))) from .cells) ⌝ }
 {

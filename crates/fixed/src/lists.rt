@@ -6,7 +6,8 @@ ghost use lib.Dec.{leb, ltb, eqb};
 ghost use lib.ListN.{length, getD};
 ghost use lib.Seq.{sets, slice};
 ghost use Rattle.utils.specs.Bytes.{pick};
-ghost use Rattle.fixed.specs.Lists.{hexOf, escapedAt, byteAt, valueAt, valuesAt, stepped, repeated, behindQuote, runAt, fitting, listAt, Stored, lowBytes};
+ghost use Rattle.fixed.specs.Lists.{hexOf, escapedAt, byteAt, valueAt, valuesAt, stepped, repeated};
+ghost use Rattle.fixed.specs.Lists.{behindQuote, runAt, fitting, listAt, Stored, lowBytes};
 use crate::Loaded;
 use crate::Number;
 use crate::number_at;
@@ -98,7 +99,8 @@ fn load_values(
 ) -> usize
     requires { ⌜ start + width ≤ length (now cells) ⌝ }
     ensures { λ r. ⌜ (r ≡ valuesAt quoted (now («data» .entry)) width from .next)
-        × (now (cells .exit) ≡ sets (now (cells .entry)) start (valuesAt quoted (now («data» .entry)) width from .cells)) ⌝ }
+        × (now (cells .exit) ≡ sets (now (cells .entry)) start
+        (valuesAt quoted (now («data» .entry)) width from .cells)) ⌝ }
 {
     let mut at = from;
     let mut count = start;
@@ -119,7 +121,8 @@ fn load_row(data: &[u8], from: usize, cells: &mut [u32], start: usize, width: u3
     requires { ⌜ start + width + width ≤ length (now cells) ⌝ }
     ensures { λ r. ⌜ (r ≡ valuesAt false (now («data» .entry)) width from .next)
         × (now (cells .exit) ≡ sets (now (cells .entry)) (start + width)
-        (stepped (slice start (start + width) (now (cells .entry))) (valuesAt false (now («data» .entry)) width from .cells))) ⌝ }
+        (stepped (slice start (start + width) (now (cells .entry)))
+        (valuesAt false (now («data» .entry)) width from .cells))) ⌝ }
 {
     let mut at = from;
     let mut here = start;
@@ -149,7 +152,8 @@ fn load_rows(
         × (r .next ≡ pick (ltb 0 more) (valuesAt false (now («data» .entry)) width from .next) from)
         × (now (cells .exit) ≡ sets (now (cells .entry)) (start + width)
         (repeated more
-        (stepped (slice start (start + width) (now (cells .entry))) (valuesAt false (now («data» .entry)) width from .cells))
+        (stepped (slice start (start + width) (now (cells .entry)))
+        (valuesAt false (now («data» .entry)) width from .cells))
         (valuesAt false (now («data» .entry)) width from .cells))) ⌝ }
 {
     let mut row = start;
@@ -189,7 +193,8 @@ fn has_room(room: usize, width: u32, more: u32) -> bool
 fn load_run(data: &[u8], from: usize, quoted: bool, cells: &mut [u32], start: usize) -> Loaded
     requires { ⌜ start ≤ length (now cells) ⌝ }
     ensures { λ r. ⌜ Stored start
-        (fitting (length (now (cells .entry)) - start) (length (now («data» .entry))) (runAt quoted (now («data» .entry)) from))
+        (fitting (length (now (cells .entry)) - start) (length (now («data» .entry)))
+        (runAt quoted (now («data» .entry)) from))
         (now (cells .entry)) r (now (cells .exit)) ⌝ }
 {
     let times = number_at(data, from);
