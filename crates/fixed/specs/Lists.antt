@@ -21,7 +21,7 @@ pub record Values : Type 0 where
 abbrev pub values : List ℕ → ℕ → Values
 values cells next = record { cells = cells; next = next }
 
--- The low half of a letter's byte is its place in the alphabet.
+-- The value of a hexadecimal digit. The low four bits of a letter, large or small, are its place in the alphabet.
 unfoldable pub hexOf : ℕ → ℕ
 hexOf b = pick (isDigit b) (b - 48) ((b + 9) % 16)
 

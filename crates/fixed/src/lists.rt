@@ -189,7 +189,7 @@ fn has_room(room: usize, width: u32, more: u32) -> bool
     width as u64 + more as u64 * width as u64 <= room as u64
 }
 
-// One run, behind `start` cells.
+// One run, behind `start` cells. Where they have no room for it, nothing is stored and the file is malformed.
 fn load_run(data: &[u8], from: usize, quoted: bool, cells: &mut [u32], start: usize) -> Loaded
     requires { ⌜ start ≤ length (now cells) ⌝ }
     ensures { λ r. ⌜ Stored start
