@@ -65,16 +65,9 @@ fn compare_slices(
     names: &[u32],
     message: &[u8],
 ) -> Outcome {
-    let rest = held::rest_of(number, held::OLD_CELL);
-    let t = held::holds_cells(data, from, cells, tokens, rest);
-    let n = held::holds_cells(data, t.next, cells, names, rest);
-    let m = held::holds_bytes(
-        data,
-        n.next,
-        cells,
-        message,
-        held::rest_of(number, fixed::wide(held::OLD_BYTE)),
-    );
+    let t = held::holds_cells(data, from, number, cells, tokens);
+    let n = held::holds_cells(data, t.next, number, cells, names);
+    let m = held::holds_bytes(data, n.next, number, cells, message);
     Outcome {
         part: slice_part(t.same, n.same, m.same),
         next: m.next,

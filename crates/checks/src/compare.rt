@@ -3,8 +3,8 @@ use crate::load;
 use crate::load::Lengths;
 use crate::part;
 use crate::part::Part;
+use fixed::Compared;
 use fixed::held;
-use fixed::held::Held;
 
 // What a case showed, and the place in the file after it.
 pub struct Outcome {
@@ -20,12 +20,11 @@ fn holds(
     cells: &mut [u32],
     got: &[u32],
     lent: usize,
-) -> Held {
+) -> Compared {
     if lent <= got.len() {
-        let rest = held::rest_of(number, held::OLD_CELL);
-        return held::holds_cells(data, from, cells, &got[..lent], rest);
+        return held::holds_cells(data, from, number, cells, &got[..lent]);
     }
-    Held {
+    Compared {
         same: false,
         next: data.len(),
     }
@@ -39,12 +38,11 @@ fn holds_message(
     cells: &mut [u32],
     got: &[u8],
     lent: usize,
-) -> Held {
+) -> Compared {
     if lent <= got.len() {
-        let rest = held::rest_of(number, fixed::wide(held::OLD_BYTE));
-        return held::holds_bytes(data, from, cells, &got[..lent], rest);
+        return held::holds_bytes(data, from, number, cells, &got[..lent]);
     }
-    Held {
+    Compared {
         same: false,
         next: data.len(),
     }

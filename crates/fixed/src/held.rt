@@ -1,70 +1,106 @@
 // Whether a lent slice holds what a list of the file says.
+ghost use mathlib.Core.Path.{_≡_};
+ghost use mathlib.Core.Bool.{true, false};
+ghost use lib.Dec.{eqb};
+ghost use lib.ListN.{length, getD};
+ghost use lib.Seq.{sets};
+ghost use Rattle.utils.specs.Bytes.{sameBytes};
+ghost use Rattle.fixed.specs.Lists.{listAt};
+ghost use Rattle.fixed.specs.Held.{oldCell, oldByte, filled, restOf, holding};
+use crate::Compared;
+use crate::lists;
+
 // What every lent cell and byte holds before a call, which must write over all of them, or leave all alone.
 pub const OLD_CELL: u32 = 2863311530;
 
 pub const OLD_BYTE: u8 = 170;
 
-// Whether a slice holds what it must, and the place in the file after its list.
-pub struct Held {
-    pub same: bool,
-    pub next: usize,
+fn wide(b: u8) -> u32
+    ensures { λ r. ⌜ r ≡ b ⌝ }
+{
+    b as u32
 }
 
-// The cell at an index of a list, and `rest` behind the list.
-fn cell_at(list: &[u32], count: usize, at: usize, rest: u32) -> u32 {
-    if count <= at {
-        return rest;
+// Whether a cell is what stands at an index of a list, or `rest` behind the list.
+fn is_at(cell: u32, list: &[u32], at: usize, rest: u32) -> bool
+    ensures { λ r. ⌜ r ≡ eqb cell (getD (now (list .entry)) at rest) ⌝ }
+{
+    if at < list.len() {
+        return cell == list[at];
     }
-    if list.len() <= at {
-        return rest;
-    }
-    list[at]
+    cell == rest
 }
 
-fn same_cells(got: &[u32], list: &[u32], count: usize, rest: u32) -> bool {
+fn same_cells(got: &[u32], list: &[u32], rest: u32) -> bool
+    ensures { λ r. ⌜ r ≡ sameBytes (now (got .entry)) (filled rest (length (now (got .entry))) (now (list .entry))) ⌝ }
+{
     let mut i: usize = 0;
     while i < got.len() {
-        if got[i] != cell_at(list, count, i, rest) {
+        if !is_at(got[i], list, i, rest) {
             return false;
         }
         i += 1;
     }
-    count <= got.len()
+    list.len() <= got.len()
 }
 
-fn same_bytes(got: &[u8], list: &[u32], count: usize, rest: u32) -> bool {
+fn same_bytes(got: &[u8], list: &[u32], rest: u32) -> bool
+    ensures { λ r. ⌜ r ≡ sameBytes (now (got .entry)) (filled rest (length (now (got .entry))) (now (list .entry))) ⌝ }
+{
     let mut i: usize = 0;
     while i < got.len() {
-        if crate::wide(got[i]) != cell_at(list, count, i, rest) {
+        if !is_at(wide(got[i]), list, i, rest) {
             return false;
         }
         i += 1;
     }
-    count <= got.len()
+    list.len() <= got.len()
 }
 
-// Whether a slice of cells holds the file's next list, and behind it `rest` alone.
-pub fn holds_cells(data: &[u8], from: usize, cells: &mut [u32], got: &[u32], rest: u32) -> Held {
-    let list = crate::load(data, from, false, cells);
-    Held {
-        same: same_cells(got, cells, list.count, rest),
+// What stands behind a list: zeros, but what stood there before where a slice was too short.
+fn rest_of(number: u32, old: u32) -> u32
+    ensures { λ r. ⌜ r ≡ restOf number old ⌝ }
+{
+    if number == 30 {
+        return old;
+    }
+    0
+}
+
+// Whether a slice of cells holds the file's next list, and behind it what it must after an answer's number.
+pub fn holds_cells(
+    data: &[u8],
+    from: usize,
+    number: u32,
+    cells: &mut [u32],
+    got: &[u32],
+) -> Compared
+    ensures { λ r. ⌜ r ≡ holding (now (got .entry))
+        (listAt false (now («data» .entry)) (length (now (cells .entry))) from) number oldCell ⌝ }
+    ensures { λ r. ⌜ now (cells .exit) ≡ sets (now (cells .entry)) 0
+        (listAt false (now («data» .entry)) (length (now (cells .entry))) from .cells) ⌝ }
+{
+    let list = lists::load(data, from, false, cells);
+    let n = list.count;
+    let rest = rest_of(number, OLD_CELL);
+    Compared {
+        same: same_cells(got, &cells[..n], rest),
         next: list.next,
     }
 }
 
 // The same of a slice of bytes.
-pub fn holds_bytes(data: &[u8], from: usize, cells: &mut [u32], got: &[u8], rest: u32) -> Held {
-    let list = crate::load(data, from, true, cells);
-    Held {
-        same: same_bytes(got, cells, list.count, rest),
+pub fn holds_bytes(data: &[u8], from: usize, number: u32, cells: &mut [u32], got: &[u8]) -> Compared
+    ensures { λ r. ⌜ r ≡ holding (now (got .entry))
+        (listAt true (now («data» .entry)) (length (now (cells .entry))) from) number oldByte ⌝ }
+    ensures { λ r. ⌜ now (cells .exit) ≡ sets (now (cells .entry)) 0
+        (listAt true (now («data» .entry)) (length (now (cells .entry))) from .cells) ⌝ }
+{
+    let list = lists::load(data, from, true, cells);
+    let n = list.count;
+    let rest = rest_of(number, wide(OLD_BYTE));
+    Compared {
+        same: same_bytes(got, &cells[..n], rest),
         next: list.next,
     }
-}
-
-// What stands behind a list: zeros, but what stood there before where a slice was too short.
-pub fn rest_of(number: u32, old: u32) -> u32 {
-    if number == 30 {
-        return old;
-    }
-    0
 }

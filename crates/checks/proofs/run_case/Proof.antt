@@ -5,11 +5,8 @@ use lib.Seq.{length-take-le}
 use Rattle.checks.proofs.run_case.Statement.{statement}
 use Rattle.checks.proofs.run_case.Tie as tie
 
-load-requires : tie.Need-load-requires
-load-requires c κs = search needs
-
-narrow-requires : tie.Need-narrow-requires
-narrow-requires c κs = search needs
+load-text-requires : tie.Need-load-text-requires
+load-text-requires c κs = search needs
 
 slice-reshare-prefix-with-slices : tie.Need-slice-reshare-prefix-with-slices
 slice-reshare-prefix-with-slices c = search needs
@@ -45,8 +42,7 @@ pub run-case-spec : {M : Type 1} → statement M
 run-case-spec =
     tie.close
     (tie.spec
-    load-requires
-    narrow-requires
+    load-text-requires
     slice-reshare-prefix-with-slices
     slice-aggregate-with-slices
     with-slices-requires

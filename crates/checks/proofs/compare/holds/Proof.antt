@@ -5,9 +5,6 @@ use lib.Seq.{length-take-le}
 use Rattle.checks.proofs.compare.holds.Statement.{statement}
 use Rattle.checks.proofs.compare.holds.Tie as tie
 
-rest-of-requires : tie.Need-rest-of-requires
-rest-of-requires c κs = search needs
-
 slice-aggregate-holds-cells : tie.Need-slice-aggregate-holds-cells
 slice-aggregate-holds-cells c = sym (length-take-le _ _ (search needs))
 
@@ -27,7 +24,6 @@ pub holds-spec : {M : Type 1} → statement M
 holds-spec =
     tie.close
     (tie.spec
-    rest-of-requires
     slice-aggregate-holds-cells
     holds-cells-requires
     same-length

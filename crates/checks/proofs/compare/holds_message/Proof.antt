@@ -5,12 +5,6 @@ use lib.Seq.{length-take-le}
 use Rattle.checks.proofs.compare.holds_message.Statement.{statement}
 use Rattle.checks.proofs.compare.holds_message.Tie as tie
 
-wide-requires : tie.Need-wide-requires
-wide-requires c κs = search needs
-
-rest-of-requires : tie.Need-rest-of-requires
-rest-of-requires c κs = search needs
-
 slice-aggregate-holds-bytes : tie.Need-slice-aggregate-holds-bytes
 slice-aggregate-holds-bytes c = sym (length-take-le _ _ (search needs))
 
@@ -30,8 +24,6 @@ pub holds-message-spec : {M : Type 1} → statement M
 holds-message-spec =
     tie.close
     (tie.spec
-    wide-requires
-    rest-of-requires
     slice-aggregate-holds-bytes
     holds-bytes-requires
     same-length
