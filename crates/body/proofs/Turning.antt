@@ -107,7 +107,7 @@ module _ (ts : List Tok) (void : Bool) (s : Going) (l : Identifier) (next : ℕ)
 
 -- The closing brace. ------------------------------------------------------------------------------------------------
 
-closes-kind : (before kind : ℕ) → closes before kind ≡ true → kind ≡ 28
+pub closes-kind : (before kind : ℕ) → closes before kind ≡ true → kind ≡ 28
 unfolding closes
 closes-kind before kind =
     pick-either (λ (b : Bool). b ≡ true → kind ≡ 28) (eqb before 1) _ _

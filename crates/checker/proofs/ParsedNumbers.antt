@@ -37,6 +37,7 @@ use Rattle.parser.specs.declared.Defined.the-variants as D
 use Rattle.parser.specs.declared.Parsed.{Parsed}
 use Rattle.parser.specs.declared.Parsed.the-variants as P
 use Rattle.body.proofs.Progress.{LabelIn, ItemIn, moves, label-in, item-in}
+use Rattle.body.proofs.Turning.{closes-kind}
 use Rattle.functions.specs.Known.{Known, typesAfter}
 use Rattle.functions.specs.Functions.{Header, HeaderAt, header, noHeader, thenHeader, thenFormals, thenEntered}
 use Rattle.functions.specs.Functions.{optionalFormals, optionalType, enteredD, signatureD, headerD, BuiltAt, built}
@@ -255,18 +256,6 @@ resolveF all name (b ∷ bs) = search (shapes, resolveLabelsF, resolveF all name
 
 -- Bodies and functions: their refusals, and where they end. ---------------------------------------------------------
 
--- the end token is no closing brace
-end-closes-not : (before : ℕ) → closes before 38 ≡ false
-unfolding closes
-end-closes-not before = pick-either (λ (b : Bool). b ≡ false) (eqb before afterLabel) _ _ (λ t. refl) (λ t. refl)
-
-not-end : (before kind : ℕ) → closes before kind ≡ true → kind ≡ 38 → ⊥
-not-end before kind t z =
-    let q = end-closes-not before in
-    let f = rw z at t in
-    let o : _≡_ {A = ℕ} 0 1 = cc in
-    omega arith
-
 module _ (ts : List Tok) (last : ℕ) (ends : tokenAt ts last .kind ≡ 38) where
   data EndOn : Consumed → Type 0 where
     found : (i : ℕ) → i ≤ last → EndOn (C.At i)
@@ -301,7 +290,7 @@ module _ (ts : List Tok) (last : ℕ) (ends : tokenAt ts last .kind ≡ 38) wher
   body-on zero labels before i h l = absurd (omega arith)
   body-on (suc room) labels before i h l =
       pick-either (λ (r : Body). EndOn (r .end)) (closes before (tokenAt ts i .kind)) _ _
-      (λ t. let m = moves ts last ends i h (not-end before _ t) in rw (m .0) (EndOn.found (i + 1) (m .1)))
+      (λ t. let m = moves ts last ends i h (λ z. omega (arith, z, closes-kind before _ t)) in rw (m .0) (EndOn.found (i + 1) (m .1)))
       (λ t.
       pick-either (λ (r : Body). EndOn (r .end)) (eqb (tokenAt ts i .kind) 3) _ _
       (λ u.

@@ -11,7 +11,7 @@ use Rattle.fixed.specs.Lists.{Values}
 use Rattle.fixed.specs.declared.Compared.{Compared}
 use Rattle.fixed.specs.declared.Tally.{Tally}
 
--- a list, and behind it `rest` alone up to a length; a longer list stays as it is, and so equals no slice of that length
+-- a list, and behind it `rest` alone up to a length; a longer list stays as it is, and equals no slice of that length
 abbrev pub filled : ℕ → ℕ → List ℕ → List ℕ
 filled rest n list = list ++ replicate (n - length list) rest
 

@@ -159,7 +159,8 @@ cases =
     -- sixteen formals and sixteen arguments, and one more
     ∷ reads "@f(a:int,a:int,a:int,a:int,a:int,a:int,a:int,a:int,a:int,a:int,a:int,a:int,a:int,a:int,a:int,a:int){nop;}"
     (function 0 void 0 16 (block 2 [] [] 0 ∷ []) ∷ [])
-    ∷ refuses "@f(a:int,a:int,a:int,a:int,a:int,a:int,a:int,a:int,a:int,a:int,a:int,a:int,a:int,a:int,a:int,a:int,a" 36 66 0
+    ∷ refuses "@f(a:int,a:int,a:int,a:int,a:int,a:int,a:int,a:int,a:int,a:int,a:int,a:int,a:int,a:int,a:int,a:int,a"
+    36 66 0
     ∷ reads "@f { call @g a a a a a a a a a a a a a a a a; }" (function 0 void 0 0 (block 2 [] [] 0 ∷ []) ∷ [])
     ∷ refuses "@f { call @g a a a a a a a a a a a a a a a a a; }" 37 20 0
     ∷ []

@@ -37,7 +37,7 @@ zeros zero i = refl
 zeros (suc m) zero = refl
 zeros (suc m) (suc i) = zeros m i
 
-pub cell-short : (s : List ℕ) (ns : List Part) (m : ℕ) → Each noPart (InText s) ns → (i : ℕ)
+cell-short : (s : List ℕ) (ns : List Part) (m : ℕ) → Each noPart (InText s) ns → (i : ℕ)
     → getD (namesCells ns ++ replicate m 0) (i * 2 + 1) 0 ≤ 64
 unfolding namesCells
 cell-short s [] m w i = omega (arith, zeros m (i * 2 + 1))

@@ -72,12 +72,6 @@ module _ (Q : Body → Type 0) where
   picked true x y f g = f refl
   picked false x y f g = g refl
 
-  named : (c : Named) (k : Identifier → ℕ → Body) → ((e : Refusal) → Q (bodyStop e))
-      → ((l : Identifier) (at : ℕ) → Q (k l at)) → Q (thenNamed bodyStop c k)
-  unfolding thenNamed
-  named (N.At l at) k f g = g l at
-  named (N.Refused e) k f g = f e
-
   -- with how it was read
   named-of : (c : Named) (k : Identifier → ℕ → Body) → ((e : Refusal) → Q (bodyStop e))
       → ((l : Identifier) (at : ℕ) → c ≡ N.At l at → Q (k l at)) → Q (thenNamed bodyStop c k)
@@ -147,7 +141,7 @@ ordered ts (suc room) ls before at =
     looked (Ordered before) (tokenAt ts at) _ (λ kind next.
     picked (Ordered before) (closes before kind) _ _ (closed before kind next) (λ _.
     picked (Ordered before) (eqb kind 3) _ _
-    (λ _. named (Ordered before) (labelledD ts ls at) _ (stopped before) (λ l at1.
+    (λ _. named-of (Ordered before) (labelledD ts ls at) _ (stopped before) (λ l at1 _.
     with-label before at l _ (ordered ts room (ls ++ (l .0 ∷ [])) afterLabel at1)))
     (λ _. item-of (Ordered before) (itemD ts at) _ (stopped before) (λ i at1 e.
     picked (Ordered before) (eqb before afterTerminator) _ _ (λ _. stopped before _) (λ f.

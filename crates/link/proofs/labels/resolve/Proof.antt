@@ -1,8 +1,14 @@
 -- The kinds are tested in the definition's order.
 use borrow.Author.Tests.{eq-eqb, ne-eqb}
-use Prim.Native.Nat.{_-_}
+use Prim.Native.Nat.{ℕ, _-_}
+use mathlib.Core.Path.{_≡_}
+use mathlib.Core.Bool.{true}
+use mathlib.Core.List.{List}
+use lib.Dec.{eqb}
 use borrow.Author.Needs.{needs}
-use Rattle.link.specs.Steps.{goesD}
+use Rattle.body.specs.declared.ItemRecord.{ItemRecord}
+use Rattle.link.specs.Steps.{oneD, goesD}
+use Rattle.link.specs.declared.Goes.{Goes}
 use Rattle.utils.specs.Bytes.{pick}
 use Rattle.link.proofs.labels.resolve.Statement.{statement}
 use Rattle.link.proofs.labels.resolve.Tie as tie
@@ -13,12 +19,14 @@ cast-token c = search needs
 resolve-one-requires : tie.Need-resolve-one-requires
 resolve-one-requires c κs = search needs
 
-returns : tie.Need-returns
+-- a `jmp`, and nothing else, goes to one block
+jump-goes : (before : ℕ) (names : List ℕ) (r : ItemRecord) (g : Goes) → eqb (r .kind) 9 ≡ true
+    → g ≡ oneD before names (r .token) (r .right) → g ≡ goesD before names r
 unfolding goesD pick
-returns c =
-    let if1 = c .before .if1 in
-    let resolve-one = c .resolve-one in
-    rw (if1 .taken) (resolve-one .ensures)
+jump-goes before names r g jumps e = rw jumps e
+
+returns : tie.Need-returns
+returns c = jump-goes _ _ _ _ (c .before .if1 .taken) (c .resolve-one .ensures)
 
 resolve-two-requires : tie.Need-resolve-two-requires
 resolve-two-requires c κs = search needs
