@@ -222,6 +222,28 @@ def document_texts():
         yield "document 01", text.encode()
 
 
+def rule_texts():
+    """The edges of each rule of lexing, in document 01's order, several in a text."""
+    for title, texts in [
+            ("blanks and lines", [" \t\r", "x\n\r\n x"]),
+            ("every word and every token of one byte", [
+                "add mul sub div mod true false eq lt gt le ge not and or jmp br call ret",
+                "=(){}:;,int bool const print nop id", "a:int=-5,7b"]),
+            ("comments eat their newlines", ["// /*\n\nx", "/*\n\n*/\nx", "\n /*\n*"]),
+            ("numbers side by side", ["00000000007 99999999999999999999", "-0-1"]),
+            ("what begins a name, and where it ends", ["._", "x[", "x\n $", "x@y.z", "int ints Int @int .int"]),
+            ("one table for all kinds of names", ["x @x .x x", "aZ_9 aZ_ zA0 aZ_9"]),
+            ("64 bytes with the sigil, and one more", [
+                "@a23456789_123456789_123456789_123456789_123456789_123456789_123",
+                "@a23456789_123456789_123456789_123456789_123456789_123456789_1234 $",
+                "\n a123456789_123456789_123456789_123456789_123456789_123456789_1234"])]:
+        for text in texts:
+            yield title, text.encode()
+    for title, line, text in [("a comment not closed", 120, b"/*"), ("a minus", 4096, b"-"), ("a name too long", 99, b"n" * 65),
+                              ("too many names", 10, letters(NAMES + 1)), ("too many tokens", 1203, b";" * (TOKENS + 1))]:
+        yield f"{title} on line {line}", b"\n" * (line - 1) + text
+
+
 def kind_texts():
     for word in KINDS:
         spelling = {"local": "v", "global": "@main", "label": ".loop", "integer": "7", "END_OF_FILE": ""}.get(word, word)
@@ -438,6 +460,7 @@ def random_texts():
 
 def all_texts():
     yield from document_texts()
+    yield from rule_texts()
     yield from kind_texts()
     yield from word_texts()
     yield from number_texts()

@@ -11,8 +11,8 @@ use Rattle.utils.specs.Bytes.{pick, bytes, sameBytes}
 use Rattle.body.specs.Records.{operationRecord, recordOf}
 use Rattle.link.specs.Cells.{blockCells, predecessorCells}
 use Rattle.functions.specs.Answer.{countsFrom}
-use Rattle.messages.specs.Cases as messages
-use Rattle.sema.specs.Cases as typing
+use Rattle.messages.specs.Opened as messages
+use Rattle.sema.specs.Opened as typing
 use Rattle.functions.specs.Laid.{rowsCells, allBlocks, allPredecessors}
 use Rattle.elaborate.specs.Types.{calleeIn, isCall, typedRecord, typedItemsCells, typedVariables, typedArgumentsCells}
 use Rattle.typing.specs.Outcome.{unitD, tablesOf, allItems, allArguments}

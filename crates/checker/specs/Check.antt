@@ -21,7 +21,7 @@ pub record Checking : Type 0 where
   pub names : List ℕ
   pub unit : Slices
 
--- "After acceptance line and place are zero."
+-- "After acceptance line, place, the whole message and all unused room are zero"
 abbrev pub accepted : ℕ → ℕ → Counts → CheckAnswer
 accepted tokens names n =
     record {
@@ -37,7 +37,7 @@ accepted tokens names n =
       predecessors = n .predecessors;
     }
 
--- "After a refusal every count is zero."
+-- "after a refusal every count is zero"
 abbrev pub refusal : ℕ → ℕ → ℕ → CheckAnswer
 refusal number line place =
     record {
@@ -64,7 +64,7 @@ refusing number line place message =
       unit = slices [] [] [] [] [];
     }
 
--- "The line and place are those of the token the Rust reports with."
+-- "The line and place are those of the token the Rust reports with (for 13 to 16, the token whose line it passes)"
 abbrev pub refusedAt : List ℕ → List ℕ → List Tok → Refusal → Checking
 refusedAt text names ts e =
     let t = tokenAt ts (e .token) in

@@ -167,7 +167,7 @@ fn start(data: &mut [u8], cells: &mut [u32], text: &mut [u8]) {
 }
 
 fn main() {
-    let mut data = [0u8; 327680];
+    let mut data = [0u8; 393216];
     let mut cells = [0u32; 24592];
     let mut text = [0u8; 24592];
     start(&mut data, &mut cells, &mut text);

@@ -95,31 +95,31 @@ unfolding opened hexes
 hex-right = refl
 
 -- A slice, an answer's number, and whether the slice holds the list 9 10 after it.
-pub record Slice : Type 0 where
+pub record Lent : Type 0 where
   pub got : List ℕ
   pub answer : ℕ
   pub same : Bool
 
-slice : List ℕ → ℕ → Bool → Slice
-slice got answer same = record { got = got; answer = answer; same = same }
+lent : List ℕ → ℕ → Bool → Lent
+lent got answer same = record { got = got; answer = answer; same = same }
 
-slices : List Slice
-slices =
-    slice (9 ∷ 10 ∷ []) 0 true ∷
-    slice (9 ∷ 10 ∷ 0 ∷ 0 ∷ []) 1 true ∷
-    slice (9 ∷ 10 ∷ 0 ∷ 1 ∷ []) 1 false ∷
-    slice (9 ∷ 11 ∷ 0 ∷ 0 ∷ []) 1 false ∷
-    slice (9 ∷ []) 1 false ∷
-    slice (9 ∷ 10 ∷ oldCell ∷ oldCell ∷ []) 30 true ∷
-    slice (9 ∷ 10 ∷ oldCell ∷ 0 ∷ []) 30 false ∷
-    slice (9 ∷ 10 ∷ oldCell ∷ []) 1 false ∷ []
+lents : List Lent
+lents =
+    lent (9 ∷ 10 ∷ []) 0 true ∷
+    lent (9 ∷ 10 ∷ 0 ∷ 0 ∷ []) 1 true ∷
+    lent (9 ∷ 10 ∷ 0 ∷ 1 ∷ []) 1 false ∷
+    lent (9 ∷ 11 ∷ 0 ∷ 0 ∷ []) 1 false ∷
+    lent (9 ∷ []) 1 false ∷
+    lent (9 ∷ 10 ∷ oldCell ∷ oldCell ∷ []) 30 true ∷
+    lent (9 ∷ 10 ∷ oldCell ∷ 0 ∷ []) 30 false ∷
+    lent (9 ∷ 10 ∷ oldCell ∷ []) 1 false ∷ []
 
-judged : List Slice → Bool
+judged : List Lent → Bool
 judged [] = true
 judged (t ∷ ts) =
     let r = holding (t .got) (values (9 ∷ 10 ∷ []) 5) (t .answer) oldCell in
     pick (r .same) (pick (t .same) (judged ts) false) (pick (t .same) false (judged ts))
 
-all-judged : judged slices ≡ true
-unfolding opened judged slices slice
+all-judged : judged lents ≡ true
+unfolding opened judged lents lent
 all-judged = refl

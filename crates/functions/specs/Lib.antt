@@ -13,5 +13,5 @@ pub mod Answer
 pub mod Laid
 -- two readings of one function: what is related to what
 pub mod Moved
--- texts with what they give: one table, one claim
-pub mod Cases
+-- for tables of cases: all definitions at once
+pub mod Opened

@@ -9,5 +9,7 @@ pub mod Read
 pub mod Sound
 -- what the cells hold, for callers
 pub mod Decoded
--- texts with their whole answers: one table, one claim
+-- for tables of cases: all definitions at once
+pub mod Opened
+-- texts that begin on another line: one table, one claim
 pub mod Cases

@@ -2,5 +2,7 @@
 pub mod Messages
 -- how the code holds the words
 pub mod Rows
--- refusals with their messages: one table, one claim
+-- for tables of cases: all definitions at once
+pub mod Opened
+-- what no text shows of the messages, computed
 pub mod Cases

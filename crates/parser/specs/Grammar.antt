@@ -96,7 +96,7 @@ definedD ts at =
 
 -- `true`, `false` or an integer
 unfoldable pub isConstant : ℕ → Bool
-isConstant k = pick (eqb k T.integer) true (pick (eqb k T.true) true (eqb k T.false))
+isConstant k = pick (eqb k T.integer) true (pick (eqb k T.trueWord) true (eqb k T.falseWord))
 
 -- Integer or boolean constant expected (10), with the word `const`; the operation's token is the value.
 unfoldable pub constD : List Tok → Variable → ℕ → ℕ → Parsed
@@ -120,7 +120,7 @@ binaryD ts v word at =
 
 -- `id`, `not`
 unfoldable pub isUnary : ℕ → Bool
-isUnary k = pick (eqb k T.not) true (eqb k T.id)
+isUnary k = pick (eqb k T.notWord) true (eqb k T.id)
 
 -- `add` `mul` `sub` `div` `mod`, `eq` `lt` `gt` `le` `ge`, `and` `or`. The kinds stand in this order: an integer, the
 -- first five words, `true` and `false`, the next five, `not`, and the last two.
@@ -128,7 +128,7 @@ unfoldable pub isBinary : ℕ → Bool
 isBinary k =
     pick (leb k T.integer) false
     (pick (leb k T.«mod») true
-    (pick (leb k T.false) false
+    (pick (leb k T.falseWord) false
     (pick (leb k T.ge) true
     (pick (eqb k T.and) true (eqb k T.or)))))
 

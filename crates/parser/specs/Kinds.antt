@@ -1,6 +1,6 @@
--- The kinds of tokens by name, for the definitions that ask for one: words as texts spell them, all else by the Rust's
--- name. The table at the end holds each against its variant in the Rust's enum. Other modules write `T.semicolon` for
--- the kind of the Rust's `T.Semicolon`.
+-- The kinds of tokens by name, for the definitions that ask for one: words as texts spell them (`trueWord`, `falseWord`
+-- and `notWord` where the word has a meaning here already), all else by the Rust's name. The table at the end holds each
+-- against its variant in the Rust's enum. Other modules write `T.semicolon` for the kind of the Rust's `T.Semicolon`.
 use Prim.Native.Nat.{ℕ}
 use mathlib.Core.Path.{_≡_, refl}
 use mathlib.Core.List.{List, [], _∷_}
@@ -39,11 +39,11 @@ abbrev pub «mod» : ℕ
 «mod» = 9
 
 -- boolean constants
-abbrev pub true : ℕ
-true = 10
+abbrev pub trueWord : ℕ
+trueWord = 10
 
-abbrev pub false : ℕ
-false = 11
+abbrev pub falseWord : ℕ
+falseWord = 11
 
 -- comparisons
 abbrev pub eq : ℕ
@@ -62,8 +62,8 @@ abbrev pub ge : ℕ
 ge = 16
 
 -- boolean operators
-abbrev pub not : ℕ
-not = 17
+abbrev pub notWord : ℕ
+notWord = 17
 
 abbrev pub and : ℕ
 and = 18
@@ -155,14 +155,14 @@ rows =
     row sub T.Sub ∷
     row div T.Div ∷
     row «mod» T.Mod ∷
-    row true T.True ∷
-    row false T.False ∷
+    row trueWord T.True ∷
+    row falseWord T.False ∷
     row eq T.Equal ∷
     row lt T.LessThan ∷
     row gt T.GreaterThan ∷
     row le T.LessThanOrEq ∷
     row ge T.GreaterThanOrEq ∷
-    row not T.Not ∷
+    row notWord T.Not ∷
     row and T.And ∷
     row or T.Or ∷
     row jmp T.Jump ∷

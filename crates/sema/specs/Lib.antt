@@ -13,5 +13,5 @@ pub mod Blocks
 pub mod Program
 -- what is looked up at each visit, and the types found there
 pub mod Visits
--- texts with their refusals: one table, one claim
-pub mod Cases
+-- for tables of cases: all definitions at once
+pub mod Opened

@@ -1,5 +1,5 @@
 -- The functions of a text, parsed and typed, and what the five slices hold then.
--- "All parsing (with labels and edges of each function) before all typing."
+-- "all parsing (with labels and edges of each function) before all typing"
 use Prim.Native.Nat.{ℕ, _≤_}
 use mathlib.Core.Path.{_≡_}
 use mathlib.Core.List.{List, [], _∷_, _++_}

@@ -4,14 +4,15 @@ use std::collections::HashSet;
 
 use super::dice::Dice;
 use super::model::{BYTES, NAMES, TOKENS};
-use super::{edges, grammar, programs, texts};
+use super::{edges, grammar, programs, rules, texts};
 
 pub type Titled = (String, Vec<u8>);
 
 /// All of them, each once.
 pub fn all() -> Vec<Titled> {
-    let lists =
-        [documents(), reading(), changed(), typed(), calls(), orders(), graphs(), written(), limits(), generated()];
+    let lists = [
+        documents(), rules(), reading(), changed(), typed(), calls(), orders(), graphs(), written(), limits(), generated(),
+    ];
     let mut seen = HashSet::new();
     lists.into_iter().flatten().filter(|(_, text)| seen.insert(text.clone())).collect()
 }
@@ -22,6 +23,11 @@ fn titled<T: AsRef<[u8]>>(title: &str, texts: impl IntoIterator<Item = T>) -> Ve
 
 fn documents() -> Vec<Titled> {
     titled("document 01", edges::DOCUMENT_01)
+}
+
+/// The edges of each rule.
+fn rules() -> Vec<Titled> {
+    rules::RULES.iter().flat_map(|(rule, texts)| titled(rule, *texts)).collect()
 }
 
 /// Refusals of reading, which are refusals of checking.

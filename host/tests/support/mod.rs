@@ -15,6 +15,7 @@ pub mod model;
 pub mod oracle;
 pub mod programs;
 pub mod records;
+pub mod rules;
 pub mod said;
 pub mod texts;
 pub mod words;
