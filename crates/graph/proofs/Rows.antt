@@ -7,8 +7,7 @@ use native.Mathlib.Omega.{arith}
 use native.Mathlib.Decide.{ℕ-discrete}
 use lib.ListN.{length, getD, set}
 use lib.Seq.{getD-set-same, getD-set-other}
-use Rattle.graph.specs.Records.{counted}
-use Rattle.graph.specs.Frames.{rowOf}
+use Rattle.graph.specs.Records.{counted, rowOf}
 
 pub rows-more : (rows : List (List ℕ)) (counts : List ℕ) (k count a b : ℕ) (f : ℕ → List ℕ)
     → k < length rows → k < length counts → ((v : ℕ) → v < k → rowOf rows counts v ≡ f v) → counted count a b ≡ f k
@@ -28,6 +27,13 @@ counted-short (suc (suc k)) a b = omega arith
 pub row-short : (rows : List (List ℕ)) (counts : List ℕ) (v : ℕ) → length (rowOf rows counts v) ≤ 2
 row-short rows counts v =
     counted-short (getD counts v 0) (getD (getD rows v []) 0 0) (getD (getD rows v []) 1 0)
+
+-- a list of two at most, by its length and its first two
+pub counted-is : (s : List ℕ) → length s ≤ 2 → counted (length s) (getD s 0 0) (getD s 1 0) ≡ s
+counted-is [] h = refl
+counted-is (x ∷ []) h = refl
+counted-is (x ∷ y ∷ []) h = refl
+counted-is (x ∷ y ∷ z ∷ s) h = absurd (omega arith)
 
 pub counted-two : (k a b : ℕ) → (k ≡ 0 → ⊥) → (k ≡ 1 → ⊥) → counted k a b ≡ a ∷ b ∷ []
 counted-two zero a b f g = absurd (f refl)

@@ -2,9 +2,8 @@
 ghost use mathlib.Core.Path.{_≡_};
 ghost use Prim.Native.Nat.{ℕ, _<_, _≤_};
 ghost use lib.ListN.{length};
-ghost use Rattle.graph.specs.Records.{recorded, blocksIn};
-ghost use Rattle.graph.specs.Frames.{rowOf};
-use utils::cell_at;
+ghost use Rattle.graph.specs.Records.{recorded, rowOf, blocksIn};
+use crate::blocks::block_at;
 
 // How many blocks are looked at.
 pub fn at_most_256(count: u32) -> u32
@@ -30,11 +29,11 @@ pub fn load(
 {
     let mut k: u32 = 0;
     while k < n {
-        let at = (first as usize + k as usize) * super::BLOCK_CELLS + super::SUCCESSORS;
-        let row = [cell_at(blocks, at + 1), cell_at(blocks, at + 2)];
+        let b = block_at(blocks, first as usize + k as usize);
+        let row = [b.to.0, b.other.0];
         let i = k as usize;
         succs[i] = row;
-        counts[i] = cell_at(blocks, at);
+        counts[i] = b.successors;
         k += 1;
     }
 }

@@ -6,8 +6,7 @@ use mathlib.Core.Path.{_≡_}
 use mathlib.Core.List.{List}
 use lib.ListN.{length, length-set}
 use denote.Ref.{now}
-use Rattle.graph.specs.Records.{recorded}
-use Rattle.graph.specs.Frames.{rowOf}
+use Rattle.graph.specs.Records.{recorded, rowOf}
 use Rattle.graph.proofs.Rows.{rows-more}
 use Rattle.graph.proofs.successors.load.Statement.{statement}
 use Rattle.graph.proofs.successors.load.Tie as tie
@@ -23,29 +22,14 @@ abbrev μ-loop : tie.MeasureT-loop
 loop-holds : tie.Need-loop-holds Inv-loop μ-loop
 loop-holds c = (omega arith, omega arith, omega arith, λ v h. absurd (omega arith))
 
-cast-at : tie.Need-cast-at Inv-loop μ-loop
-cast-at c = search needs
+cast-block-at : tie.Need-cast-block-at Inv-loop μ-loop
+cast-block-at c = search needs
 
-add-at : tie.Need-add-at Inv-loop μ-loop
-add-at c = search needs
+add-block-at : tie.Need-add-block-at Inv-loop μ-loop
+add-block-at c = search needs
 
-mul-at : tie.Need-mul-at Inv-loop μ-loop
-mul-at c = search needs
-
-add-at-2 : tie.Need-add-at-2 Inv-loop μ-loop
-add-at-2 c = search needs
-
-add-cell-at : tie.Need-add-cell-at Inv-loop μ-loop
-add-cell-at c = search needs
-
-cell-at-requires : tie.Need-cell-at-requires Inv-loop μ-loop
-cell-at-requires c κs = search needs
-
-add-cell-at-2 : tie.Need-add-cell-at-2 Inv-loop μ-loop
-add-cell-at-2 c = search needs
-
-cell-at-requires-2 : tie.Need-cell-at-requires-2 Inv-loop μ-loop
-cell-at-requires-2 c κs = search needs
+block-at-requires : tie.Need-block-at-requires Inv-loop μ-loop
+block-at-requires c κs = search needs
 
 cast-i : tie.Need-cast-i Inv-loop μ-loop
 cast-i c = search needs
@@ -55,9 +39,6 @@ mul-row c = search needs
 
 element-set-from-row : tie.Need-element-set-from-row Inv-loop μ-loop
 element-set-from-row c = search needs
-
-cell-at-requires-3 : tie.Need-cell-at-requires-3 Inv-loop μ-loop
-cell-at-requires-3 c κs = search needs
 
 mul-counts : tie.Need-mul-counts Inv-loop μ-loop
 mul-counts c = search needs
@@ -73,22 +54,20 @@ loop-less c = search needs
 
 loop-again : tie.Need-loop-again Inv-loop μ-loop
 loop-again c =
-    let a = c .before .before .before .before .before .before .args in
-    let loop = c .before .before .before .before .loop in
-    let one = c .before .before .cell-at in
-    let two = c .before .cell-at2 in
-    let count = c .cell-at3 in
+    let a = c .before .before .before .before .args in
+    let loop = c .before .before .loop in
+    let read = c .block-at in
+    let b = read .result in
     let f : ℕ → List ℕ = recorded (now (a .blocks)) (a .first) in (
       omega arith,
       simp length-set (omega arith),
       simp length-set (omega arith),
-      rows-more (loop .succs) (loop .counts) (loop .k) (count .result) (one .result) (two .result) f
-          (omega arith) (omega arith) (loop .inv .3) (rw (count .ensures, one .ensures, two .ensures)),
+      rows-more (loop .succs) (loop .counts) (loop .k) (b .successors) (b .to .0) (b .other .0) f
+          (omega arith) (omega arith) (loop .inv .3) (rw (read .ensures)),
     )
 
 returns : tie.Need-returns Inv-loop μ-loop
 returns c =
-    let a = c .before .before .before .args in
     let loop = c .before .loop in
     λ v h. loop .inv .3 v (omega arith)
 
@@ -99,18 +78,12 @@ load-spec =
     Inv-loop
     μ-loop
     loop-holds
-    cast-at
-    add-at
-    mul-at
-    add-at-2
-    add-cell-at
-    cell-at-requires
-    add-cell-at-2
-    cell-at-requires-2
+    cast-block-at
+    add-block-at
+    block-at-requires
     cast-i
     mul-row
     element-set-from-row
-    cell-at-requires-3
     mul-counts
     element-write-counts
     add-k

@@ -6,8 +6,7 @@ use mathlib.Core.Path.{refl}
 use mathlib.Core.List.{List}
 use lib.ListN.{replicate}
 use denote.Ref.{now}
-use Rattle.graph.specs.Records.{recorded}
-use Rattle.graph.specs.Frames.{rowOf}
+use Rattle.graph.specs.Records.{recorded, rowOf}
 use Rattle.graph.proofs.Begin.{ready, ends}
 use Rattle.graph.proofs.walk.walk.Statement.{statement}
 use Rattle.graph.proofs.walk.walk.Tie as tie
