@@ -2,7 +2,8 @@
 -- Successors are block numbers counted from the function's first block. Whatever the cells hold, they are a graph: a
 -- count above 2 is 2, a cell past the end is 0, a function has at most 256 blocks, and an edge to a block that is not
 -- there is no edge.
-use Prim.Native.Nat.{ℕ, zero, suc, _+_, _*_}
+use Prim.Native.Nat.{ℕ, zero, suc, _+_, _*_, _≤_, _<_}
+use mathlib.Core.Path.{_≡_}
 use mathlib.Core.List.{List, [], _∷_}
 use lib.Dec.{ltb}
 use lib.ListN.{getD}
@@ -55,6 +56,14 @@ recorded cells first v = successorsOf (blockAt cells (first + v))
 -- The same, as rows of two cells and the counts beside them hold them.
 abbrev pub rowOf : List (List ℕ) → List ℕ → ℕ → List ℕ
 rowOf rows counts v = counted (getD counts v 0) (getD (getD rows v []) 0 0) (getD (getD rows v []) 1 0)
+
+-- The rows of the n blocks from the record `first` on hold their records' pairs and counts; the other rows are as before.
+pub record Loaded (cells : List ℕ) (first n : ℕ) (rows₀ rows : List (List ℕ)) (counts₀ counts : List ℕ) : Type 0 where
+  pub pairs : (v : ℕ) → v < n
+      → getD rows v [] ≡ blockAt cells (first + v) .to .0 ∷ blockAt cells (first + v) .other .0 ∷ []
+  pub counted-so : (v : ℕ) → v < n → getD counts v 0 ≡ blockAt cells (first + v) .successors
+  pub other-pairs : (v : ℕ) → n ≤ v → getD rows v [] ≡ getD rows₀ v []
+  pub other-counts : (v : ℕ) → n ≤ v → getD counts v 0 ≡ getD counts₀ v 0
 
 -- How many blocks are looked at, of so many.
 unfoldable pub blocksIn : ℕ → ℕ

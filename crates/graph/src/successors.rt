@@ -1,8 +1,8 @@
 // The successors of a function's blocks, from block records to rows of two cells and a count.
 ghost use mathlib.Core.Path.{_≡_};
-ghost use Prim.Native.Nat.{ℕ, _<_, _≤_};
+ghost use Prim.Native.Nat.{_≤_};
 ghost use lib.ListN.{length};
-ghost use Rattle.graph.specs.Records.{recorded, rowOf, blocksIn};
+ghost use Rattle.graph.specs.Records.{Loaded, blocksIn};
 use crate::blocks::block_at;
 
 // How many blocks are looked at.
@@ -24,8 +24,8 @@ pub fn load(
     counts: &mut [u32; 256],
 )
     requires { ⌜ (n ≤ 256) × (length (now succs) ≡ 256) × (length (now counts) ≡ 256) ⌝ }
-    ensures { λ _. ⌜ ((v : ℕ) → v < n
-        → rowOf (now (succs .exit)) (now (counts .exit)) v ≡ recorded (now (blocks .entry)) first v) ⌝ }
+    ensures { λ _. ⌜ Loaded (now (blocks .entry)) first n (now (succs .entry)) (now (succs .exit))
+        (now (counts .entry)) (now (counts .exit)) ⌝ }
 {
     let mut k: u32 = 0;
     while k < n {
