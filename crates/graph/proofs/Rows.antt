@@ -29,8 +29,9 @@ stored {A} l k x d f h p q v less = go (ℕ-discrete v k)
     go (yes e) = rw (e, getD-set-same l k x d h) q
     go (no e) = rw (getD-set-other l k v x d e) (p v (omega (arith, e)))
 
-pub loaded-more : (cells : List ℕ) (first k : ℕ) (rows₀ rows : List (List ℕ)) (counts₀ counts : List ℕ) (b : BlockRecord)
-    → k < length rows → k < length counts → b ≡ blockAt cells (first + k) → Loaded cells first k rows₀ rows counts₀ counts
+pub loaded-more : (cells : List ℕ) (first k : ℕ) (rows₀ rows : List (List ℕ)) (counts₀ counts : List ℕ)
+    (b : BlockRecord) → k < length rows → k < length counts → b ≡ blockAt cells (first + k)
+    → Loaded cells first k rows₀ rows counts₀ counts
     → Loaded cells first (k + 1) rows₀ (set rows k (b .to .0 ∷ b .other .0 ∷ [])) counts₀ (set counts k (b .successors))
 loaded-more cells first k rows₀ rows counts₀ counts b hr hc e p =
     record {
@@ -41,7 +42,8 @@ loaded-more cells first k rows₀ rows counts₀ counts b hr hc e p =
       other-pairs =
           λ v h. getD-set-other rows k v (b .to .0 ∷ b .other .0 ∷ []) [] (λ z. omega arith)
           ∙ p .other-pairs v (omega arith);
-      other-counts = λ v h. getD-set-other counts k v (b .successors) 0 (λ z. omega arith) ∙ p .other-counts v (omega arith);
+      other-counts =
+          λ v h. getD-set-other counts k v (b .successors) 0 (λ z. omega arith) ∙ p .other-counts v (omega arith);
     }
   where
     pair : ℕ → List ℕ

@@ -57,7 +57,7 @@ recorded cells first v = successorsOf (blockAt cells (first + v))
 abbrev pub rowOf : List (List ℕ) → List ℕ → ℕ → List ℕ
 rowOf rows counts v = counted (getD counts v 0) (getD (getD rows v []) 0 0) (getD (getD rows v []) 1 0)
 
--- The rows of the n blocks from the record `first` on hold their records' pairs and counts; the other rows are as before.
+-- The rows of the n blocks from the record `first` on hold their records' pairs and counts; the others are as before.
 pub record Loaded (cells : List ℕ) (first n : ℕ) (rows₀ rows : List (List ℕ)) (counts₀ counts : List ℕ) : Type 0 where
   pub pairs : (v : ℕ) → v < n
       → getD rows v [] ≡ blockAt cells (first + v) .to .0 ∷ blockAt cells (first + v) .other .0 ∷ []

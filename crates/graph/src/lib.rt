@@ -20,8 +20,9 @@ pub const BLOCK_CELLS: usize = 8;
 // A block of a function, by its number in it: the Rust's index.
 pub struct BlockId(pub u32);
 
-// A block as it is recorded: its first operation, as an index among all items, and how many it has; how many successors,
-// and the pair of them; its first predecessor, as an index among all predecessors, and how many; 1 if it is dead.
+// A block as it is recorded: its first operation, as an index among all items, and how many it has; how many successors
+// it has, and the pair of them; its first predecessor, as an index among all predecessors, and how many; and 1 where it
+// is dead, else 0.
 pub struct BlockRecord {
     pub first: u32,
     pub operations: u32,

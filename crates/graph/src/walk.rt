@@ -49,8 +49,8 @@ fn push_successors(
     top: usize,
 ) -> usize
     requires { ⌜ (block .0 < 256) × (top + 2 ≤ 513) ⌝ }
-    ensures { λ r. ⌜ stack (now (processing .exit)) r
-        ≡ pushAll n (rowOf (now (succs .entry)) (now (counts .entry)) (block .0)) (stack (now (processing .entry)) top) ⌝ }
+    ensures { λ r. ⌜ stack (now (processing .exit)) r ≡ pushAll n
+        (rowOf (now (succs .entry)) (now (counts .entry)) (block .0)) (stack (now (processing .entry)) top) ⌝ }
 {
     let i = block.0 as usize;
     let count = counts[i];

@@ -175,17 +175,18 @@ module _ (items : List ℕ) (all : List Block) (named first end base : ℕ) (cel
         let o : block .operations ≡ stop - from = omega (arith, shut .has-operations, ends) in
         let now-closed : closedOf first block (places all (block .goes))
         ≡ blockRecord from (stop - from) c (x .0) (y .0) 0 0 0 = rw (l, f, o, g .1, g .2, g .3) in
-        let s : putClosed all first (sets cells (k * 8) (cellsOf (closedOf first block (places all (block .goes))))) (k + 1) more
-        ≡ putClosed all first cells₀ base all = left-is .stored in
+        let s : putClosed all first (sets cells (k * 8) (cellsOf (closedOf first block (places all (block .goes)))))
+        (k + 1) more ≡ putClosed all first cells₀ base all = left-is .stored in
         record {
           above = omega (arith, left-is .above);
           long =
-              length-sets cells (k * 8) (cellsOf (blockRecord from (stop - from) c (x .0) (y .0) 0 0 0)) ∙ left-is .long;
+              length-sets cells (k * 8) (cellsOf (blockRecord from (stop - from) c (x .0) (y .0) 0 0 0))
+              ∙ left-is .long;
           counts = omega (arith, left-is .counts);
           resolves = sym (resolved ∙ g .0 (resolveFrom all named more));
           stored =
-              ap (λ (b : BlockRecord). putClosed all first (sets cells (k * 8) (cellsOf b)) (k + 1) more) (sym now-closed)
-              ∙ s;
+              ap (λ (b : BlockRecord). putClosed all first (sets cells (k * 8) (cellsOf b)) (k + 1) more)
+              (sym now-closed) ∙ s;
         }
 
   refused-by : (e : Refusal) (t : Bool) → eqb stop from ≡ t
@@ -231,7 +232,8 @@ module _ (items : List ℕ) (all : List Block) (named first end base : ℕ) (cel
   -- it was the last
   pub cut-end : (m : ℕ) (cells′ : List ℕ) → addedD before names items from stop (refusal 22 named 0) k ≡ N.Done m
       → cells′ ≡ addedCells before names items from stop cells k → stop ≡ end
-      → (N.Done (m - base) ≡ numberedBy all (resolveFrom all named all)) × (cells′ ≡ putClosed all first cells₀ base all)
+      → (N.Done (m - base) ≡ numberedBy all (resolveFrom all named all))
+      × (cells′ ≡ putClosed all first cells₀ base all)
   unfolding resolveFrom putClosed
   cut-end m cells′ h e last =
       let d = turn-done m h in

@@ -135,7 +135,8 @@ pub links-same : (f g : ℕ → List ℕ) (k n : ℕ) → ((v : ℕ) → v < k +
 unfolding linksFrom
 links-same f g k zero h = refl
 links-same f g k (suc n) h =
-    rw (h k (omega arith)) (ap (λ (x : List (List ℕ)). g k ∷ x) (links-same f g (k + 1) n (λ v less. h v (omega arith))))
+    rw (h k (omega arith))
+    (ap (λ (x : List (List ℕ)). g k ∷ x) (links-same f g (k + 1) n (λ v less. h v (omega arith))))
 
 -- All blocks' edges to all blocks. ----------------------------------------------------------------------------------
 

@@ -36,7 +36,8 @@ link-refused ps named e h = rw (numbered-refused (blocksOf ps) (resolveD named (
 
 module _ (items : List ℕ) (first count named base used : ℕ) (cells₀ cells : List ℕ) (n : ℕ)
     (done : N.Done n ≡ numberedBy (blocksOf (partsAt items first count)) (resolveD named (blocksOf (partsAt items first count))))
-    (closed : cells ≡ putClosed (blocksOf (partsAt items first count)) first cells₀ base (blocksOf (partsAt items first count)))
+    (closed : cells
+    ≡ putClosed (blocksOf (partsAt items first count)) first cells₀ base (blocksOf (partsAt items first count)))
     (few : base + filled true (partsAt items first count) ≤ 1024) (room : 8192 ≤ length cells₀) (low : used ≤ base * 2) where
   abbrev ps : List Part
   ps = partsAt items first count
@@ -84,7 +85,8 @@ module _ (items : List ℕ) (first count named base used : ℕ) (cells₀ cells 
       let m : next - used ≡ length (predecessorCells 0 links all) = omega (arith, h, ap length entries) in
       rw (resolved, m, counted)
 
-  pub link-held : (cells′ preds₀ preds : List ℕ) → cells′ ≡ putEntered 0 used (linksFrom (recorded cells base) 0 n) cells base n
+  pub link-held : (cells′ preds₀ preds : List ℕ)
+      → cells′ ≡ putEntered 0 used (linksFrom (recorded cells base) 0 n) cells base n
       → preds ≡ sets preds₀ used (entriesFrom 0 (linksFrom (recorded cells base) 0 n) n)
       → Linking ps first base used cells₀ cells′ preds₀ preds
   link-held cells′ preds₀ preds h q =

@@ -10,7 +10,7 @@ use lib.Dec.{eqb}
 use lib.ListN.{length, getD, set, length-set}
 use lib.Seq.{sets, length-sets, getD-set-same, getD-set-other, set-set, set-comm}
 use Rattle.utils.proofs.Runs.{sets-append}
-use Rattle.graph.specs.Records.{cellsOf, blockAt, successorsOf, recorded}
+use Rattle.graph.specs.Records.{blockRecord, cellsOf, blockAt, successorsOf, recorded}
 use Rattle.graph.specs.declared.BlockRecord.{BlockRecord}
 use Rattle.graph.proofs.Rows.{counted-is}
 use Rattle.parser.specs.Blocks.{Block}
@@ -125,8 +125,8 @@ mark-is : (j : ℕ) (all : List (List ℕ)) → bit (isDead j all) ≡ markOf j 
 unfolding isDead
 mark-is j all = rw (none-is (predecessors j 0 all))
 
-pub records-whole : (all : List Block) (links : List (List ℕ)) (first : ℕ) (bs : List Block) (j used : ℕ) (l : List ℕ) (k : ℕ)
-    → (k + length bs) * 8 ≤ length l
+pub records-whole : (all : List Block) (links : List (List ℕ)) (first : ℕ) (bs : List Block) (j used : ℕ) (l : List ℕ)
+    (k : ℕ) → (k + length bs) * 8 ≤ length l
     → putEntered j used links (putClosed all first l k bs) k (length bs)
     ≡ sets l (k * 8) (blockCells first used j links (successors all bs) bs)
 unfolding putEntered putClosed blockCells successors
@@ -140,16 +140,19 @@ records-whole all links first (b ∷ bs) j used l k h =
     let next = putClosed all first old (k + 1) bs in
     let more = blockCells first (used + n) (j + 1) links (successors all bs) bs in
     let e : (k + 1) * 8 ≡ k * 8 + 8 = omega arith in
-    let again : sets next (k * 8) (cellsOf (enteredBy (blockAt next k) j used n)) ≡ putClosed all first (sets l (k * 8) whole) (k + 1) bs =
-    ap (λ (x : BlockRecord). sets next (k * 8) (cellsOf (enteredBy x j used n))) (record-back all bs first l k closed (omega arith))
+    let again : sets next (k * 8) (cellsOf (enteredBy (blockAt next k) j used n))
+    ≡ putClosed all first (sets l (k * 8) whole) (k + 1) bs =
+    ap (λ (x : BlockRecord). sets next (k * 8) (cellsOf (enteredBy x j used n)))
+    (record-back all bs first l k closed (omega arith))
     ∙ record-aside whole all bs first old (k + 1) (k * 8) (omega arith)
     ∙ ap (λ (x : List ℕ). putClosed all first x (k + 1) bs) (sets-over (cellsOf closed) whole l (k * 8) refl) in
     ap (λ (x : List ℕ). putEntered (j + 1) (used + n) links x (k + 1) (length bs)) again
     ∙ records-whole all links first bs (j + 1) (used + n) (sets l (k * 8) whole) (k + 1)
     (omega (arith, length-sets l (k * 8) whole))
     ∙ rw e (sym (sets-append whole more l (k * 8)))
-    ∙ ap (λ (m : ℕ). sets l (k * 8) ((first + b .first) ∷ b .operations ∷ length s ∷ getD s 0 0 ∷ getD s 1 0 ∷ used ∷ n ∷ m
-    ∷ more)) (sym (mark-is j links))
+    ∙ ap (λ (m : ℕ). sets l (k * 8)
+    (cellsOf (blockRecord (first + b .first) (b .operations) (length s) (getD s 0 0) (getD s 1 0) used n m) ++ more))
+    (sym (mark-is j links))
 
 pub entries-are : (bs : List Block) (j : ℕ) (links : List (List ℕ))
     → entriesFrom j links (length bs) ≡ predecessorCells j links bs

@@ -36,8 +36,8 @@ returns c =
     let succs = load .last .1 .1 .1 .0 in
     let counts = load .last .1 .1 .1 .1 .0 in
     let rows : ℕ → List ℕ = rowOf succs counts in
-    let same = loaded-row (now (a .blocks)) (a .first) (a .n) (replicate 256 (replicate 2 0)) succs (replicate 256 0) counts
-    (load .ensures) in
+    let same = loaded-row (now (a .blocks)) (a .first) (a .n) (replicate 256 (replicate 2 0)) succs (replicate 256 0)
+    counts (load .ensures) in
     let records : ℕ → List ℕ = recorded (now (a .blocks)) (a .first) in
     ends (a .n) (a .met .now) (a .left .now) (replicate 513 0) (s .pre .0) (s .pre .1) (s .pre .2) refl
     (push .last .0) (push .result) (push .ensures .0) rows records

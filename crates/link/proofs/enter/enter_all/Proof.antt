@@ -112,7 +112,8 @@ returns c =
     let loop = c .before .loop in
     let all = linksFrom (rowOf (now (a .succs)) (now (a .counts))) 0 (a .n) in
     let done = entered-all (loop .inv .2) (entries-none all (loop .j) (a .n - loop .j) (omega arith)) in
-    let none = entered-end (loop .here) all (loop .blocks) (loop .j) (a .base + loop .j) (a .n - loop .j) (omega arith) in
+    let none = entered-end (loop .here) all (loop .blocks) (loop .j) (a .base + loop .j) (a .n - loop .j)
+    (omega arith) in
     (done .0, (rw none at (loop .inv .3), done .1))
 
 pub enter-all-spec : {M : Type 1} → statement M

@@ -20,8 +20,8 @@ enter-all-requires c κs =
     let counts = load .last .1 .1 .1 .1 .0 in
     let rows : ℕ → List ℕ = rowOf succs counts in
     let records : ℕ → List ℕ = recorded (now (a .blocks)) (a .base) in
-    let each = loaded-row (now (a .blocks)) (a .base) (a .n) (replicate 256 (replicate 2 0)) succs (replicate 256 0) counts
-    (load .ensures) in
+    let each = loaded-row (now (a .blocks)) (a .base) (a .n) (replicate 256 (replicate 2 0)) succs (replicate 256 0)
+    counts (load .ensures) in
     let same = links-same rows records 0 (a .n) (λ v h. each v (omega arith)) in
     (s .pre .0, s .pre .1, s .pre .2, rw same (s .pre .3), s .pre .4)
 
@@ -35,8 +35,8 @@ returns c =
     let counts = load .last .1 .1 .1 .1 .0 in
     let rows : ℕ → List ℕ = rowOf succs counts in
     let records : ℕ → List ℕ = recorded (now (a .blocks)) (a .base) in
-    let each = loaded-row (now (a .blocks)) (a .base) (a .n) (replicate 256 (replicate 2 0)) succs (replicate 256 0) counts
-    (load .ensures) in
+    let each = loaded-row (now (a .blocks)) (a .base) (a .n) (replicate 256 (replicate 2 0)) succs (replicate 256 0)
+    counts (load .ensures) in
     let same = links-same rows records 0 (a .n) (λ v h. each v (omega arith)) in
     rw same at (enter-all .ensures)
 
