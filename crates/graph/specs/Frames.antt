@@ -7,11 +7,6 @@ use lib.Dec.{eqb, ltb}
 use lib.ListN.{length, getD, set, take, drop}
 use Rattle.utils.specs.Bytes.{pick}
 use Rattle.graph.specs.Walk.{Walk, walkFrom, leave}
-use Rattle.graph.specs.Records.{counted}
-
--- the successors of block v, as rows of two cells and the counts beside them hold them
-abbrev pub rowOf : List (List ℕ) → List ℕ → ℕ → List ℕ
-rowOf rows counts v = counted (getD counts v 0) (getD (getD rows v []) 0 0) (getD (getD rows v []) 1 0)
 
 -- A stack: its first `top` entries.
 pub record Stack : Type 0 where

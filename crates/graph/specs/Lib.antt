@@ -1,7 +1,7 @@
 -- What the block order means, in reading order.
 -- document 01's sentence
 pub mod Walk
--- a function's graph, from block records
+-- a block's record, and a function's graph, from block records
 pub mod Records
 -- the worklist's answers
 pub mod Worklist

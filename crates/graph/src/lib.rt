@@ -1,11 +1,11 @@
 // The order in which a function's blocks are typed, from analysis/src/cfg.rs: RPOWorklist.
 //
-// A caller lends the block records of a text, eight cells each. The third cell says how many successors a block has,
-// and the two after it are their numbers, counted from the function's first block. The caller says which record is that
-// block's, and how many blocks the function has. Nothing is asked of the cells: specs/Records.antt says which graph any
-// cells are.
+// A caller lends the block records of a text, eight cells each (`BlockRecord`). The caller says which record is that of
+// the function's first block, and how many blocks the function has. Nothing is asked of the cells: specs/Records.antt
+// says which graph any cells are.
+pub mod blocks;
 mod place;
-mod successors;
+pub mod successors;
 mod walk;
 
 ghost use mathlib.Core.Path.{_≡_};
@@ -14,13 +14,25 @@ ghost use Rattle.graph.specs.Walk.{metBlocks, blockOrder};
 ghost use Rattle.graph.specs.Records.{recorded, blocksIn};
 ghost use Rattle.graph.specs.Worklist.{worklist, popped, flagged};
 
-// Cells of a block's record, and the one among them that its successors begin with.
+// Cells of a block's record.
 pub const BLOCK_CELLS: usize = 8;
-
-pub const SUCCESSORS: usize = 2;
 
 // A block of a function, by its number in it: the Rust's index.
 pub struct BlockId(pub u32);
+
+// A block as it is recorded: its first operation, as an index among all items, and how many it has; how many successors
+// it has, and the pair of them; its first predecessor, as an index among all predecessors, and how many; and 1 where it
+// is dead, else 0.
+pub struct BlockRecord {
+    pub first: u32,
+    pub operations: u32,
+    pub successors: u32,
+    pub to: BlockId,
+    pub other: BlockId,
+    pub entries: u32,
+    pub predecessors: u32,
+    pub dead: u32,
+}
 
 // The Rust's worklist once every block was pushed. The order stands in an array of the caller's; the worklist says how
 // many of its blocks were taken, and goes in and comes back by value.

@@ -7,6 +7,7 @@ ghost use lib.Seq.{sets};
 ghost use Rattle.utils.specs.Bytes.{pick};
 ghost use Rattle.graph.specs.Walk.{neverMet};
 ghost use Rattle.graph.specs.Frames.{waiting};
+use crate::BlockId;
 
 // The blocks left stand from `at` on. How many there are.
 pub fn put_left(left: &[u32; 256], at: usize, out: &mut [u32; 256]) -> usize
@@ -24,24 +25,25 @@ pub fn put_left(left: &[u32; 256], at: usize, out: &mut [u32; 256]) -> usize
 }
 
 // Block k goes to the place `at`, if its flag is 0. The place after it.
-fn put_one(out: &mut [u32; 256], at: usize, k: u32, flag: u8) -> usize
+fn put_one(out: &mut [u32; 256], at: usize, k: BlockId, flag: u8) -> usize
     requires { ⌜ at + pick (eqb flag 0) 1 0 ≤ 256 ⌝ }
     ensures { λ r. ⌜ (r ≡ at + pick (eqb flag 0) 1 0)
-        × (now (out .exit) ≡ pick (eqb flag 0) (set (now (out .entry)) at k) (now (out .entry))) ⌝ }
+        × (now (out .exit) ≡ pick (eqb flag 0) (set (now (out .entry)) at (k .0)) (now (out .entry))) ⌝ }
 {
     if flag == 0 {
-        out[at] = k;
+        out[at] = k.0;
         return at + 1;
     }
     at
 }
 
 // The block looked at when `rest` of n blocks are still to be looked at: by rising block number.
-fn next_block(n: u32, rest: u32) -> u32
+fn next_block(n: u32, rest: u32) -> BlockId
     requires { ⌜ (1 ≤ rest) × (rest ≤ n) ⌝ }
-    ensures { λ r. ⌜ r + rest ≡ n ⌝ }
+    ensures { λ r. ⌜ r .0 + rest ≡ n ⌝ }
 {
-    n - rest
+    let k = n - rest;
+    BlockId(k)
 }
 
 // The blocks whose flag is 0, by rising block number, from the place `start` on.
@@ -53,7 +55,7 @@ pub fn put_unmet(met: &[u8; 256], n: u32, out: &mut [u32; 256], start: usize)
     let mut rest = n;
     while 0 < rest {
         let k = next_block(n, rest);
-        let i = k as usize;
+        let i = k.0 as usize;
         at = put_one(out, at, k, met[i]);
         rest -= 1;
     }

@@ -1,10 +1,9 @@
 // The successors of a function's blocks, from block records to rows of two cells and a count.
 ghost use mathlib.Core.Path.{_≡_};
-ghost use Prim.Native.Nat.{ℕ, _<_, _≤_};
+ghost use Prim.Native.Nat.{_≤_};
 ghost use lib.ListN.{length};
-ghost use Rattle.graph.specs.Records.{recorded, blocksIn};
-ghost use Rattle.graph.specs.Frames.{rowOf};
-use utils::cell_at;
+ghost use Rattle.graph.specs.Records.{Loaded, blocksIn};
+use crate::blocks::block_at;
 
 // How many blocks are looked at.
 pub fn at_most_256(count: u32) -> u32
@@ -25,16 +24,16 @@ pub fn load(
     counts: &mut [u32; 256],
 )
     requires { ⌜ (n ≤ 256) × (length (now succs) ≡ 256) × (length (now counts) ≡ 256) ⌝ }
-    ensures { λ _. ⌜ ((v : ℕ) → v < n
-        → rowOf (now (succs .exit)) (now (counts .exit)) v ≡ recorded (now (blocks .entry)) first v) ⌝ }
+    ensures { λ _. ⌜ Loaded (now (blocks .entry)) first n (now (succs .entry)) (now (succs .exit))
+        (now (counts .entry)) (now (counts .exit)) ⌝ }
 {
     let mut k: u32 = 0;
     while k < n {
-        let at = (first as usize + k as usize) * super::BLOCK_CELLS + super::SUCCESSORS;
-        let row = [cell_at(blocks, at + 1), cell_at(blocks, at + 2)];
+        let b = block_at(blocks, first as usize + k as usize);
+        let row = [b.to.0, b.other.0];
         let i = k as usize;
         succs[i] = row;
-        counts[i] = cell_at(blocks, at);
+        counts[i] = b.successors;
         k += 1;
     }
 }

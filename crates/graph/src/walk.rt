@@ -5,8 +5,9 @@ ghost use Prim.Native.Nat.{_+_, _<_, _≤_};
 ghost use mathlib.Core.List.{_∷_};
 ghost use lib.ListN.{length, drop, replicate};
 ghost use Rattle.graph.specs.Walk.{walked};
-ghost use Rattle.graph.specs.Records.{recorded};
-ghost use Rattle.graph.specs.Frames.{rowOf, stack, pushOne, pushAll, state, coming, Ready, Turned, Holds};
+ghost use Rattle.graph.specs.Records.{recorded, rowOf};
+ghost use Rattle.graph.specs.Frames.{stack, pushOne, pushAll, state, coming, Ready, Turned, Holds};
+use crate::BlockId;
 
 // How many entries `processing` has, and where the blocks left begin.
 pub struct Step {
@@ -15,24 +16,24 @@ pub struct Step {
 }
 
 // A block is left: it goes in front of those left before.
-fn leave(left: &mut [u32; 256], at: usize, block: u32) -> usize
+fn leave(left: &mut [u32; 256], at: usize, block: BlockId) -> usize
     requires { ⌜ (0 < at) × (at ≤ 256) × (length (now left) ≡ 256) ⌝ }
     ensures { λ r. ⌜ (r + 1 ≡ at) × (length (now (left .exit)) ≡ 256)
-        × (drop r (now (left .exit)) ≡ block ∷ drop at (now (left .entry))) ⌝ }
+        × (drop r (now (left .exit)) ≡ block .0 ∷ drop at (now (left .entry))) ⌝ }
 {
     let k = at - 1;
-    left[k] = block;
+    left[k] = block.0;
     k
 }
 
 // A block goes on the stack, if it is one of the n.
-fn push(processing: &mut [u32; 513], top: usize, n: u32, block: u32) -> usize
+fn push(processing: &mut [u32; 513], top: usize, n: u32, block: BlockId) -> usize
     requires { ⌜ top < 513 ⌝ }
-    ensures { λ r. ⌜ stack (now (processing .exit)) r ≡ pushOne n block (stack (now (processing .entry)) top) ⌝ }
+    ensures { λ r. ⌜ stack (now (processing .exit)) r ≡ pushOne n (block .0) (stack (now (processing .entry)) top) ⌝ }
     ensures { λ r. ⌜ r ≤ top + 1 ⌝ }
 {
-    if block < n {
-        processing[top] = block;
+    if block.0 < n {
+        processing[top] = block.0;
         return top + 1;
     }
     top
@@ -43,23 +44,26 @@ fn push_successors(
     succs: &[[u32; 2]; 256],
     counts: &[u32; 256],
     n: u32,
-    block: usize,
+    block: BlockId,
     processing: &mut [u32; 513],
     top: usize,
 ) -> usize
-    requires { ⌜ (block < 256) × (top + 2 ≤ 513) ⌝ }
-    ensures { λ r. ⌜ stack (now (processing .exit)) r
-        ≡ pushAll n (rowOf (now (succs .entry)) (now (counts .entry)) block) (stack (now (processing .entry)) top) ⌝ }
+    requires { ⌜ (block .0 < 256) × (top + 2 ≤ 513) ⌝ }
+    ensures { λ r. ⌜ stack (now (processing .exit)) r ≡ pushAll n
+        (rowOf (now (succs .entry)) (now (counts .entry)) (block .0)) (stack (now (processing .entry)) top) ⌝ }
 {
-    let count = counts[block];
+    let i = block.0 as usize;
+    let count = counts[i];
+    let to = BlockId(succs[i][0]);
+    let other = BlockId(succs[i][1]);
     if count == 0 {
         return top;
     }
     if count == 1 {
-        return push(processing, top, n, succs[block][0]);
+        return push(processing, top, n, to);
     }
-    let one = push(processing, top, n, succs[block][0]);
-    push(processing, one, n, succs[block][1])
+    let one = push(processing, top, n, to);
+    push(processing, one, n, other)
 }
 
 // One turn of the Rust's loop.
@@ -81,7 +85,7 @@ fn turn(
     let t = top - 1;
     let current = processing[t];
     if 256 <= current {
-        let k = leave(left, at, current - 256);
+        let k = leave(left, at, BlockId(current - 256));
         return Step { top: t, at: k };
     }
     let i = current as usize;
@@ -90,7 +94,7 @@ fn turn(
     }
     met[i] = 1;
     processing[t] = current + 256;
-    let up = push_successors(succs, counts, n, i, processing, top);
+    let up = push_successors(succs, counts, n, BlockId(current), processing, top);
     Step { top: up, at }
 }
 
@@ -129,6 +133,6 @@ pub fn walk(blocks: &[u32], first: u32, n: u32, met: &mut [u8; 256], left: &mut 
     let mut counts = [0u32; 256];
     super::successors::load(blocks, first, n, &mut succs, &mut counts);
     let mut processing = [0u32; 513];
-    let top = push(&mut processing, 0, n, 0);
+    let top = push(&mut processing, 0, n, BlockId(0));
     process(&succs, &counts, n, met, left, &mut processing, top)
 }

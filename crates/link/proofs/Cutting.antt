@@ -10,7 +10,9 @@ use lib.Dec.{eqb}
 use lib.ListN.{length, drop}
 use lib.Seq.{sets, length-sets}
 use Rattle.utils.specs.Bytes.{pick}
+use Rattle.graph.specs.Records.{blockRecord, cellsOf}
 use Rattle.graph.specs.declared.BlockId.{BlockId}
+use Rattle.graph.specs.declared.BlockRecord.{BlockRecord}
 use Rattle.parser.specs.Step.{refusal}
 use Rattle.parser.specs.Blocks.{Part, name, operation, Block, fresh, blocksFrom, blocksAfter, blocksOf}
 use Rattle.parser.specs.Edges.{placeOf, places, refused, resolveLabels, resolveFrom}
@@ -18,7 +20,7 @@ use Rattle.parser.specs.declared.Refusal.{Refusal}
 use Rattle.body.specs.Records.{recordAt, partsAt, goesOf}
 use Rattle.body.specs.Room.{filled}
 use Rattle.link.specs.Table.{leading, labelPlace}
-use Rattle.link.specs.Steps.{goesD, run, putGoes, countedBy, addedD, addedCells, fiveOf, putFives, numberedBy}
+use Rattle.link.specs.Steps.{goesD, run, putGoes, countedBy, addedD, addedCells, closedOf, putClosed, numberedBy}
 use Rattle.link.specs.declared.Goes.{Goes}
 use Rattle.link.specs.declared.Goes.the-variants as G
 use Rattle.link.specs.declared.Numbered.{Numbered}
@@ -33,7 +35,7 @@ pub record Left (all : List Block) (name first base : ℕ) (cells₀ cells : Lis
   pub long : length cells ≡ length cells₀
   pub counts : k + length rest ≡ base + length all
   pub resolves : resolveFrom all name rest ≡ resolveFrom all name all
-  pub stored : putFives all first cells (k * 8) rest ≡ putFives all first cells₀ (base * 8) all
+  pub stored : putClosed all first cells k rest ≡ putClosed all first cells₀ base all
 
 -- the blocks of the items from `from` on, where a block begins
 abbrev pub restOf : List ℕ → ℕ → ℕ → ℕ → List ℕ → List Block
@@ -161,8 +163,8 @@ module _ (items : List ℕ) (all : List Block) (named first end base : ℕ) (cel
         resolved ∙ g (resolveFrom all named more)
 
     went : (c : ℕ) (x y : BlockId) → goesD before names (recordAt items (stop - 1)) ≡ G.Done c x y
-        → Left all named first base cells₀ (putGoes cells (k * 8) from (stop - from) (G.Done c x y)) (k + 1) more
-    unfolding putFives
+        → Left all named first base cells₀ (putGoes cells k from (stop - from) (G.Done c x y)) (k + 1) more
+    unfolding putClosed
     went c x y h =
         let r = recordAt items (stop - 1) in
         let g : Gone all (r .token) (goesOf r) (G.Done c x y) =
@@ -171,18 +173,20 @@ module _ (items : List ℕ) (all : List Block) (named first end base : ℕ) (cel
         let l : block .goes ≡ goesOf r = rw e at (shut .last-goes some) in
         let f : first + block .first ≡ from = omega (arith, shut .begins, cut .low) in
         let o : block .operations ≡ stop - from = omega (arith, shut .has-operations, ends) in
-        let five : fiveOf first block (places all (block .goes)) ≡ from ∷ (stop - from) ∷ c ∷ x .0 ∷ y .0 ∷ [] =
-        rw (l, f, o, g .1, g .2, g .3) in
-        let m : (k + 1) * 8 ≡ k * 8 + 8 = omega arith in
-        let s : putFives all first (sets cells (k * 8) (fiveOf first block (places all (block .goes)))) (k * 8 + 8) more
-        ≡ putFives all first cells₀ (base * 8) all = left-is .stored in
+        let now-closed : closedOf first block (places all (block .goes))
+        ≡ blockRecord from (stop - from) c (x .0) (y .0) 0 0 0 = rw (l, f, o, g .1, g .2, g .3) in
+        let s : putClosed all first (sets cells (k * 8) (cellsOf (closedOf first block (places all (block .goes)))))
+        (k + 1) more ≡ putClosed all first cells₀ base all = left-is .stored in
         record {
           above = omega (arith, left-is .above);
-          long = length-sets cells (k * 8) (from ∷ (stop - from) ∷ c ∷ x .0 ∷ y .0 ∷ []) ∙ left-is .long;
+          long =
+              length-sets cells (k * 8) (cellsOf (blockRecord from (stop - from) c (x .0) (y .0) 0 0 0))
+              ∙ left-is .long;
           counts = omega (arith, left-is .counts);
           resolves = sym (resolved ∙ g .0 (resolveFrom all named more));
           stored =
-              ap (λ (xs : List ℕ). putFives all first (sets cells (k * 8) xs) ((k + 1) * 8) more) (sym five) ∙ rw m s;
+              ap (λ (b : BlockRecord). putClosed all first (sets cells (k * 8) (cellsOf b)) (k + 1) more)
+              (sym now-closed) ∙ s;
         }
 
   refused-by : (e : Refusal) (t : Bool) → eqb stop from ≡ t
@@ -208,7 +212,7 @@ module _ (items : List ℕ) (all : List Block) (named first end base : ℕ) (cel
   done-by : (m : ℕ) (t : Bool) (g : Goes) → eqb stop from ≡ t → goesD before names (recordAt items (stop - 1)) ≡ g
       → pick t (N.Refused (refusal 22 named 0)) (countedBy k g) ≡ N.Done m
       → (m ≡ k + 1) × (from < stop)
-      × Left all named first base cells₀ (pick t cells (putGoes cells (k * 8) from (stop - from) g)) (k + 1) more
+      × Left all named first base cells₀ (pick t cells (putGoes cells k from (stop - from) g)) (k + 1) more
   unfolding pick
   done-by m true g q h u = let z : _≡_ {A = ℕ} 0 1 = cc in absurd (omega arith)
   done-by m false (G.Refused e) q h u = let z : _≡_ {A = ℕ} 0 1 = cc in absurd (omega arith)
@@ -228,8 +232,9 @@ module _ (items : List ℕ) (all : List Block) (named first end base : ℕ) (cel
   -- it was the last
   pub cut-end : (m : ℕ) (cells′ : List ℕ) → addedD before names items from stop (refusal 22 named 0) k ≡ N.Done m
       → cells′ ≡ addedCells before names items from stop cells k → stop ≡ end
-      → (N.Done (m - base) ≡ numberedBy all (resolveFrom all named all)) × (cells′ ≡ putFives all first cells₀ (base * 8) all)
-  unfolding resolveFrom putFives
+      → (N.Done (m - base) ≡ numberedBy all (resolveFrom all named all))
+      × (cells′ ≡ putClosed all first cells₀ base all)
+  unfolding resolveFrom putClosed
   cut-end m cells′ h e last =
       let d = turn-done m h in
       let none : more ≡ [] =

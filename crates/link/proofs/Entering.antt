@@ -2,16 +2,17 @@
 use Prim.Native.Nat.{ℕ, zero, suc, _+_, _-_, _*_, _≤_, _<_}
 use mathlib.Core.Path.{_≡_, refl, sym, ap, _∙_}
 use mathlib.Core.Bool.{Bool, true, false}
-use mathlib.Core.Logic.{_⊎_, inl, inr}
 use mathlib.Core.List.{List, [], _∷_, _++_}
 use native.Mathlib.Omega.{arith}
-use lib.Dec.{ltb, eqb}
+use borrow.Author.Tests.{lt-ltb}
+use lib.Dec.{eqb}
 use lib.ListN.{length, getD, set, length-append}
-use lib.Seq.{sets, length-sets, getD-set-other}
+use lib.Seq.{sets, length-sets}
 use Rattle.utils.specs.Bytes.{pick}
 use Rattle.utils.proofs.Runs.{sets-append}
+use Rattle.graph.specs.Records.{cellsOf, blockAt, counted, rowOf}
 use Rattle.parser.specs.Edges.{entering, predecessors}
-use Rattle.link.specs.Steps.{entersD, goesAt, linksAt, entriesFrom, threeOf, putThrees}
+use Rattle.link.specs.Steps.{entersD, linksFrom, entriesFrom, enteredBy, putEntered}
 
 -- Of `whole`, to be stored from `used` on, `rest` is left, to be stored from `here` on.
 pub record Entered (whole rest : List ℕ) (used here : ℕ) (s₀ s : List ℕ) : Type 0 where
@@ -47,23 +48,14 @@ unfolding pick
 entering-one k true r = refl
 entering-one k false r = refl
 
-entering-two : (j k x y : ℕ) (p q : Bool)
-    → entering j k (pick p (x ∷ []) [] ++ pick q (y ∷ []) []) []
-    ≡ source k (pick p (eqb x j) false) ++ source k (pick q (eqb y j) false)
-unfolding entering pick
-entering-two j k x y true true = entering-one k (eqb x j) (source k (eqb y j))
-entering-two j k x y true false = entering-one k (eqb x j) []
-entering-two j k x y false true = refl
-entering-two j k x y false false = refl
-
-pub sources-of : (cells : List ℕ) (i j k : ℕ)
-    → entering j k (goesAt cells i) []
-    ≡ source k (entersD (getD cells (i + 2) 0) 0 (getD cells (i + 3) 0) j)
-    ++ source k (entersD (getD cells (i + 2) 0) 1 (getD cells (i + 4) 0) j)
-unfolding goesAt entersD
-sources-of cells i j k =
-    entering-two j k (getD cells (i + 3) 0) (getD cells (i + 4) 0) (ltb 0 (getD cells (i + 2) 0))
-    (ltb 1 (getD cells (i + 2) 0))
+sources-of : (j k count x y : ℕ)
+    → entering j k (counted count x y) [] ≡ source k (entersD count 0 x j) ++ source k (entersD count 1 y j)
+unfolding entering entersD pick
+sources-of j k zero x y = refl
+sources-of j k (suc zero) x y = entering-one k (eqb x j) []
+sources-of j k (suc (suc n)) x y =
+    rw (lt-ltb 0 (suc (suc n)) (omega arith), lt-ltb 1 (suc (suc n)) (omega arith))
+    (entering-one k (eqb x j) (source k (eqb y j)))
 
 source-length : (k : ℕ) (b : Bool) → length (source k b) ≡ pick b 1 0
 unfolding pick
@@ -75,33 +67,33 @@ unfolding pick
 source-stored s i k true = refl
 source-stored s i k false = refl
 
-module _ (cells : List ℕ) (i j k used : ℕ) (s : List ℕ) (one two : Bool)
-    (p : one ≡ entersD (getD cells (i + 2) 0) 0 (getD cells (i + 3) 0) j)
-    (q : two ≡ entersD (getD cells (i + 2) 0) 1 (getD cells (i + 4) 0) j) where
-  both : entering j k (goesAt cells i) [] ≡ source k one ++ source k two
-  both = rw (p, q) (sources-of cells i j k)
+module _ (rows : List (List ℕ)) (counts : List ℕ) (j k used : ℕ) (s : List ℕ) (one two : Bool)
+    (p : one ≡ entersD (getD counts k 0) 0 (getD (getD rows k []) 0 0) j)
+    (q : two ≡ entersD (getD counts k 0) 1 (getD (getD rows k []) 1 0) j) where
+  both : entering j k (rowOf rows counts k) [] ≡ source k one ++ source k two
+  both = rw (p, q) (sources-of j k (getD counts k 0) (getD (getD rows k []) 0 0) (getD (getD rows k []) 1 0))
 
-  counted : length (entering j k (goesAt cells i) []) ≡ pick one 1 0 + pick two 1 0
-  counted =
+  number : length (entering j k (rowOf rows counts k) []) ≡ pick one 1 0 + pick two 1 0
+  number =
       ap length both ∙ length-append (source k one) (source k two)
       ∙ rw (source-length k one, source-length k two)
 
-  pub room-first : used + length (entering j k (goesAt cells i) []) ≤ length s → used + pick one 1 0 ≤ length s
-  room-first h = omega (arith, h, counted)
+  pub room-first : used + length (entering j k (rowOf rows counts k) []) ≤ length s → used + pick one 1 0 ≤ length s
+  room-first h = omega (arith, h, number)
 
-  pub room-second : (next : ℕ) (t : List ℕ) → used + length (entering j k (goesAt cells i) []) ≤ length s
+  pub room-second : (next : ℕ) (t : List ℕ) → used + length (entering j k (rowOf rows counts k) []) ≤ length s
       → next ≡ used + pick one 1 0 → length t ≡ length s → next + pick two 1 0 ≤ length t
-  room-second next t h u v = omega (arith, h, counted, u, v)
+  room-second next t h u v = omega (arith, h, number, u, v)
 
   pub two-sources : (next last : ℕ) (t w : List ℕ) → (next ≡ used + pick one 1 0) × (t ≡ pick one (set s used k) s)
       → (last ≡ next + pick two 1 0) × (w ≡ pick two (set t next k) t)
-      → (last ≡ used + length (entering j k (goesAt cells i) []))
-      × (w ≡ sets s used (entering j k (goesAt cells i) []))
+      → (last ≡ used + length (entering j k (rowOf rows counts k) []))
+      × (w ≡ sets s used (entering j k (rowOf rows counts k) []))
   two-sources next last t w u v =
       let e : next ≡ used + length (source k one) = omega (arith, u .0, source-length k one) in
       let f : t ≡ sets s used (source k one) = u .1 ∙ source-stored s used k one in
       let g : w ≡ sets t next (source k two) = v .1 ∙ source-stored t next k two in (
-        omega (arith, u .0, v .0, counted),
+        omega (arith, u .0, v .0, number),
         g ∙ rw (e, f, both) (sym (sets-append (source k one) (source k two) s used)),
       )
 
@@ -119,26 +111,32 @@ entering-append j k [] more = refl
 entering-append j k (t ∷ ts) more =
     prepend (eqb t j) k (entering j k ts more) (entering j k ts []) more (entering-append j k ts more)
 
-pub links-more : (cells : List ℕ) (base n : ℕ) → 0 < n
-    → linksAt cells base n ≡ goesAt cells (base * 8) ∷ linksAt cells (base + 1) (n - 1)
-unfolding linksAt
-links-more cells base zero h = absurd (omega arith)
-links-more cells base (suc n) h =
+links-more : (goes : ℕ → List ℕ) (k n : ℕ) → 0 < n → linksFrom goes k n ≡ goes k ∷ linksFrom goes (k + 1) (n - 1)
+unfolding linksFrom
+links-more goes k zero h = absurd (omega arith)
+links-more goes k (suc n) h =
     let e : suc n - 1 ≡ n = omega arith in
     rw e
 
-pub predecessors-more : (cells : List ℕ) (base j k rest : ℕ) → 0 < rest
-    → predecessors j k (linksAt cells (base + k) rest)
-    ≡ entering j k (goesAt cells ((base + k) * 8)) [] ++ predecessors j (k + 1) (linksAt cells (base + (k + 1)) (rest - 1))
+pub predecessors-more : (goes : ℕ → List ℕ) (j k rest : ℕ) → 0 < rest
+    → predecessors j k (linksFrom goes k rest)
+    ≡ entering j k (goes k) [] ++ predecessors j (k + 1) (linksFrom goes (k + 1) (rest - 1))
 unfolding predecessors
-predecessors-more cells base j k rest h =
-    let e : base + (k + 1) ≡ base + k + 1 = omega arith in
-    rw (links-more cells (base + k) rest h, e)
-    (entering-append j k (goesAt cells ((base + k) * 8)) (predecessors j (k + 1) (linksAt cells (base + k + 1) (rest - 1))))
+predecessors-more goes j k rest h =
+    rw (links-more goes k rest h)
+    (entering-append j k (goes k) (predecessors j (k + 1) (linksFrom goes (k + 1) (rest - 1))))
 
-pub predecessors-none : (cells : List ℕ) (base j k rest : ℕ) → rest ≡ 0 → predecessors j k (linksAt cells base rest) ≡ []
-unfolding predecessors linksAt
-predecessors-none cells base j k rest z = rw z
+pub predecessors-none : (goes : ℕ → List ℕ) (j k rest : ℕ) → rest ≡ 0 → predecessors j k (linksFrom goes k rest) ≡ []
+unfolding predecessors linksFrom
+predecessors-none goes j k rest z = rw z
+
+-- The rows' successors are the records', where the rows hold them.
+pub links-same : (f g : ℕ → List ℕ) (k n : ℕ) → ((v : ℕ) → v < k + n → f v ≡ g v) → linksFrom f k n ≡ linksFrom g k n
+unfolding linksFrom
+links-same f g k zero h = refl
+links-same f g k (suc n) h =
+    rw (h k (omega arith))
+    (ap (λ (x : List (List ℕ)). g k ∷ x) (links-same f g (k + 1) n (λ v less. h v (omega arith))))
 
 -- All blocks' edges to all blocks. ----------------------------------------------------------------------------------
 
@@ -153,50 +151,20 @@ pub entries-none : (all : List (List ℕ)) (j n : ℕ) → n ≡ 0 → entriesFr
 unfolding entriesFrom
 entries-none all j n z = rw z
 
--- The three cells behind each block's successors leave the successors as they were.
-aside : (cells : List ℕ) (k m a x y z : ℕ) → m ≡ k * 8 + 5 → (i : ℕ) → i ≡ a * 8 + 2 ⊎ (i ≡ a * 8 + 3 ⊎ i ≡ a * 8 + 4)
-    → getD (sets cells m (x ∷ y ∷ z ∷ [])) i 0 ≡ getD cells i 0
-aside cells k m a x y z e i p =
-    let h : (i ≡ m → ⊥) × (i ≡ suc m → ⊥) × (i ≡ suc (suc m) → ⊥) = by p in
-    getD-set-other (set (set cells m x) (suc m) y) (suc (suc m)) i z 0 (h .2)
-    ∙ getD-set-other (set cells m x) (suc m) i y 0 (h .1)
-    ∙ getD-set-other cells m i x 0 (h .0)
-  where
-    by : i ≡ a * 8 + 2 ⊎ (i ≡ a * 8 + 3 ⊎ i ≡ a * 8 + 4)
-        → (i ≡ m → ⊥) × (i ≡ suc m → ⊥) × (i ≡ suc (suc m) → ⊥)
-    by (inl q) = (λ u. omega arith, λ u. omega arith, λ u. omega arith)
-    by (inr (inl q)) = (λ u. omega arith, λ u. omega arith, λ u. omega arith)
-    by (inr (inr q)) = (λ u. omega arith, λ u. omega arith, λ u. omega arith)
-
-goes-kept : (cells : List ℕ) (k m a x y z : ℕ) → m ≡ k * 8 + 5
-    → goesAt (sets cells m (x ∷ y ∷ z ∷ [])) (a * 8) ≡ goesAt cells (a * 8)
-unfolding goesAt
-goes-kept cells k m a x y z e =
-    rw (
-      aside cells k m a x y z e (a * 8 + 2) (inl refl),
-      aside cells k m a x y z e (a * 8 + 3) (inr (inl refl)),
-      aside cells k m a x y z e (a * 8 + 4) (inr (inr refl)),
-    )
-
-pub links-kept : (cells : List ℕ) (k m a n x y z : ℕ) → m ≡ k * 8 + 5
-    → linksAt (sets cells m (x ∷ y ∷ z ∷ [])) a n ≡ linksAt cells a n
-unfolding linksAt
-links-kept cells k m a zero x y z e = refl
-links-kept cells k m a (suc n) x y z e =
-    rw (goes-kept cells k m a x y z e, links-kept cells k m (a + 1) n x y z e)
-
-pub threes-more : (used : ℕ) (all : List (List ℕ)) (cells : List ℕ) (base j n at next : ℕ) → j < n
-    → at ≡ (base + j) * 8 + 5 → next ≡ used + length (predecessors j 0 all)
-    → putThrees (j + 1) next all (sets cells at (threeOf j used (next - used))) ((base + (j + 1)) * 8) (n - (j + 1))
-    ≡ putThrees j used all cells ((base + j) * 8) (n - j)
-unfolding putThrees
-threes-more used all cells base j n at next h p q =
+pub entered-step : (used : ℕ) (all : List (List ℕ)) (cells : List ℕ) (base j n next : ℕ) → j < n
+    → next ≡ used + length (predecessors j 0 all)
+    → putEntered (j + 1) next all
+    (sets cells ((base + j) * 8) (cellsOf (enteredBy (blockAt cells (base + j)) j used (next - used)))) (base + (j + 1))
+    (n - (j + 1))
+    ≡ putEntered j used all cells (base + j) (n - j)
+unfolding putEntered
+entered-step used all cells base j n next h q =
     let e : n - j ≡ suc (n - (j + 1)) = omega arith in
     let f : next - used ≡ length (predecessors j 0 all) = omega arith in
-    let g : (base + (j + 1)) * 8 ≡ (base + j) * 8 + 8 = omega arith in
-    rw (e, f, g, p, q)
+    let g : base + (j + 1) ≡ base + j + 1 = omega arith in
+    rw (e, f, g, q)
 
-pub threes-none : (used : ℕ) (all : List (List ℕ)) (cells : List ℕ) (j i n : ℕ) → n ≡ 0
-    → putThrees j used all cells i n ≡ cells
-unfolding putThrees
-threes-none used all cells j i n z = rw z
+pub entered-end : (used : ℕ) (all : List (List ℕ)) (cells : List ℕ) (j k n : ℕ) → n ≡ 0
+    → putEntered j used all cells k n ≡ cells
+unfolding putEntered
+entered-end used all cells j k n z = rw z

@@ -4,19 +4,21 @@ use mathlib.Core.Path.{_≡_, refl, ap, _∙_}
 use mathlib.Core.Bool.{true}
 use mathlib.Core.List.{List}
 use native.Mathlib.Omega.{arith}
-use lib.ListN.{length}
-use lib.Seq.{sets}
-use Rattle.parser.specs.Blocks.{Part, Block, blocksOf}
+use native.Mathlib.Nat.{add-zero}
+use lib.ListN.{length, take}
+use lib.Seq.{sets, length-take-le}
+use Rattle.graph.specs.Records.{recorded}
+use Rattle.parser.specs.Blocks.{Part, Block, namesIn, blocksOf}
 use Rattle.parser.specs.Edges.{Resolved, fine, refused, resolveD, successors}
 use Rattle.parser.specs.declared.Refusal.{Refusal}
 use Rattle.body.specs.Records.{partsAt}
 use Rattle.body.specs.Room.{filled}
 use Rattle.link.specs.Cells.{predecessorCells, linkD, Linking}
-use Rattle.link.specs.Steps.{putFives, numberedBy, linksAt, entriesFrom, putThrees}
+use Rattle.link.specs.Steps.{putClosed, numberedBy, linksFrom, entriesFrom, putEntered}
 use Rattle.link.specs.declared.Linked.the-variants as L
 use Rattle.link.specs.declared.Numbered.the-variants as N
 use Rattle.link.proofs.Edges.{thin-blocks, entries-few}
-use Rattle.link.proofs.Laws.{blocks-counted}
+use Rattle.link.proofs.Laws.{blocks-counted, at-most-256}
 use Rattle.link.proofs.Whole.{links-back, records-whole, entries-are}
 
 numbered-refused : (bs : List Block) (x : Resolved) (e : Refusal) → N.Refused e ≡ numberedBy bs x → x ≡ refused e
@@ -34,7 +36,8 @@ link-refused ps named e h = rw (numbered-refused (blocksOf ps) (resolveD named (
 
 module _ (items : List ℕ) (first count named base used : ℕ) (cells₀ cells : List ℕ) (n : ℕ)
     (done : N.Done n ≡ numberedBy (blocksOf (partsAt items first count)) (resolveD named (blocksOf (partsAt items first count))))
-    (fives : cells ≡ putFives (blocksOf (partsAt items first count)) first cells₀ (base * 8) (blocksOf (partsAt items first count)))
+    (closed : cells
+    ≡ putClosed (blocksOf (partsAt items first count)) first cells₀ base (blocksOf (partsAt items first count)))
     (few : base + filled true (partsAt items first count) ≤ 1024) (room : 8192 ≤ length cells₀) (low : used ≤ base * 2) where
   abbrev ps : List Part
   ps = partsAt items first count
@@ -54,32 +57,42 @@ module _ (items : List ℕ) (first count named base used : ℕ) (cells₀ cells 
   pub fits : base + n ≤ 1024
   fits = omega (arith, counted, blocks-counted named ps resolved)
 
-  read-back : linksAt cells base n ≡ links
-  read-back =
-      rw (fives, counted)
-      (links-back all all first base cells₀ (thin-blocks items first count) (omega (arith, fits, counted)))
+  -- there is a row for each block
+  pub rows-enough : (labels : List ℕ) (labelled : ℕ) → take labelled labels ≡ namesIn ps → labelled ≤ length labels
+      → labelled ≤ 255 → n ≤ 256
+  rows-enough labels labelled e there few =
+      let h : length (namesIn ps) ≤ 255 = rw (← e, length-take-le labelled labels there) few in
+      omega (arith, counted, at-most-256 ps h)
 
-  entries : entriesFrom 0 (linksAt cells base n) n ≡ predecessorCells 0 links all
+  read-back : linksFrom (recorded cells base) 0 n ≡ links
+  read-back =
+      rw (closed, counted)
+      (rw add-zero at
+      (links-back all all first base 0 cells₀ (thin-blocks items first count) (omega (arith, fits, counted))))
+
+  entries : entriesFrom 0 (linksFrom (recorded cells base) 0 n) n ≡ predecessorCells 0 links all
   entries = rw (read-back, counted) (entries-are all 0 links)
 
   -- there is room for the predecessors
-  pub entries-fit : used + length (entriesFrom 0 (linksAt cells base n) n) ≤ 2048
+  pub entries-fit : used + length (entriesFrom 0 (linksFrom (recorded cells base) 0 n) n) ≤ 2048
   entries-fit =
       rw read-back (omega (arith, entries-few all all n (thin-blocks items first count), fits, counted))
 
-  pub link-done : (next : ℕ) → next ≡ used + length (entriesFrom 0 (linksAt cells base n) n)
+  pub link-done : (next : ℕ) → next ≡ used + length (entriesFrom 0 (linksFrom (recorded cells base) 0 n) n)
       → L.Done n (next - used) ≡ linkD named ps
   unfolding linkD
   link-done next h =
       let m : next - used ≡ length (predecessorCells 0 links all) = omega (arith, h, ap length entries) in
       rw (resolved, m, counted)
 
-  pub link-held : (cells′ preds₀ preds : List ℕ) → cells′ ≡ putThrees 0 used (linksAt cells base n) cells (base * 8) n
-      → preds ≡ sets preds₀ used (entriesFrom 0 (linksAt cells base n) n)
+  pub link-held : (cells′ preds₀ preds : List ℕ)
+      → cells′ ≡ putEntered 0 used (linksFrom (recorded cells base) 0 n) cells base n
+      → preds ≡ sets preds₀ used (entriesFrom 0 (linksFrom (recorded cells base) 0 n) n)
       → Linking ps first base used cells₀ cells′ preds₀ preds
   link-held cells′ preds₀ preds h q =
       record {
         blocks-are =
-            h ∙ rw (read-back, fives, counted) (records-whole all links first all 0 used cells₀ (base * 8));
+            h ∙ rw (read-back, closed, counted)
+            (records-whole all links first all 0 used cells₀ base (omega (arith, fits, counted)));
         predecessors-are = q ∙ ap (λ (x : List ℕ). sets preds₀ used x) entries;
       }

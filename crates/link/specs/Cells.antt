@@ -7,6 +7,8 @@ use mathlib.Core.List.{List, [], _∷_, _++_}
 use mathlib.Core.Bool.{Bool, true, false}
 use lib.ListN.{length, getD}
 use lib.Seq.{sets}
+use Rattle.graph.specs.Records.{blockRecord, cellsOf}
+use Rattle.graph.specs.declared.BlockRecord.{BlockRecord}
 use Rattle.parser.specs.Blocks.{Part, Block, blocksOf}
 use Rattle.parser.specs.Edges.{Resolved, fine, refused, resolveD, successors, predecessors, isDead}
 use Rattle.link.specs.declared.Linked.{Linked}
@@ -16,15 +18,20 @@ abbrev pub bit : Bool → ℕ
 bit true = 1
 bit false = 0
 
--- from block j on: their cells, where the function's items begin at `first` and block j's predecessors at `used`;
--- `goes` are the successors of these blocks, `all` those of all blocks
+-- block j's record, where the function's items begin at `first` and block j's predecessors at `used`; `s` are its
+-- successors, `all` those of all blocks
+abbrev pub linkedRecord : ℕ → ℕ → ℕ → List (List ℕ) → List ℕ → Block → BlockRecord
+linkedRecord first used j all s b =
+    blockRecord (first + b .first) (b .operations) (length s) (getD s 0 0) (getD s 1 0)
+    used (length (predecessors j 0 all)) (bit (isDead j all))
+
+-- the cells of these blocks from block j on, whose successors are `goes`
 unfoldable pub blockCells : ℕ → ℕ → ℕ → List (List ℕ) → List (List ℕ) → List Block → List ℕ
 blockCells first used j all goes [] = []
 blockCells first used j all [] (b ∷ bs) = []
 blockCells first used j all (s ∷ ss) (b ∷ bs) =
-    (first + b .first) ∷ b .operations ∷ length s ∷ getD s 0 0 ∷ getD s 1 0
-    ∷ used ∷ length (predecessors j 0 all) ∷ bit (isDead j all)
-    ∷ blockCells first (used + length (predecessors j 0 all)) (j + 1) all ss bs
+    cellsOf (linkedRecord first used j all s b)
+    ++ blockCells first (used + length (predecessors j 0 all)) (j + 1) all ss bs
 
 -- the predecessors of these blocks, from block j on, one block's after the other's
 unfoldable pub predecessorCells : ℕ → List (List ℕ) → List Block → List ℕ

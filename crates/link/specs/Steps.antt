@@ -7,7 +7,9 @@ use lib.Dec.{ltb, eqb}
 use lib.ListN.{length, getD, take}
 use lib.Seq.{sets}
 use Rattle.utils.specs.Bytes.{pick}
+use Rattle.graph.specs.Records.{blockRecord, cellsOf, blockAt}
 use Rattle.graph.specs.declared.BlockId.{BlockId}
+use Rattle.graph.specs.declared.BlockRecord.{BlockRecord}
 use Rattle.parser.specs.Blocks.{Part, name, operation, Block, namesIn}
 use Rattle.parser.specs.Edges.{Place, at, nowhere, missing, places, Resolved, fine, refused, predecessors}
 use Rattle.parser.specs.declared.Refusal.{Refusal}
@@ -90,10 +92,10 @@ run [] = 0
 run (name l ∷ ps) = 0
 run (operation w goes ∷ ps) = run ps + 1
 
--- a block's first five cells, once its labels are resolved
+-- record k, once the block's labels are resolved; its predecessors and its dead mark are 0 until all blocks stand
 abbrev pub putGoes : List ℕ → ℕ → ℕ → ℕ → Goes → List ℕ
-putGoes b i from n (G.Done c x y) = sets b i (from ∷ n ∷ c ∷ x .0 ∷ y .0 ∷ [])
-putGoes b i from n (G.Refused e) = b
+putGoes cells k from n (G.Done c x y) = sets cells (k * 8) (cellsOf (blockRecord from n c (x .0) (y .0) 0 0 0))
+putGoes cells k from n (G.Refused e) = cells
 
 -- how many blocks there are after one that leads there
 abbrev pub countedBy : ℕ → Goes → Numbered
@@ -109,24 +111,24 @@ addedD before names items from stop empty k =
 unfoldable pub addedCells : ℕ → List ℕ → List ℕ → ℕ → ℕ → List ℕ → ℕ → List ℕ
 addedCells before names items from stop cells k =
     pick (eqb stop from) cells
-    (putGoes cells (k * 8) from (stop - from) (goesD before names (recordAt items (stop - 1))))
+    (putGoes cells k from (stop - from) (goesD before names (recordAt items (stop - 1))))
 
-abbrev pub fiveOf : ℕ → Block → List ℕ → List ℕ
-fiveOf first b s = (first + b .first) ∷ b .operations ∷ length s ∷ getD s 0 0 ∷ getD s 1 0 ∷ []
+abbrev pub closedOf : ℕ → Block → List ℕ → BlockRecord
+closedOf first b s = blockRecord (first + b .first) (b .operations) (length s) (getD s 0 0) (getD s 1 0) 0 0 0
 
--- the first five cells of each of these blocks; `all` are all blocks of the function
-unfoldable pub putFives : List Block → ℕ → List ℕ → ℕ → List Block → List ℕ
-putFives all first cells i [] = cells
-putFives all first cells i (b ∷ bs) =
-    putFives all first (sets cells i (fiveOf first b (places all (b .goes)))) (i + 8) bs
+-- the records of these blocks from record k on; `all` are all blocks of the function
+unfoldable pub putClosed : List Block → ℕ → List ℕ → ℕ → List Block → List ℕ
+putClosed all first cells k [] = cells
+putClosed all first cells k (b ∷ bs) =
+    putClosed all first (sets cells (k * 8) (cellsOf (closedOf first b (places all (b .goes))))) (k + 1) bs
 
 abbrev pub numberedBy : List Block → Resolved → Numbered
 numberedBy bs fine = N.Done (length bs)
 numberedBy bs (refused e) = N.Refused e
 
-abbrev pub FivesHeld : List Block → ℕ → ℕ → List ℕ → List ℕ → Numbered → Type 0
-FivesHeld all first base cells₀ cells (N.Done n) = cells ≡ putFives all first cells₀ (base * 8) all
-FivesHeld all first base cells₀ cells (N.Refused e) = Unit
+abbrev pub ClosedHeld : List Block → ℕ → ℕ → List ℕ → List ℕ → Numbered → Type 0
+ClosedHeld all first base cells₀ cells (N.Done n) = cells ≡ putClosed all first cells₀ base all
+ClosedHeld all first base cells₀ cells (N.Refused e) = Unit
 
 -- Edges. ------------------------------------------------------------------------------------------------------------
 
@@ -134,16 +136,10 @@ FivesHeld all first base cells₀ cells (N.Refused e) = Unit
 unfoldable pub entersD : ℕ → ℕ → ℕ → ℕ → Bool
 entersD count i target j = pick (ltb i count) (eqb target j) false
 
--- the successors that the record at this cell has
-unfoldable pub goesAt : List ℕ → ℕ → List ℕ
-goesAt cells i =
-    pick (ltb 0 (getD cells (i + 2) 0)) (getD cells (i + 3) 0 ∷ []) []
-    ++ pick (ltb 1 (getD cells (i + 2) 0)) (getD cells (i + 4) 0 ∷ []) []
-
--- those of n records from the record `base` on
-unfoldable pub linksAt : List ℕ → ℕ → ℕ → List (List ℕ)
-linksAt cells base zero = []
-linksAt cells base (suc n) = goesAt cells (base * 8) ∷ linksAt cells (base + 1) n
+-- the successors of n blocks from block k on, of a graph
+unfoldable pub linksFrom : (ℕ → List ℕ) → ℕ → ℕ → List (List ℕ)
+linksFrom goes k zero = []
+linksFrom goes k (suc n) = goes k ∷ linksFrom goes (k + 1) n
 
 -- the predecessors of m blocks from block j on
 unfoldable pub entriesFrom : ℕ → List (List ℕ) → ℕ → List ℕ
@@ -154,13 +150,14 @@ entriesFrom j all (suc m) = predecessors j 0 all ++ entriesFrom (j + 1) all m
 abbrev pub markOf : ℕ → ℕ → ℕ
 markOf j n = bit (pick (eqb j 0) false (eqb n 0))
 
--- a block's last three cells: where its predecessors begin, how many they are, and the dead mark
-abbrev pub threeOf : ℕ → ℕ → ℕ → List ℕ
-threeOf j used n = used ∷ n ∷ markOf j n ∷ []
+-- block j's record with its predecessors, n of them from `used` on, and the dead mark
+abbrev pub enteredBy : BlockRecord → ℕ → ℕ → ℕ → BlockRecord
+enteredBy b j used n =
+    blockRecord (b .first) (b .operations) (b .successors) (b .to .0) (b .other .0) used n (markOf j n)
 
--- those of m blocks from block j on, whose record begins at this cell
-unfoldable pub putThrees : ℕ → ℕ → List (List ℕ) → List ℕ → ℕ → ℕ → List ℕ
-putThrees j used all cells i zero = cells
-putThrees j used all cells i (suc m) =
-    putThrees (j + 1) (used + length (predecessors j 0 all)) all
-    (sets cells (i + 5) (threeOf j used (length (predecessors j 0 all)))) (i + 8) m
+-- the records from record k on of m blocks from block j on, each with them
+unfoldable pub putEntered : ℕ → ℕ → List (List ℕ) → List ℕ → ℕ → ℕ → List ℕ
+putEntered j used all cells k zero = cells
+putEntered j used all cells k (suc m) =
+    putEntered (j + 1) (used + length (predecessors j 0 all)) all
+    (sets cells (k * 8) (cellsOf (enteredBy (blockAt cells k) j used (length (predecessors j 0 all))))) (k + 1) m

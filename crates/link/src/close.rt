@@ -1,17 +1,16 @@
 // A function's items, cut into blocks.
 ghost use mathlib.Core.Path.{_≡_};
-ghost use mathlib.Core.List.{[], _∷_};
 ghost use Prim.Native.Nat.{_+_, _-_, _*_, _≤_, _<_};
 ghost use lib.ListN.{length, take};
-ghost use lib.Seq.{sets};
 ghost use Rattle.body.specs.Records.{recordAt, partsAt};
 ghost use Rattle.parser.specs.Blocks.{blocksOf};
 ghost use Rattle.parser.specs.Edges.{resolveD};
-ghost use Rattle.link.specs.Steps.{goesD, run, putGoes, addedD, addedCells, Cut, numberedBy, FivesHeld};
+ghost use Rattle.link.specs.Steps.{goesD, run, putGoes, addedD, addedCells, Cut, numberedBy, ClosedHeld};
 use crate::Goes;
 use crate::Numbered;
 use crate::labels;
-use graph::BlockId;
+use graph::BlockRecord;
+use graph::blocks::put_block;
 use parser::Refusal;
 
 // Where the operations from the item `from` on end: at a label, or behind the last item.
@@ -30,30 +29,7 @@ fn block_end(items: &[u32], from: usize, end: usize) -> usize
     i
 }
 
-fn put_block(
-    blocks: &mut [u32],
-    at: usize,
-    from: u32,
-    n: u32,
-    count: u32,
-    to: BlockId,
-    other: BlockId,
-)
-    requires { ⌜ at + 5 ≤ length (now blocks) ⌝ }
-    ensures { λ r. ⌜ now (blocks .exit) ≡ sets (now (blocks .entry)) at (from ∷ n ∷ count ∷ to .0 ∷ other .0 ∷ []) ⌝ }
-{
-    let at1 = at + 1;
-    let at2 = at + 2;
-    let at3 = at + 3;
-    let at4 = at + 4;
-    blocks[at] = from;
-    blocks[at1] = n;
-    blocks[at2] = count;
-    blocks[at3] = to.0;
-    blocks[at4] = other.0;
-}
-
-// The block of the operations from `from` to before `stop` goes to the cells from `at` on.
+// The block of the operations from `from` to before `stop` becomes record k, but for what enters it.
 fn close_block(
     items: &[u32],
     from: usize,
@@ -62,26 +38,28 @@ fn close_block(
     labelled: usize,
     before: usize,
     blocks: &mut [u32],
-    at: usize,
+    k: usize,
 ) -> Goes
     requires { ⌜ (from < stop) × (stop ≤ 3072) × (stop * 8 ≤ length (now items)) × (labelled ≤ 255)
-        × (labelled ≤ length (now labels)) × (at + 5 ≤ length (now blocks)) ⌝ }
+        × (labelled ≤ length (now labels)) × (k * 8 + 8 ≤ length (now blocks)) ⌝ }
     ensures { λ r. ⌜ (r ≡ goesD before (take labelled (now (labels .entry))) (recordAt (now (items .entry)) (stop - 1)))
-        × (now (blocks .exit) ≡ putGoes (now (blocks .entry)) at from (stop - from) r) ⌝ }
+        × (now (blocks .exit) ≡ putGoes (now (blocks .entry)) k from (stop - from) r) ⌝ }
 {
     let r = body::records::record_at(items, stop - 1);
     match labels::resolve(labels, labelled, before, r) {
         Goes::Refused(e) => Goes::Refused(e),
         Goes::Done(count, to, other) => {
-            put_block(
-                blocks,
-                at,
-                from as u32,
-                (stop - from) as u32,
-                count,
+            let b = BlockRecord {
+                first: from as u32,
+                operations: (stop - from) as u32,
+                successors: count,
                 to,
                 other,
-            );
+                entries: 0,
+                predecessors: 0,
+                dead: 0,
+            };
+            put_block(blocks, k, b);
             Goes::Done(count, to, other)
         }
     }
@@ -109,7 +87,7 @@ fn add_block(
     if stop == from {
         return Numbered::Refused(empty);
     }
-    match close_block(items, from, stop, labels, labelled, before, blocks, k * 8) {
+    match close_block(items, from, stop, labels, labelled, before, blocks, k) {
         Goes::Refused(e) => Numbered::Refused(e),
         Goes::Done(_, _, _) => Numbered::Done(k + 1),
     }
@@ -130,7 +108,7 @@ pub fn link_blocks(
     requires { ⌜ Cut (now items) first count (now labels) labelled before (now blocks) base ⌝ }
     ensures { λ r. ⌜ r ≡ numberedBy (blocksOf (partsAt (now (items .entry)) first count))
         (resolveD name (blocksOf (partsAt (now (items .entry)) first count))) ⌝ }
-    ensures { λ r. ⌜ FivesHeld (blocksOf (partsAt (now (items .entry)) first count)) first base
+    ensures { λ r. ⌜ ClosedHeld (blocksOf (partsAt (now (items .entry)) first count)) first base
         (now (blocks .entry)) (now (blocks .exit)) r ⌝ }
 {
     let end = first + count;

@@ -1,13 +1,17 @@
 // The edges that enter a block.
 ghost use mathlib.Core.Path.{_≡_};
 ghost use mathlib.Core.List.{[]};
-ghost use Prim.Native.Nat.{_+_, _-_, _*_, _≤_};
+ghost use Prim.Native.Nat.{_+_, _-_, _*_, _≤_, _<_};
 ghost use lib.ListN.{length, set};
 ghost use lib.Seq.{sets};
 ghost use Rattle.utils.specs.Bytes.{pick};
 ghost use Rattle.parser.specs.Edges.{entering, predecessors};
-ghost use Rattle.link.specs.Steps.{entersD, goesAt, linksAt, entriesFrom, markOf, threeOf, putThrees};
+ghost use Rattle.graph.specs.Records.{blockAt, cellsOf, recorded, rowOf};
+ghost use Rattle.link.specs.Steps.{entersD, linksFrom, entriesFrom, markOf, enteredBy, putEntered};
 use graph::BlockId;
+use graph::blocks::block_at;
+use graph::blocks::put_block;
+use graph::successors::load;
 
 // Whether successor i of a block is block j.
 fn enters(count: u32, i: u32, target: BlockId, j: BlockId) -> bool
@@ -32,26 +36,28 @@ fn put_source(sources: &mut [u32], at: usize, k: BlockId, is: bool) -> usize
     at
 }
 
-// Block k, whose record begins at the cell `at`, goes to the place `used` for each edge from it to block j.
+// Block k goes to the place `used` for each edge from it to block j.
 fn enter_from(
-    blocks: &[u32],
-    at: usize,
+    succs: &[[u32; 2]; 256],
+    counts: &[u32; 256],
     k: BlockId,
     j: BlockId,
     sources: &mut [u32],
     used: usize,
 ) -> usize
-    requires { ⌜ (at + 8 ≤ length (now blocks))
-        × (used + length (entering (j .0) (k .0) (goesAt (now blocks) at) []) ≤ length (now sources)) ⌝ }
-    ensures { λ r. ⌜ (r ≡ used + length (entering (j .0) (k .0) (goesAt (now (blocks .entry)) at) []))
-        × (now (sources .exit)
-        ≡ sets (now (sources .entry)) used (entering (j .0) (k .0) (goesAt (now (blocks .entry)) at) [])) ⌝ }
+    requires { ⌜ (k .0 < 256)
+        × (used + length (entering (j .0) (k .0) (rowOf (now succs) (now counts) (k .0)) []) ≤ length (now sources)) ⌝ }
+    ensures { λ r. ⌜ (r ≡ used
+        + length (entering (j .0) (k .0) (rowOf (now (succs .entry)) (now (counts .entry)) (k .0)) []))
+        × (now (sources .exit) ≡ sets (now (sources .entry)) used
+        (entering (j .0) (k .0) (rowOf (now (succs .entry)) (now (counts .entry)) (k .0)) [])) ⌝ }
 {
-    let count = blocks[at + 2];
-    let to = blocks[at + 3];
-    let other = blocks[at + 4];
-    let first = enters(count, 0, BlockId(to), j);
-    let second = enters(count, 1, BlockId(other), j);
+    let i = k.0 as usize;
+    let count = counts[i];
+    let to = BlockId(succs[i][0]);
+    let other = BlockId(succs[i][1]);
+    let first = enters(count, 0, to, j);
+    let second = enters(count, 1, other, j);
     let next = put_source(sources, used, k, first);
     put_source(sources, next, k, second)
 }
@@ -67,25 +73,26 @@ fn next_source(n: u32, rest: u32) -> BlockId
 
 // The sources of the edges that enter block j, from the place `used` on. The place after them.
 fn enter_edges(
-    blocks: &[u32],
-    base: usize,
+    succs: &[[u32; 2]; 256],
+    counts: &[u32; 256],
     n: u32,
     j: BlockId,
     sources: &mut [u32],
     used: usize,
 ) -> usize
-    requires { ⌜ ((base + n) * 8 ≤ length (now blocks))
-        × (used + length (predecessors (j .0) 0 (linksAt (now blocks) base n)) ≤ length (now sources)) ⌝ }
-    ensures { λ r. ⌜ (r ≡ used + length (predecessors (j .0) 0 (linksAt (now (blocks .entry)) base n)))
-        × (now (sources .exit)
-        ≡ sets (now (sources .entry)) used (predecessors (j .0) 0 (linksAt (now (blocks .entry)) base n))) ⌝ }
+    requires { ⌜ (n ≤ 256)
+        × (used + length (predecessors (j .0) 0 (linksFrom (rowOf (now succs) (now counts)) 0 n))
+        ≤ length (now sources)) ⌝ }
+    ensures { λ r. ⌜ (r ≡ used
+        + length (predecessors (j .0) 0 (linksFrom (rowOf (now (succs .entry)) (now (counts .entry))) 0 n)))
+        × (now (sources .exit) ≡ sets (now (sources .entry)) used
+        (predecessors (j .0) 0 (linksFrom (rowOf (now (succs .entry)) (now (counts .entry))) 0 n))) ⌝ }
 {
     let mut here = used;
     let mut rest = n;
     while 0 < rest {
         let k = next_source(n, rest);
-        let at = (base + k.0 as usize) * 8;
-        here = enter_from(blocks, at, k, j, sources, here);
+        here = enter_from(succs, counts, k, j, sources, here);
         rest -= 1;
     }
     here
@@ -104,37 +111,71 @@ fn dead_mark(j: BlockId, count: usize) -> u32
     0
 }
 
-// The last three cells of block j, from the cell `at` on.
-fn put_entries(blocks: &mut [u32], at: usize, j: BlockId, used: usize, count: usize)
-    requires { ⌜ (at + 3 ≤ length (now blocks)) × (used ≤ 2048) × (count ≤ 2048) ⌝ }
-    ensures { λ r. ⌜ now (blocks .exit) ≡ sets (now (blocks .entry)) at (threeOf (j .0) used count) ⌝ }
+// Block j, whose record is record i, gets its predecessors and its dead mark.
+fn put_entries(blocks: &mut [u32], i: usize, j: BlockId, used: usize, count: usize)
+    requires { ⌜ (i ≤ 1024) × (i * 8 + 8 ≤ length (now blocks)) × (used ≤ 2048) × (count ≤ 2048) ⌝ }
+    ensures { λ _. ⌜ now (blocks .exit) ≡ sets (now (blocks .entry)) (i * 8)
+        (cellsOf (enteredBy (blockAt (now (blocks .entry)) i) (j .0) used count)) ⌝ }
 {
-    let counted = at + 1;
-    let marked = at + 2;
-    let mark = dead_mark(j, count);
-    blocks[at] = used as u32;
-    blocks[counted] = count as u32;
-    blocks[marked] = mark;
+    let mut b = block_at(blocks, i);
+    b.entries = used as u32;
+    b.predecessors = count as u32;
+    b.dead = dead_mark(j, count);
+    put_block(blocks, i, b);
 }
 
-// The predecessors of each of n blocks, and the cells of each that say where they are. The place after them.
-pub fn enter_all(blocks: &mut [u32], base: usize, n: u32, sources: &mut [u32], used: usize) -> usize
-    requires { ⌜ ((base + n) * 8 ≤ length (now blocks))
-        × (used + length (entriesFrom 0 (linksAt (now blocks) base n) n) ≤ 2048) × (2048 ≤ length (now sources)) ⌝ }
-    ensures { λ r. ⌜ r ≡ used + length (entriesFrom 0 (linksAt (now (blocks .entry)) base n) n) ⌝ }
-    ensures { λ r. ⌜ now (blocks .exit) ≡ putThrees 0 used (linksAt (now (blocks .entry)) base n)
-        (now (blocks .entry)) (base * 8) n ⌝ }
-    ensures { λ r. ⌜ now (sources .exit)
-        ≡ sets (now (sources .entry)) used (entriesFrom 0 (linksAt (now (blocks .entry)) base n) n) ⌝ }
+// The predecessors of each of n blocks, and its record with them. The place after them.
+fn enter_all(
+    succs: &[[u32; 2]; 256],
+    counts: &[u32; 256],
+    blocks: &mut [u32],
+    base: usize,
+    n: u32,
+    sources: &mut [u32],
+    used: usize,
+) -> usize
+    requires { ⌜ (n ≤ 256) × (base + n ≤ 1024) × (8192 ≤ length (now blocks))
+        × (used + length (entriesFrom 0 (linksFrom (rowOf (now succs) (now counts)) 0 n) n) ≤ 2048)
+        × (2048 ≤ length (now sources)) ⌝ }
+    ensures { λ r. ⌜ r ≡ used
+        + length (entriesFrom 0 (linksFrom (rowOf (now (succs .entry)) (now (counts .entry))) 0 n) n) ⌝ }
+    ensures { λ r. ⌜ now (blocks .exit)
+        ≡ putEntered 0 used (linksFrom (rowOf (now (succs .entry)) (now (counts .entry))) 0 n)
+        (now (blocks .entry)) base n ⌝ }
+    ensures { λ r. ⌜ now (sources .exit) ≡ sets (now (sources .entry)) used
+        (entriesFrom 0 (linksFrom (rowOf (now (succs .entry)) (now (counts .entry))) 0 n) n) ⌝ }
 {
     let mut here = used;
     let mut j: u32 = 0;
     while j < n {
-        let at = (base + j as usize) * 8 + 5;
-        let next = enter_edges(blocks, base, n, BlockId(j), sources, here);
-        put_entries(blocks, at, BlockId(j), here, next - here);
+        let i = base + j as usize;
+        let next = enter_edges(succs, counts, n, BlockId(j), sources, here);
+        put_entries(blocks, i, BlockId(j), here, next - here);
         here = next;
         j += 1;
     }
     here
+}
+
+// The same of the n blocks from the record `base` on, whose successors go to rows first.
+pub fn enter_blocks(
+    blocks: &mut [u32],
+    base: usize,
+    n: u32,
+    sources: &mut [u32],
+    used: usize,
+) -> usize
+    requires { ⌜ (n ≤ 256) × (base + n ≤ 1024) × (8192 ≤ length (now blocks))
+        × (used + length (entriesFrom 0 (linksFrom (recorded (now blocks) base) 0 n) n) ≤ 2048)
+        × (2048 ≤ length (now sources)) ⌝ }
+    ensures { λ r. ⌜ r ≡ used + length (entriesFrom 0 (linksFrom (recorded (now (blocks .entry)) base) 0 n) n) ⌝ }
+    ensures { λ r. ⌜ now (blocks .exit) ≡ putEntered 0 used (linksFrom (recorded (now (blocks .entry)) base) 0 n)
+        (now (blocks .entry)) base n ⌝ }
+    ensures { λ r. ⌜ now (sources .exit) ≡ sets (now (sources .entry)) used
+        (entriesFrom 0 (linksFrom (recorded (now (blocks .entry)) base) 0 n) n) ⌝ }
+{
+    let mut succs = [[0u32; 2]; 256];
+    let mut counts = [0u32; 256];
+    load(blocks, base as u32, n, &mut succs, &mut counts);
+    enter_all(&succs, &counts, blocks, base, n, sources, used)
 }

@@ -68,7 +68,7 @@ pub fn link(
     ) {
         Numbered::Refused(e) => Linked::Refused(e),
         Numbered::Done(n) => {
-            let next = enter::enter_all(blocks, base, n as u32, predecessors, used);
+            let next = enter::enter_blocks(blocks, base, n as u32, predecessors, used);
             Linked::Done(n, next - used)
         }
     }

@@ -7,7 +7,9 @@ use native.Mathlib.Omega.{arith}
 use lib.ListN.{length, getD, take, drop}
 use Rattle.utils.specs.Bytes.{padTo}
 use Rattle.graph.specs.Walk.{blockOrder}
-use Rattle.graph.specs.Records.{counted, recorded, blocksIn as atMost256}
+use Rattle.graph.specs.Records.{blockAt, recorded, blocksIn as atMost256}
+use Rattle.graph.specs.declared.BlockRecord.{BlockRecord}
+use Rattle.graph.proofs.Rows.{counted-is}
 use Rattle.graph.proofs.Once.{order-permutation, order-below}
 use Rattle.graph.proofs.Below.{order-depends-below}
 use Rattle.graph.proofs.Callers.{blocks-few}
@@ -41,32 +43,32 @@ use Rattle.sema.proofs.Back.{items-back, block-back, formals-back}
 abbrev noBlock : Block
 noBlock = fresh [] 0
 
--- the cells of a record, from `at` on: block b, whose successors are s
-pub record RecordStands (first : ℕ) (cells : List ℕ) (at : ℕ) (b : Block) (s : List ℕ) : Type 0 where
-  pub begins : getD cells at 0 ≡ first + b .first
-  pub has-operations : getD cells (at + 1) 0 ≡ b .operations
-  pub count : getD cells (at + 2) 0 ≡ length s
-  pub one : getD cells (at + 2 + 1) 0 ≡ getD s 0 0
-  pub other : getD cells (at + 2 + 2) 0 ≡ getD s 1 0
+-- the record of block b, whose successors are s
+pub record RecordStands (first : ℕ) (r : BlockRecord) (b : Block) (s : List ℕ) : Type 0 where
+  pub begins : r .first ≡ first + b .first
+  pub has-operations : r .operations ≡ b .operations
+  pub count : r .successors ≡ length s
+  pub one : r .to .0 ≡ getD s 0 0
+  pub another : r .other .0 ≡ getD s 1 0
 
 cell-is : (k j m : ℕ) (cells l : List ℕ) → m ≡ k + j → drop k cells ≡ l → getD cells m 0 ≡ getD l j 0
 cell-is k j m cells l e h = rw e (cell-there k j cells l h)
 
 module _ (first : ℕ) (all : List (List ℕ)) (cells rest : List ℕ) where
   pub record-there : (v : ℕ) (bs : List Block) (ss : List (List ℕ)) (used j at k : ℕ) → length ss ≡ length bs
-      → v < length bs → k ≡ at + v * 8 → drop at cells ≡ blockCells first used j all ss bs ++ rest
-      → RecordStands first cells k (getD bs v noBlock) (getD ss v [])
+      → v < length bs → k * 8 ≡ at + v * 8 → drop at cells ≡ blockCells first used j all ss bs ++ rest
+      → RecordStands first (blockAt cells k) (getD bs v noBlock) (getD ss v [])
   unfolding blockCells
   record-there v [] ss used j at k e g q h = absurd (omega arith)
   record-there v (b ∷ bs) [] used j at k e g q h = absurd (omega arith)
   record-there zero (b ∷ bs) (s ∷ ss) used j at k e g q h =
       let l = blockCells first used j all (s ∷ ss) (b ∷ bs) ++ rest in
       record {
-        begins = cell-is at 0 k cells l (omega arith) h;
-        has-operations = cell-is at 1 (k + 1) cells l (omega arith) h;
-        count = cell-is at 2 (k + 2) cells l (omega arith) h;
-        one = cell-is at 3 (k + 2 + 1) cells l (omega arith) h;
-        other = cell-is at 4 (k + 2 + 2) cells l (omega arith) h;
+        begins = cell-is at 0 (k * 8) cells l (omega arith) h;
+        has-operations = cell-is at 1 (k * 8 + 1) cells l (omega arith) h;
+        count = cell-is at 2 (k * 8 + 2) cells l (omega arith) h;
+        one = cell-is at 3 (k * 8 + 3) cells l (omega arith) h;
+        another = cell-is at 4 (k * 8 + 4) cells l (omega arith) h;
       }
   record-there (suc v) (b ∷ bs) (s ∷ ss) used j at k e g q h =
       let l = blockCells first used j all (s ∷ ss) (b ∷ bs) ++ rest in
@@ -74,12 +76,6 @@ module _ (first : ℕ) (all : List (List ℕ)) (cells rest : List ℕ) where
       (rest-there at 8 cells l h)
 
 -- Successors. -------------------------------------------------------------------------------------------------------
-
-counted-is : (s : List ℕ) → length s ≤ 2 → counted (length s) (getD s 0 0) (getD s 1 0) ≡ s
-counted-is [] h = refl
-counted-is (x ∷ []) h = refl
-counted-is (x ∷ y ∷ []) h = refl
-counted-is (x ∷ y ∷ z ∷ s) h = absurd (omega arith)
 
 length-successors : (all bs : List Block) → length (successors all bs) ≡ length bs
 unfolding successors
@@ -135,15 +131,15 @@ module _ (is : List Item) (items args blocks : List ℕ) (first used base before
     ≡ blockCells first before 0 (edgesIn is) (edgesIn is) (blocksIn is) ++ r4)
     (few : length (blocksIn is) ≤ 256) where
   block-stands : (v : ℕ) → v < length (blocksIn is)
-      → RecordStands first blocks ((base + v) * 8) (getD (blocksIn is) v noBlock) (getD (edgesIn is) v [])
+      → RecordStands first (blockAt blocks (base + v)) (getD (blocksIn is) v noBlock) (getD (edgesIn is) v [])
   block-stands v h =
-      record-there first (edgesIn is) blocks r4 v (blocksIn is) (edgesIn is) before 0 (base * 8) ((base + v) * 8)
+      record-there first (edgesIn is) blocks r4 v (blocksIn is) (edgesIn is) before 0 (base * 8) (base + v)
       (length-successors (blocksIn is) (blocksIn is)) h (omega arith) blocks-stand
 
   pub successors-back : (v : ℕ) → v < length (blocksIn is) → recorded blocks base v ≡ getD (edgesIn is) v []
   successors-back v h =
       let b = block-stands v h in
-      rw (b .count, b .one, b .other)
+      rw (b .count, b .one, b .another)
       (counted-is (getD (edgesIn is) v []) (two-at-most (blocksIn is) (blocksIn is) v (thin-items is)))
 
   pub blocks-back : (vs : List ℕ) → Below (length (blocksIn is)) vs

@@ -4,7 +4,7 @@ use mathlib.Core.List.{List, [], _∷_}
 use lib.ListN.{length, getD}
 use Rattle.utils.specs.Bytes.{pick, padTo}
 use Rattle.graph.specs.Walk.{blockOrder}
-use Rattle.graph.specs.Records.{recorded, blocksIn}
+use Rattle.graph.specs.Records.{blockAt, recorded, blocksIn}
 use Rattle.lexer.specs.Decoded.{Tok}
 use Rattle.parser.specs.Step.{refusal}
 use Rattle.parser.specs.Runs.{typeCell}
@@ -71,9 +71,9 @@ formalsFrom rows at (suc n) = typed (getD rows at 0) (getD rows (at + 1) 0) ∷ 
 abbrev pub formalsIn : List ℕ → ℕ → List Variable
 formalsIn rows i = formalsFrom rows (formalsAt i) (atMost16 (getD rows (countAt i) 0))
 
--- the items of a block record: its first two cells say where they begin and how many they are
+-- the items of a block's record
 abbrev pub blockItems : List ℕ → List ℕ → List ℕ → ℕ → List Item
-blockItems items args blocks k = itemsAt items args (getD blocks (k * 8) 0) (getD blocks (k * 8 + 1) 0)
+blockItems items args blocks k = itemsAt items args (blockAt blocks k .first) (blockAt blocks k .operations)
 
 -- the blocks of these numbers, counted from the record `first`
 unfoldable pub blocksAt : List ℕ → List ℕ → List ℕ → ℕ → List ℕ → List (List Item)

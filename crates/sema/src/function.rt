@@ -16,6 +16,7 @@ use crate::calls;
 use crate::symbols;
 use graph::Popped;
 use graph::RPOWorklist;
+use graph::blocks::block_at;
 use pieces::Identifier;
 
 // Enters the formals from the cell `first` on.
@@ -70,10 +71,18 @@ fn analyze_recorded(
         ≡ blockD (tokensOf (now (tokens .entry))) (globalsIn (now (rows .entry)) n) ret (now (table .entry))
         (blockItems (now (items .entry)) (now (arguments .entry)) (now (blocks .entry)) k) ⌝ }
 {
-    let at = k * 8;
-    let first = utils::cell_at(blocks, at);
-    let count = utils::cell_at(blocks, at + 1);
-    blocks::analyze_block(tokens, rows, n, ret, table, items, arguments, first, count)
+    let b = block_at(blocks, k);
+    blocks::analyze_block(
+        tokens,
+        rows,
+        n,
+        ret,
+        table,
+        items,
+        arguments,
+        b.first,
+        b.operations,
+    )
 }
 
 // The blocks that the worklist still has.

@@ -34,9 +34,9 @@ element-copy-out-put-one c = search needs
 
 put-one-requires : tie.Need-put-one-requires Inv-loop μ-loop
 put-one-requires c κs =
-    let loop = c .before .before .before .before .loop in
-    let a = c .before .before .before .before .before .args in
-    let k = c .before .before .next-block .result in
+    let loop = c .before .before .before .before .before .loop in
+    let a = c .before .before .before .before .before .before .args in
+    let k = c .before .before .before .next-block .result .0 in
     let same : k ≡ loop .inv .0 = omega arith in
     let w = waiting-more (a .met .now) (a .n) k (omega arith) (omega arith) in
     let room : loop .at + waiting (drop k (take (a .n) (a .met .now))) ≤ 256 = rw same (loop .inv .2) in
@@ -50,10 +50,10 @@ loop-less c = search needs
 
 loop-again : tie.Need-loop-again Inv-loop μ-loop
 loop-again c =
-    let loop = c .before .before .before .before .before .loop in
-    let a = c .before .before .before .before .before .before .args in
+    let loop = c .before .before .before .before .before .before .loop in
+    let a = c .before .before .before .before .before .before .before .args in
     let met = a .met .now in
-    let k = c .before .before .before .next-block .result in
+    let k = c .before .before .before .before .next-block .result .0 in
     let one = c .put-one in
     let same : k ≡ loop .inv .0 = omega arith in
     let less : k < a .n = omega arith in

@@ -22,7 +22,7 @@ returns c =
     let left = c .args .left .now in
     let at = c .args .at in
     let k : suc (at - 1) ≡ at = omega arith in
-    (omega arith, simp length-set (omega arith), rw k at (drop-set left (at - 1) (c .args .block) (omega arith)))
+    (omega arith, simp length-set (omega arith), rw k at (drop-set left (at - 1) (c .args .block .0) (omega arith)))
 
 pub leave-spec : {M : Type 1} → statement M
 leave-spec = tie.close (tie.spec sub-k mul-left element-write-left returns)

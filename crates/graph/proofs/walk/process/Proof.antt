@@ -3,7 +3,8 @@
 use borrow.Author.Needs.{needs}
 use native.Mathlib.Omega.{arith}
 use mathlib.Core.Path.{_≡_, refl}
-use Rattle.graph.specs.Frames.{rowOf, state, coming, size, Ready}
+use Rattle.graph.specs.Records.{rowOf}
+use Rattle.graph.specs.Frames.{state, coming, size, Ready}
 use Rattle.graph.proofs.Turns.{turned}
 use Rattle.graph.proofs.walk.process.Statement.{statement}
 use Rattle.graph.proofs.walk.process.Tie as tie

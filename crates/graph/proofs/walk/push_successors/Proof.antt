@@ -11,65 +11,23 @@ use Rattle.graph.proofs.walk.push_successors.Tie as tie
 
 -- the block's pair
 abbrev pair : tie.Start → ℕ → ℕ
-pair s j = getD (getD (s .args .succs .now) (s .args .block) []) j 0
+pair s j = getD (getD (s .args .succs .now) (s .args .block .0) []) j 0
 
 abbrev start : tie.Start → Stack
 start s = stack (s .args .processing .now) (s .args .top)
 
-mul-count : tie.Need-mul-count
-mul-count c = search needs
-
-element-copy-out-count : tie.Need-element-copy-out-count
-element-copy-out-count c = search needs
-
 returns : tie.Need-returns
 returns c = rw (c .if1 .taken) refl
 
-mul-push : tie.Need-mul-push
-mul-push c = search needs
-
-index-1-push : tie.Need-index-1-push
-index-1-push c = search needs
-
-index-2-push : tie.Need-index-2-push
-index-2-push c = search needs
-
-push-requires : tie.Need-push-requires
-push-requires c κs = search needs
-
 returns-2 : tie.Need-returns-2
-returns-2 c = rw (c .before .before .before .if2 .taken) (c .push .ensures .0)
-
-mul-push-2 : tie.Need-mul-push-2
-mul-push-2 c = search needs
-
-index-1-push-2 : tie.Need-index-1-push-2
-index-1-push-2 c = search needs
-
-index-2-push-2 : tie.Need-index-2-push-2
-index-2-push-2 c = search needs
-
-push-requires-2 : tie.Need-push-requires-2
-push-requires-2 c κs = search needs
-
-mul-push-3 : tie.Need-mul-push-3
-mul-push-3 c = search needs
-
-index-1-push-3 : tie.Need-index-1-push-3
-index-1-push-3 c = search needs
-
-index-2-push-3 : tie.Need-index-2-push-3
-index-2-push-3 c = search needs
-
-push-requires-3 : tie.Need-push-requires-3
-push-requires-3 c κs = search needs
+returns-2 c = rw (c .before .before .if2 .taken) (c .push .ensures .0)
 
 returns-3 : tie.Need-returns-3
 returns-3 c =
-    let s = c .before .before .before .before .before .before .before .before .before in
-    let not-0 = c .before .before .before .before .before .before .before .if1 .left in
-    let not-1 = c .before .before .before .before .before .before .if2 .left in
-    let one = c .before .before .before .push2 in
+    let s = c .before .before .before .before .before .before .before .before .before .before in
+    let not-0 = c .before .before .before .before .before .if1 .left in
+    let not-1 = c .before .before .before .before .if2 .left in
+    let one = c .before .before .push2 in
     let two = c .push3 in
     two .ensures .0 ∙ ap (pushOne (s .args .n) (pair s 1)) (one .ensures .0)
     ∙ ap (λ (vs : List ℕ). pushAll (s .args .n) vs (start s)) (sym (counted-two _ (pair s 0) (pair s 1) not-0 not-1))
@@ -77,21 +35,6 @@ returns-3 c =
 pub push-successors-spec : {M : Type 1} → statement M
 push-successors-spec =
     tie.close
-    (tie.spec
-    mul-count
-    element-copy-out-count
-    returns
-    mul-push
-    index-1-push
-    index-2-push
-    push-requires
-    returns-2
-    mul-push-2
-    index-1-push-2
-    index-2-push-2
-    push-requires-2
-    mul-push-3
-    index-1-push-3
-    index-2-push-3
-    push-requires-3
-    returns-3)
+    (tie.spec (λ c. search needs) (λ c. search needs) (λ c. search needs) (λ c. search needs) (λ c. search needs)
+    (λ c. search needs) (λ c. search needs) (λ c. search needs) (λ c. search needs) returns (λ c κs. search needs)
+    returns-2 (λ c κs. search needs) (λ c κs. search needs) returns-3)

@@ -2,7 +2,8 @@
 use borrow.Author.Needs.{needs}
 use Prim.Native.Nat.{ℕ}
 use mathlib.Core.List.{List}
-use Rattle.graph.specs.Frames.{stack, State, state, rowOf}
+use Rattle.graph.specs.Records.{rowOf}
+use Rattle.graph.specs.Frames.{stack, State, state}
 use Rattle.graph.proofs.Rows.{row-short}
 use Rattle.graph.proofs.Turns.{current, room-left, room-two, turn-leave, turn-old, turn-meet}
 use Rattle.graph.proofs.walk.turn.Statement.{statement}

@@ -6,9 +6,9 @@ use mathlib.Core.Path.{refl}
 use mathlib.Core.List.{List}
 use lib.ListN.{replicate}
 use denote.Ref.{now}
-use Rattle.graph.specs.Records.{recorded}
-use Rattle.graph.specs.Frames.{rowOf}
+use Rattle.graph.specs.Records.{recorded, rowOf}
 use Rattle.graph.proofs.Begin.{ready, ends}
+use Rattle.graph.proofs.Rows.{loaded-row}
 use Rattle.graph.proofs.walk.walk.Statement.{statement}
 use Rattle.graph.proofs.walk.walk.Tie as tie
 
@@ -33,11 +33,15 @@ returns c =
     let load = c .before .before .before .before .before .before .before .before .load in
     let s = c .before .before .before .before .before .before .before .before .before .before .before .before in
     let a = s .args in
-    let rows : ℕ → List ℕ = rowOf (load .last .1 .1 .1 .0) (load .last .1 .1 .1 .1 .0) in
+    let succs = load .last .1 .1 .1 .0 in
+    let counts = load .last .1 .1 .1 .1 .0 in
+    let rows : ℕ → List ℕ = rowOf succs counts in
+    let same = loaded-row (now (a .blocks)) (a .first) (a .n) (replicate 256 (replicate 2 0)) succs (replicate 256 0)
+    counts (load .ensures) in
     let records : ℕ → List ℕ = recorded (now (a .blocks)) (a .first) in
     ends (a .n) (a .met .now) (a .left .now) (replicate 513 0) (s .pre .0) (s .pre .1) (s .pre .2) refl
     (push .last .0) (push .result) (push .ensures .0) rows records
-    (process .last .1 .1 .1 .0) (process .last .1 .1 .1 .1 .0) (process .result) (load .ensures) (process .ensures)
+    (process .last .1 .1 .1 .0) (process .last .1 .1 .1 .1 .0) (process .result) same (process .ensures)
 
 pub walk-spec : {M : Type 1} → statement M
 walk-spec = tie.close (tie.spec load-requires push-requires process-requires returns)

@@ -1,7 +1,6 @@
 -- A block that has no operation is refused, and any other is closed.
 use borrow.Author.Tests.{eq-eqb, ne-eqb}
 use native.Mathlib.Omega.{arith}
-use Prim.Native.Nat.{_-_}
 use mathlib.Core.Path.{refl}
 use borrow.Author.Needs.{needs}
 use Rattle.utils.specs.Bytes.{pick}
@@ -15,33 +14,18 @@ returns c =
     let if1 = c .if1 in
     rw (eq-eqb _ _ (if1 .taken)) (refl, refl)
 
-mul-close-block : tie.Need-mul-close-block
-mul-close-block c =
-    let pre = c .before .before .before .before .before .pre in
-    let few = pre .6 (omega arith) in
-    omega arith
-
 close-block-requires : tie.Need-close-block-requires
 close-block-requires c κs =
     let pre = c .before .before .before .before .before .pre in
     let few = pre .6 (omega arith) in
     (omega arith, omega arith, omega arith, omega arith, omega arith, omega arith)
 
-enum-known-e : tie.Need-enum-known-e
-enum-known-e c = search needs
-
-enum-told : tie.Need-enum-told
-enum-told c = search needs
-
-add-t17 : tie.Need-add-t17
-add-t17 c =
+add-t16 : tie.Need-add-t16
+add-t16 c =
     let back8 = c .before .before .before .before .before .before .before .before in
     let pre = back8 .before .before .pre in
     let few = pre .6 (omega arith) in
     omega arith
-
-same-length : tie.Need-same-length
-same-length c = search needs
 
 returns-2 : tie.Need-returns-2
 unfolding addedD addedCells pick
@@ -50,9 +34,6 @@ returns-2 c =
     let close-block = c .before .before .before .before .before .close-block in
     let e = c .before .e in
     rw (ne-eqb _ _ (if1 .left), ← close-block .ensures .0, e .given .1) (refl, rw (e .given .1) at (close-block .ensures .1))
-
-same-length-2 : tie.Need-same-length-2
-same-length-2 c = search needs
 
 returns-3 : tie.Need-returns-3
 unfolding addedD addedCells pick
@@ -65,14 +46,5 @@ returns-3 c =
 pub add-block-spec : {M : Type 1} → statement M
 add-block-spec =
     tie.close
-    (tie.spec
-    returns
-    mul-close-block
-    close-block-requires
-    enum-known-e
-    enum-told
-    add-t17
-    same-length
-    returns-2
-    same-length-2
-    returns-3)
+    (tie.spec returns close-block-requires (λ c. search needs) (λ c. search needs) add-t16 (λ c. search needs)
+    returns-2 (λ c. search needs) returns-3)

@@ -1,6 +1,5 @@
 -- `dead_mark` tests what `markOf` tests.
 use borrow.Author.Tests.{eq-eqb, ne-eqb}
-use Prim.Native.Nat.{_-_}
 use Rattle.utils.specs.Bytes.{pick}
 use Rattle.link.proofs.enter.dead_mark.Statement.{statement}
 use Rattle.link.proofs.enter.dead_mark.Tie as tie

@@ -1,83 +1,69 @@
 -- The sources that are left, stored from here, give all of them (`Entered`).
 use borrow.Author.Needs.{needs}
 use native.Mathlib.Omega.{arith}
-use Prim.Native.Nat.{ℕ, _+_, _-_, _*_}
+use Prim.Native.Nat.{ℕ, _+_, _-_}
 use mathlib.Core.Path.{_≡_}
-use mathlib.Core.List.{[]}
+use mathlib.Core.List.{List, []}
 use denote.Ref.{now}
-use Rattle.parser.specs.Edges.{entering, predecessors}
-use Rattle.link.specs.Steps.{goesAt, linksAt}
-use native.Mathlib.Nat.{add-zero}
 use lib.ListN.{length-append}
+use Rattle.graph.specs.Records.{rowOf}
+use Rattle.parser.specs.Edges.{entering, predecessors}
+use Rattle.link.specs.Steps.{linksFrom}
 use Rattle.link.proofs.Entering.{Entered, entered-none, entered-more}
 use Rattle.link.proofs.Entering.{entered-all, predecessors-more, predecessors-none}
 use Rattle.link.proofs.enter.enter_edges.Statement.{statement}
 use Rattle.link.proofs.enter.enter_edges.Tie as tie
 
 abbrev Inv-loop : tie.InvT-loop
-Inv-loop blocks base n j sources₀ used here₀ rest₀ sources here rest =
+Inv-loop succs counts n j sources₀ used here₀ rest₀ sources here rest =
     (k : ℕ) × (k + rest ≡ n)
-    × Entered (predecessors (j .0) 0 (linksAt blocks base n))
-    (predecessors (j .0) k (linksAt blocks (base + k) rest)) used here sources₀ sources
+    × Entered (predecessors (j .0) 0 (linksFrom (rowOf succs counts) 0 n))
+    (predecessors (j .0) k (linksFrom (rowOf succs counts) k rest)) used here sources₀ sources
 
 abbrev μ-loop : tie.MeasureT-loop
-μ-loop blocks base n j sources₀ used here₀ rest₀ sources here rest =
-    rest
+μ-loop succs counts n j sources₀ used here₀ rest₀ sources here rest = rest
 
 loop-holds : tie.Need-loop-holds Inv-loop μ-loop
 loop-holds c =
-    let a = c .before .before .args in
-    let all = predecessors (a .j .0) 0 (linksAt (now (a .blocks)) (a .base) (a .n)) in
-    (0, omega arith, rw add-zero (entered-none all (a .used) (now (a .sources))))
+    let a = c .before .args in
+    let all = predecessors (a .j .0) 0 (linksFrom (rowOf (now (a .succs)) (now (a .counts))) 0 (a .n)) in
+    (0, omega arith, entered-none all (a .used) (now (a .sources)))
 
 next-source-requires : tie.Need-next-source-requires Inv-loop μ-loop
 next-source-requires c κs = omega arith
 
-cast-at : tie.Need-cast-at Inv-loop μ-loop
-cast-at c = search needs
-
-add-at : tie.Need-add-at Inv-loop μ-loop
-add-at c = search needs
-
-mul-at : tie.Need-mul-at Inv-loop μ-loop
-mul-at c = search needs
-
 enter-from-requires : tie.Need-enter-from-requires Inv-loop μ-loop
 enter-from-requires c κs =
-    let a = c .before .before .before .before .before .before .before .args in
-    let pre = c .before .before .before .before .before .before .before .pre in
-    let loop = c .before .before .before .before .loop in
-    let loop-test = c .before .before .before .loop-test in
-    let next-source = c .before .before .next-source in
-    let cells = now (a .blocks) in
+    let a = c .before .before .before .before .before .args in
+    let pre = c .before .before .before .before .before .pre in
+    let loop = c .before .before .before .loop in
+    let loop-test = c .before .before .loop-test in
+    let next-source = c .before .next-source in
+    let goes : ℕ → List ℕ = rowOf (now (a .succs)) (now (a .counts)) in
     let k = next-source .result .0 in
     let same : loop .inv .0 ≡ k = omega arith in
-    let more = predecessors-more cells (a .base) (a .j .0) k (loop .rest) (loop-test .taken) in
+    let more = predecessors-more goes (a .j .0) k (loop .rest) (loop-test .taken) in
     let inv = rw same at (loop .inv .2) in
     let e = rw (more, length-append) at (inv .count) in
     (omega arith, omega (arith, e, inv .long, pre .1))
-
-sub-rest : tie.Need-sub-rest Inv-loop μ-loop
-sub-rest c = search needs
 
 loop-less : tie.Need-loop-less Inv-loop μ-loop
 loop-less c = omega arith
 
 loop-again : tie.Need-loop-again Inv-loop μ-loop
 loop-again c =
-    let back8 = c .before .before .before .before .before .before .before .before in
-    let a = back8 .before .before .args in
-    let loop = c .before .before .before .before .before .before .before .loop in
-    let loop-test = c .before .before .before .before .before .before .loop-test in
-    let next-source = c .before .before .before .before .before .next-source in
+    let a = c .before .before .before .before .before .before .before .before .args in
+    let loop = c .before .before .before .before .before .before .loop in
+    let loop-test = c .before .before .before .before .before .loop-test in
+    let next-source = c .before .before .before .before .next-source in
     let enter-from = c .before .before .enter-from in
-    let cells = now (a .blocks) in
+    let goes : ℕ → List ℕ = rowOf (now (a .succs)) (now (a .counts)) in
     let k = next-source .result .0 in
     let same : loop .inv .0 ≡ k = omega arith in
-    let more = predecessors-more cells (a .base) (a .j .0) k (loop .rest) (loop-test .taken) in
+    let more = predecessors-more goes (a .j .0) k (loop .rest) (loop-test .taken) in
     let inv = rw same at (loop .inv .2) in
-    let own = entering (a .j .0) k (goesAt cells ((a .base + k) * 8)) [] in
-    let later = predecessors (a .j .0) (k + 1) (linksAt cells (a .base + (k + 1)) (loop .rest - 1)) in (
+    let own = entering (a .j .0) k (goes k) [] in
+    let later = predecessors (a .j .0) (k + 1) (linksFrom goes (k + 1) (loop .rest - 1)) in (
       k + 1,
       omega arith,
       entered-more own later (enter-from .result) (enter-from .last .1 .1 .1 .1 .0) inv more (enter-from .ensures),
@@ -90,26 +76,13 @@ same-length c =
 
 returns : tie.Need-returns Inv-loop μ-loop
 returns c =
-    let a = c .before .before .before .before .args in
+    let a = c .before .before .before .args in
     let loop = c .before .loop in
-    let cells = now (a .blocks) in
-    let none = predecessors-none cells (a .base + loop .inv .0) (a .j .0) (loop .inv .0) (loop .rest) (omega arith) in
-    entered-all (loop .inv .2) none
+    let goes : ℕ → List ℕ = rowOf (now (a .succs)) (now (a .counts)) in
+    entered-all (loop .inv .2) (predecessors-none goes (a .j .0) (loop .inv .0) (loop .rest) (omega arith))
 
 pub enter-edges-spec : {M : Type 1} → statement M
 enter-edges-spec =
     tie.close
-    (tie.spec
-    Inv-loop
-    μ-loop
-    loop-holds
-    next-source-requires
-    cast-at
-    add-at
-    mul-at
-    enter-from-requires
-    sub-rest
-    loop-less
-    loop-again
-    same-length
-    returns)
+    (tie.spec Inv-loop μ-loop loop-holds next-source-requires enter-from-requires (λ c. search needs) loop-less
+    loop-again same-length returns)

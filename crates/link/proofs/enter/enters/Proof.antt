@@ -1,6 +1,5 @@
 -- `enters` tests what `entersD` tests.
 use borrow.Author.Tests.{lt-ltb, le-ltb}
-use Prim.Native.Nat.{_-_}
 use Rattle.utils.specs.Bytes.{pick}
 use Rattle.link.specs.Steps.{entersD}
 use Rattle.link.proofs.enter.enters.Statement.{statement}

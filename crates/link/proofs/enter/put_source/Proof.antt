@@ -1,14 +1,10 @@
 -- A source is stored exactly where there is an edge.
 use native.Mathlib.Omega.{arith}
-use Prim.Native.Nat.{_-_}
 use mathlib.Core.Path.{refl}
 use borrow.Author.Needs.{needs}
 use Rattle.utils.specs.Bytes.{pick}
 use Rattle.link.proofs.enter.put_source.Statement.{statement}
 use Rattle.link.proofs.enter.put_source.Tie as tie
-
-mul-sources : tie.Need-mul-sources
-mul-sources c = search needs
 
 slice-write-sources : tie.Need-slice-write-sources
 unfolding pick
@@ -17,12 +13,6 @@ slice-write-sources c =
     let if1 = c .if1 in
     let room = rw (if1 .taken) at (pre) in
     omega arith
-
-add-result : tie.Need-add-result
-add-result c = search needs
-
-same-length : tie.Need-same-length
-same-length c = search needs
 
 returns : tie.Need-returns
 unfolding pick
@@ -38,4 +28,5 @@ returns-2 c =
 
 pub put-source-spec : {M : Type 1} → statement M
 put-source-spec =
-    tie.close (tie.spec mul-sources slice-write-sources add-result same-length returns returns-2)
+    tie.close
+    (tie.spec (λ c. search needs) slice-write-sources (λ c. search needs) (λ c. search needs) returns returns-2)
