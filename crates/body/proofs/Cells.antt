@@ -186,9 +186,14 @@ module _ {void : Bool} {i : Item} {s s′ : Going} {items₀ items arguments₀ 
       rw (closed-on, t .before-next, t .last-next)
       (sym (closing-filled void (s .before) (s .last) i (closedFrom void (beforeNext i) (lastNext (s .last) i) is)))
 
-pub labels-on : (i : Item) (is : List Item) (ls ls′ : List ℕ) → ls′ ≡ ls ++ labelsOf (i ∷ [])
-    → ls′ ++ labelsOf is ≡ ls ++ labelsOf (i ∷ is)
-labels-on i is ls ls′ e = rw (e, labels-cons i is, append-assoc ls (labelsOf (i ∷ [])) (labelsOf is))
+module _ (i : Item) (is : List Item) (n n′ : ℕ) (next : n′ ≡ n + length (labelsOf (i ∷ []))) where
+  pub labels-on : (labels labels′ : List ℕ) → labels′ ≡ sets labels n (labelsOf (i ∷ []))
+      → sets labels′ n′ (labelsOf is) ≡ sets labels n (labelsOf (i ∷ is))
+  labels-on labels labels′ e =
+      rw (e, next, labels-cons i is) (sym (sets-append (labelsOf (i ∷ [])) (labelsOf is) labels n))
+
+  pub labels-count-on : n′ + length (labelsOf is) ≡ n + length (labelsOf (i ∷ is))
+  labels-count-on = rw (labels-cons i is) (omega (arith, next, length-append (labelsOf (i ∷ [])) (labelsOf is)))
 
 -- Bounds. -----------------------------------------------------------------------------------------------------------
 

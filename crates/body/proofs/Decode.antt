@@ -9,13 +9,14 @@ use Rattle.utils.specs.Bytes.{pick}
 use Rattle.parser.specs.Body.{Item, label, plain, call, callInto, argumentsIn}
 use Rattle.parser.specs.Blocks.{partOf, partsOf}
 use Rattle.parser.specs.declared.Operation.the-variants as O
-use Rattle.body.specs.Records.{operationRecord, recordOf, recordCells, itemsCells, recordAt, goesOf, recordPart, partsAt}
+use Rattle.body.specs.Records.{operationRecord, recordOf, firstCell, secondCell, recordCells, itemsCells, lastOf}
+use Rattle.body.specs.Records.{recordAt, goesBy, recordPart, partsAt}
 use Rattle.body.specs.declared.ItemRecord.{ItemRecord}
 use Rattle.body.proofs.Lay.{length-items-cells}
 
 -- an item's record gives its part back
 pub part-of-record : (used : ℕ) (i : Item) → recordPart (recordOf used i) ≡ partOf i
-unfolding recordPart recordOf operationRecord goesOf pick
+unfolding recordPart recordOf operationRecord goesBy pick
 part-of-record used (label w l) = refl
 part-of-record used (plain (O.BinaryOp w v x y)) = refl
 part-of-record used (plain (O.UnaryOp w v x)) = refl
@@ -29,12 +30,30 @@ part-of-record used (plain (O.Nop w)) = refl
 part-of-record used (call w g xs) = refl
 part-of-record used (callInto w v g xs) = refl
 
--- the record whose cells stand at its index
-pub record-there : (pre : List ℕ) (r : ItemRecord) (rest : List ℕ) (first : ℕ) → length pre ≡ first * 8
-    → recordAt (pre ++ (recordCells r ++ rest)) first ≡ r
-record-there pre r rest first e =
+-- the last two cells of an item's record give back what they hold
+pub last-back : (used : ℕ) (i : Item)
+    → lastOf (recordOf used i .kind) (firstCell (recordOf used i .last)) (secondCell (recordOf used i .last))
+    ≡ recordOf used i .last
+unfolding lastOf recordOf operationRecord pick
+last-back used (label w l) = refl
+last-back used (plain (O.BinaryOp w v x y)) = refl
+last-back used (plain (O.UnaryOp w v x)) = refl
+last-back used (plain (O.Const w v)) = refl
+last-back used (plain (O.Jump w l)) = refl
+last-back used (plain (O.Branch w x l m)) = refl
+last-back used (plain (O.Ret w)) = refl
+last-back used (plain (O.RetValue w x)) = refl
+last-back used (plain (O.Print w x)) = refl
+last-back used (plain (O.Nop w)) = refl
+last-back used (call w g xs) = refl
+last-back used (callInto w v g xs) = refl
+
+-- the record of an item whose cells stand at its index
+pub record-there : (pre : List ℕ) (used : ℕ) (i : Item) (rest : List ℕ) (first : ℕ) → length pre ≡ first * 8
+    → recordAt (pre ++ (recordCells (recordOf used i) ++ rest)) first ≡ recordOf used i
+record-there pre used i rest first e =
     rw (← e, getD-append-seam)
-    (simp getD-append-add)
+    (simp (getD-append-add, last-back used i))
 
 -- the parts of items whose cells stand from an index on, whatever stands before and behind them
 pub parts-there : (pre : List ℕ) (used : ℕ) (is : List Item) (rest : List ℕ) (first : ℕ) → length pre ≡ first * 8
@@ -47,7 +66,7 @@ parts-there pre used (i ∷ is) rest first e =
     let all : List ℕ = pre ++ (recordCells r ++ behind) in
     let far : length (pre ++ recordCells r) ≡ (first + 1) * 8 = omega (arith, length-append pre (recordCells r)) in
     let one : recordPart (recordAt all first) ≡ partOf i =
-    ap recordPart (record-there pre r behind first e) ∙ part-of-record used i in
+    ap recordPart (record-there pre used i behind first e) ∙ part-of-record used i in
     let more : partsAt all (first + 1) (length is) ≡ partsOf is =
     ap (λ (cells : List ℕ). partsAt cells (first + 1) (length is)) (sym (append-assoc pre (recordCells r) behind))
     ∙ parts-there (pre ++ recordCells r) (used + length (argumentsIn i)) is rest (first + 1) far in

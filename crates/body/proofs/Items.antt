@@ -21,7 +21,7 @@ use Rattle.parser.specs.declared.Variable.{Variable}
 use Rattle.parser.specs.declared.Consumed.{Consumed}
 use Rattle.parser.specs.declared.Consumed.the-variants as C
 use Rattle.parser.specs.declared.Called.the-variants as L
-use Rattle.body.specs.Records.{operationRecord, recordOf, itemsCells}
+use Rattle.body.specs.Records.{none, operationRecord, recordOf, itemsCells}
 use Rattle.body.specs.Room.{Within}
 use Rattle.body.specs.Turns.{itemRead, Put, ItemHeld, callRecord, callRead, CallHeld, lateRefusal}
 use Rattle.body.specs.Turns.{behindKind, closing, beforeNext}
@@ -64,20 +64,20 @@ called-item n used i (C.At next) items₀ items arguments₀ arguments h = (refl
 called-item n used i (C.Refused e) items₀ items arguments₀ arguments h = (refl, tt)
 
 pub call-item : (w n used : ℕ) (c : Calling) (items₀ items arguments₀ arguments : List ℕ)
-    → CallHeld n used (callRecord 5 w 0 0 used c)
+    → CallHeld n used (callRecord 5 w none 0 used c)
     (variablesCells (c .arguments .list)) items₀ items arguments₀ arguments
     (c .arguments .end)
-    → (callRead 5 w 0 0 used c ≡ itemRead used (calledItem c (λ g xs. call w g xs)))
+    → (callRead 5 w none 0 used c ≡ itemRead used (calledItem c (λ g xs. call w g xs)))
     × ItemHeld n used items₀ items arguments₀ arguments (calledItem c (λ g xs. call w g xs))
 unfolding callRead calledItem recordOf
 call-item w n used c items₀ items arguments₀ arguments h =
     called-item n used (call w (c .callee) (c .arguments .list)) (c .arguments .end) items₀ items arguments₀ arguments h
 
 pub call-into-item : (w n used : ℕ) (v : Variable) (t : ℕ) (c : Calling) (items₀ items arguments₀ arguments : List ℕ)
-    → callRecord 6 w (v .id .0) t used c ≡ recordOf used (callInto w v (c .callee) (c .arguments .list))
-    → CallHeld n used (callRecord 6 w (v .id .0) t used c) (variablesCells (c .arguments .list)) items₀ items arguments₀
+    → callRecord 6 w (v .id) t used c ≡ recordOf used (callInto w v (c .callee) (c .arguments .list))
+    → CallHeld n used (callRecord 6 w (v .id) t used c) (variablesCells (c .arguments .list)) items₀ items arguments₀
     arguments (c .arguments .end)
-    → (callRead 6 w (v .id .0) t used c ≡ itemRead used (calledItem c (λ g xs. callInto w v g xs)))
+    → (callRead 6 w (v .id) t used c ≡ itemRead used (calledItem c (λ g xs. callInto w v g xs)))
     × ItemHeld n used items₀ items arguments₀ arguments (calledItem c (λ g xs. callInto w v g xs))
 unfolding callRead calledItem
 call-into-item w n used v t c items₀ items arguments₀ arguments q h =

@@ -3,11 +3,11 @@
 use Prim.Native.Nat.{ℕ, zero, suc, _+_, _-_, _*_, _≤_}
 use mathlib.Core.Path.{_≡_, refl, sym, ap, _∙_}
 use mathlib.Core.Bool.{Bool, true}
-use mathlib.Core.List.{List, _++_, append-nil}
+use mathlib.Core.List.{List}
 use native.Mathlib.Omega.{arith}
 use native.Mathlib.Nat.{zero-add}
-use lib.ListN.{length, take}
-use lib.Seq.{sets, length-sets, length-take-le}
+use lib.ListN.{length}
+use lib.Seq.{sets, length-sets}
 use Rattle.lexer.specs.Decoded.{Tok}
 use Rattle.parser.specs.Step.{thenAt}
 use Rattle.parser.specs.Body.{Body, bodyStop, labelsOf, lacksRet, closedFrom, closedItems}
@@ -23,7 +23,8 @@ use Rattle.body.specs.declared.Closed.{Closed}
 use Rattle.body.specs.declared.Going.{Going}
 use Rattle.body.proofs.Cells.{fresh, started, items-on, arguments-on, items-count-on, arguments-count-on}
 use Rattle.body.proofs.Cells.{blocks-on}
-use Rattle.body.proofs.Cells.{labels-on, items-few-on, blocks-few-on, ending-filled, ending-few, lacks-operation}
+use Rattle.body.proofs.Cells.{labels-on, labels-count-on, items-few-on, blocks-few-on, ending-filled, ending-few}
+use Rattle.body.proofs.Cells.{lacks-operation}
 
 -- the loop's state, with the room that is left and the blocks begun so far
 pub record Reading (ts : List Tok) (void : Bool) (at first used : ℕ) (whole : Body) (items₀ arguments₀ labels₀ : List ℕ)
@@ -39,11 +40,13 @@ pub record Reading (ts : List Tok) (void : Bool) (at first used : ℕ) (whole : 
       ≡ sets items₀ (first * 8) (itemsCells used (closedItems void (whole .items)))
   pub arguments-rest : sets arguments (s .arguments * 2) (argumentsCells (bodyFrom ts room s labels .items))
       ≡ sets arguments₀ (used * 2) (argumentsCells (whole .items))
-  pub labels-rest : take (s .labels) labels ++ labelsOf (bodyFrom ts room s labels .items) ≡ labelsOf (whole .items)
+  pub labels-rest : sets labels (s .labels) (labelsOf (bodyFrom ts room s labels .items))
+      ≡ sets labels₀ 0 (labelsOf (whole .items))
   pub items-count : s .items + length (closedFrom void (s .before) (s .last) (bodyFrom ts room s labels .items))
       ≡ first + length (closedItems void (whole .items))
   pub arguments-count : s .arguments + argumentsCount (bodyFrom ts room s labels .items)
       ≡ used + argumentsCount (whole .items)
+  pub labels-count : s .labels + length (labelsOf (bodyFrom ts room s labels .items)) ≡ length (labelsOf (whole .items))
   pub blocks-count : blocks
       + filled (fresh (s .before)) (partsOf (closedFrom void (s .before) (s .last) (bodyFrom ts room s labels .items)))
       ≡ filled true (partsOf (closedItems void (whole .items)))
@@ -74,6 +77,7 @@ begin ts void at first used items arguments labels w =
       labels-rest = refl;
       items-count = refl;
       arguments-count = refl;
+      labels-count = zero-add (length (labelsOf (functionBody ts at .items)));
       blocks-count = zero-add (filled true (partsOf (closedItems void (functionBody ts at .items))));
       items-few = omega arith;
       items-spared = λ z. absurd (omega (arith, z));
@@ -85,26 +89,26 @@ begin ts void at first used items arguments labels w =
 
 -- the answer of a body that is closed
 pub closed-read : (ts : List Tok) (void : Bool) (at first used : ℕ) (whole : Body) (e : Closed)
-    (items₀ items arguments₀ arguments labels : List ℕ)
+    (items₀ items arguments₀ arguments labels₀ labels : List ℕ)
     → (whole .end ≡ C.At (e .next)) × (length (closedItems void (whole .items)) + first ≡ e .items)
     × (argumentsCount (whole .items) + used ≡ e .arguments) × (length (labelsOf (whole .items)) ≡ e .labels)
-    × Stored ts void (whole .items) at first used (e .next) items₀ items arguments₀ arguments labels
+    × Stored ts void (whole .items) at first used (e .next) items₀ items arguments₀ arguments labels₀ labels
     → (B.Done (record { next = e .next; items = e .items - first; arguments = e .arguments - used; labels = e .labels })
     ≡ bodyRead void whole)
-    × Held ts void (whole .items) at first used items₀ items arguments₀ arguments labels (whole .end)
+    × Held ts void (whole .items) at first used items₀ items arguments₀ arguments labels₀ labels (whole .end)
 unfolding bodyRead thenAt
-closed-read ts void at first used whole e items₀ items arguments₀ arguments labels f =
+closed-read ts void at first used whole e items₀ items arguments₀ arguments labels₀ labels f =
     let n : e .items - first ≡ length (closedItems void (whole .items)) = omega (arith, f .1) in
     let m : e .arguments - used ≡ argumentsCount (whole .items) = omega (arith, f .2) in
     rw (f .0, n, m, ← f .3) (refl, f .4)
 
 -- the answer of a body that is refused
 pub refused-read : (ts : List Tok) (void : Bool) (at first used : ℕ) (whole : Body) (e : Refusal)
-    (items₀ items arguments₀ arguments labels : List ℕ) → whole .end ≡ C.Refused e
+    (items₀ items arguments₀ arguments labels₀ labels : List ℕ) → whole .end ≡ C.Refused e
     → (B.Refused e ≡ bodyRead void whole)
-    × Held ts void (whole .items) at first used items₀ items arguments₀ arguments labels (whole .end)
+    × Held ts void (whole .items) at first used items₀ items arguments₀ arguments labels₀ labels (whole .end)
 unfolding bodyRead thenAt
-refused-read ts void at first used whole e items₀ items arguments₀ arguments labels f = rw f (refl, tt)
+refused-read ts void at first used whole e items₀ items arguments₀ arguments labels₀ labels f = rw f (refl, tt)
 
 module _ {ts : List Tok} {void : Bool} {at first used : ℕ} {whole : Body} {items₀ arguments₀ labels₀ : List ℕ}
     (first-few : first * 4 ≤ at * 3) (used-few : used * 19 ≤ at * 16) where
@@ -155,10 +159,12 @@ module _ {ts : List Tok} {void : Bool} {at first used : ℕ} {whole : Body} {ite
             items-rest = items-on t is ∙ rw go at (v .items-rest);
             arguments-rest = arguments-on t is ∙ rw go at (v .arguments-rest);
             labels-rest =
-                labels-on i is (take (s .labels) labels) (take (s′ .labels) labels′) (g .labels-are) ∙ rw go at
-                (v .labels-rest);
+                labels-on i is (s .labels) (s′ .labels) (g .labels-next) labels labels′ (g .labels-are)
+                ∙ rw go at (v .labels-rest);
             items-count = items-count-on t is ∙ rw go at (v .items-count);
             arguments-count = arguments-count-on t is ∙ rw go at (v .arguments-count);
+            labels-count =
+                labels-count-on i is (s .labels) (s′ .labels) (g .labels-next) ∙ rw go at (v .labels-count);
             blocks-count = omega (arith, blocks-on t is, rw go at (v .blocks-count));
             items-few = rw (t .items-next) (few .0);
             items-spared = λ z. rw (t .items-next) (few .1 (sym (t .before-next) ∙ z));
@@ -179,23 +185,19 @@ module _ {ts : List Tok} {void : Bool} {at first used : ℕ} {whole : Body} {ite
     -- the closing brace
     pub finish : (room blocks : ℕ) {e : Closed} {items′ arguments′ labels′ : List ℕ}
         → Reading ts void at first used whole items₀ arguments₀ labels₀ s items arguments labels room blocks
-        → 255 ≤ length labels₀
         → Ended ts void s e items items′ arguments arguments′ labels labels′
         → (whole .end ≡ C.At (e .next)) × (length (closedItems void (whole .items)) + first ≡ e .items)
         × (argumentsCount (whole .items) + used ≡ e .arguments) × (length (labelsOf (whole .items)) ≡ e .labels)
-        × Stored ts void (whole .items) at first used (e .next) items₀ items′ arguments₀ arguments′ labels′
+        × Stored ts void (whole .items) at first used (e .next) items₀ items′ arguments₀ arguments′ labels₀ labels′
     unfolding closedFrom itemsCells argumentsCells argumentsCount labelsOf added
-    finish zero blocks v long g = absurd (omega (arith, roomy v))
-    finish (suc room) blocks {e} v long g =
+    finish zero blocks v g = absurd (omega (arith, roomy v))
+    finish (suc room) blocks {e} v g =
         let go = g .goes room in
         let lacks = lacksRet void (s .before) in
         let n : s .items + length (added lacks (s .last)) ≡ first + length (closedItems void (whole .items)) =
         rw go at (v .items-count) in
         let m : s .arguments + 0 ≡ used + argumentsCount (whole .items) = rw go at (v .arguments-count) in
-        let ls : take (s .labels) labels ≡ labelsOf (whole .items) =
-        sym (append-nil (take (s .labels) labels)) ∙ rw go at (v .labels-rest) in
-        let l : length (labelsOf (whole .items)) ≡ s .labels =
-        ap length (sym ls) ∙ length-take-le (s .labels) labels (omega (arith, v .labels-few, v .long-labels)) in
+        let l : s .labels + 0 ≡ length (labelsOf (whole .items)) = rw go at (v .labels-count) in
         let b : blocks + filled (fresh (s .before)) (partsOf (added lacks (s .last)))
         ≡ filled true (partsOf (closedItems void (whole .items))) =
         rw go at (v .blocks-count) in
@@ -205,12 +207,12 @@ module _ {ts : List Tok} {void : Bool} {at first used : ℕ} {whole : Body} {ite
           sym (rw go at (v .ends)),
           omega (arith, g .items-next),
           omega (arith, g .arguments-next),
-          l ∙ sym (g .labels-next),
+          omega (arith, g .labels-next),
           record {
             items-are = g .items-are ∙ rw go at (v .items-rest);
             arguments-are = g .arguments-are ∙ rw go at (v .arguments-rest);
-            labels-are = rw (l, g .labels-are) ls;
-            few-labels = omega (arith, v .labels-few);
+            labels-are = g .labels-are ∙ rw go at (v .labels-rest);
+            few-labels = omega (arith, l, v .labels-few);
             on = g .within;
             bounds =
                 record {

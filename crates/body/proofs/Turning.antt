@@ -2,7 +2,7 @@
 use Prim.Native.Nat.{ℕ, _+_, _*_, _≤_, _<_}
 use mathlib.Core.Path.{_≡_, refl, sym, ap, _∙_}
 use mathlib.Core.Bool.{Bool, true, false}
-use mathlib.Core.List.{List, [], _∷_, append-nil}
+use mathlib.Core.List.{List, [], _∷_, _++_}
 use native.Mathlib.Omega.{arith}
 use native.Mathlib.Nat.{add-zero}
 use native.Mathlib.Numerals.{add-one}
@@ -20,7 +20,8 @@ use Rattle.parser.specs.Runs.{variablesCells}
 use Rattle.parser.specs.Labels.{labelledD}
 use Rattle.parser.specs.Body.{label, bodyD, bodyThen, closes, behind, labelsOf, lacksRet}
 use Rattle.parser.specs.declared.Named.the-variants as N
-use Rattle.body.specs.Records.{itemRecord, recordOf, recordCells, itemsCells, argumentsCount}
+use Rattle.body.specs.Records.{none, itemRecord, recordOf, recordCells, itemsCells, argumentsCount}
+use Rattle.body.specs.declared.Last.the-variants as L
 use Rattle.body.specs.Room.{Within}
 use Rattle.body.specs.Turns.{added, closing, beforeNext, lastNext, itemThen, ItemTurned}
 use Rattle.body.specs.Turns.{LabelTaken, LabelTurned, Ended, Turned}
@@ -56,15 +57,15 @@ module _ (ts : List Tok) (void : Bool) (s : Going) (l : Identifier) (next : ℕ)
   pub label-room : s .items * 4 ≤ s .at * 3 → (s .items * 8 + 24 ≤ 24576) × (s .labels < 255)
   label-room h = (omega (arith, labelled .0, labelled .1, w .few), labelled .2)
 
-  pub label-taken : (n : ℕ) (items₀ items₁ items : List ℕ) → 255 ≤ length labels₀
+  pub label-taken : (n : ℕ) (items₀ items₁ items : List ℕ)
       → n ≡ s .items + length (added (lacksRet void (s .before)) (s .last))
       → items₁ ≡ sets items₀ (s .items * 8) (itemsCells 0 (added (lacksRet void (s .before)) (s .last)))
-      → items ≡ sets items₁ (n * 8) (recordCells (itemRecord 1 (s .at) 0 0 0 0 (l .0) 0))
+      → items ≡ sets items₁ (n * 8) (recordCells (itemRecord 1 (s .at) none 0 none 0 (L.Name l 0)))
       → LabelTaken ts void s
       (record { at = next; items = n + 1; arguments = s .arguments; labels = s .labels + 1; before = 1; last = s .last })
       items₀ items labels₀ (set labels₀ (s .labels) (l .0))
   unfolding closing itemsCells recordOf variablesCells beforeNext lastNext
-  label-taken n items₀ items₁ items long e f g =
+  label-taken n items₀ items₁ items e f g =
       let t = lacksRet void (s .before) in
       let xs = added t (s .last) in
       let m : n * 8 ≡ s .items * 8 + length (itemsCells (s .arguments) xs) =
@@ -74,8 +75,7 @@ module _ (ts : List Tok) (void : Bool) (s : Going) (l : Identifier) (next : ℕ)
         goes = q;
         labels-next = refl;
         labels-few = omega (arith, labelled .2);
-        labels-are =
-            rw (add-one (s .labels)) (take-suc-set labels₀ (s .labels) (l .0) (omega (arith, labelled .2)));
+        labels-are = refl;
         passed =
             record {
               two = labelled .0;
@@ -99,7 +99,7 @@ module _ (ts : List Tok) (void : Bool) (s : Going) (l : Identifier) (next : ℕ)
                   )
                   (sym
                   (sets-append (itemsCells (s .arguments) xs)
-                  (recordCells (itemRecord 1 (s .at) 0 0 0 0 (l .0) 0)) items₀
+                  (recordCells (itemRecord 1 (s .at) none 0 none 0 (L.Name l 0))) items₀
                   (s .items * 8)));
               arguments-are = refl;
             };
@@ -141,16 +141,20 @@ body-ended ts void s e items₀ items arguments labels w h next n used count f =
 -- The body from a state on. -----------------------------------------------------------------------------------------
 
 module _ (ts : List Tok) (void : Bool) (s : Going) (items₀ items labels₀ : List ℕ)
-    (goes-on : closes (s .before) (tokenAt ts (s .at) .kind) ≡ false) (few : s .labels ≤ 255) where
+    (goes-on : closes (s .before) (tokenAt ts (s .at) .kind) ≡ false) (few : s .labels ≤ 255)
+    (long : 255 ≤ length labels₀) where
   pub label-turned : (r : Turn) (arguments labels : List ℕ) → eqb (tokenAt ts (s .at) .kind) 3 ≡ true
       → LabelTurned ts void s items₀ items labels₀ labels r
       → Turned ts void s items₀ items arguments arguments labels₀ labels r
   unfolding bodyD opened labelsOf beforeNext variablesCells
   label-turned (T.On s′) arguments labels k h =
       let t = h .taken in
+      let so-far : take (s′ .labels) labels ≡ take (s .labels) labels₀ ++ (h .name .0 ∷ []) =
+      rw (h .labels-are, h .labels-next, add-one (s .labels))
+      (take-suc-set labels₀ (s .labels) (h .name .0) (omega (arith, h .labels-next, h .labels-few))) in
       record {
         read = label (s .at) (h .name);
-        goes = λ room. rw (goes-on, k, h .goes, h .labels-are, t .before-next);
+        goes = λ room. rw (goes-on, k, h .goes, so-far, t .before-next);
         labels-next = h .labels-next;
         labels-few = h .labels-few;
         labels-are = h .labels-are;
@@ -183,7 +187,7 @@ module _ (ts : List Tok) (void : Bool) (s : Going) (items₀ items labels₀ : L
             ∙ rw (h .labels-next, t .before-next, h .before-same));
         labels-next = rw (h .no-label, add-zero) (h .labels-next);
         labels-few = rw (h .labels-next) few;
-        labels-are = rw (h .labels-next, h .no-label) (sym (append-nil (take (s .labels) labels₀)));
+        labels-are = rw (h .no-label);
         passed = h .passed;
         taken = t;
       }

@@ -3,7 +3,7 @@ use Prim.Native.Nat.{ℕ, _+_, _*_, _≤_}
 use mathlib.Core.Path.{_≡_}
 use mathlib.Core.List.{List, []}
 use mathlib.Core.Bool.{Bool, true}
-use lib.ListN.{length, take}
+use lib.ListN.{length}
 use lib.Seq.{sets}
 use Rattle.lexer.specs.Decoded.{Tok}
 use Rattle.parser.specs.Step.{thenAt}
@@ -31,20 +31,20 @@ bodyRead void r =
       labels = length (labelsOf (r .items));
     }))
 
--- The items stand from the record `first` on, the arguments from `used` on, the labels at the front. A refusal says
--- nothing of them: the caller clears them.
+-- The items stand from the record `first` on, the arguments from `used` on, the labels at the front; every other cell is
+-- as it was. A refusal says nothing of them: the caller clears them.
 pub record Stored (ts : List Tok) (void : Bool) (is : List Item) (at first used next : ℕ)
-    (items₀ items arguments₀ arguments labels : List ℕ) : Type 0 where
+    (items₀ items arguments₀ arguments labels₀ labels : List ℕ) : Type 0 where
   pub items-are : items ≡ sets items₀ (first * 8) (itemsCells used (closedItems void is))
   pub arguments-are : arguments ≡ sets arguments₀ (used * 2) (argumentsCells is)
-  pub labels-are : take (length (labelsOf is)) labels ≡ labelsOf is
+  pub labels-are : labels ≡ sets labels₀ 0 (labelsOf is)
   pub few-labels : length (labelsOf is) ≤ 255
   pub on : Within ts next
   pub bounds : Bounds at next (length (closedItems void is)) (argumentsCount is)
       (filled true (partsOf (closedItems void is)))
 
 abbrev pub Held : (ts : List Tok) (void : Bool) (is : List Item) (at first used : ℕ)
-    (items₀ items arguments₀ arguments labels : List ℕ) → Consumed → Type 0
-Held ts void is at first used items₀ items arguments₀ arguments labels (C.At next) =
-    Stored ts void is at first used next items₀ items arguments₀ arguments labels
-Held ts void is at first used items₀ items arguments₀ arguments labels (C.Refused e) = Unit
+    (items₀ items arguments₀ arguments labels₀ labels : List ℕ) → Consumed → Type 0
+Held ts void is at first used items₀ items arguments₀ arguments labels₀ labels (C.At next) =
+    Stored ts void is at first used next items₀ items arguments₀ arguments labels₀ labels
+Held ts void is at first used items₀ items arguments₀ arguments labels₀ labels (C.Refused e) = Unit

@@ -1,8 +1,8 @@
 -- Items as records of eight cells (docs/INTERFACE.md): the kind, the token, the result and its type, the left operand
--- and its type, the right operand and its type. A call has its callee on the left, and on the right its first
--- argument's number among all arguments and how many it has; `br` has its condition on the left, and on the right its
--- two labels; `jmp` and a label have their label on the right. Cells that a kind has no use for are 0, and so is an
--- operand's type until typing writes it.
+-- and its type, and two cells by the kind: the right operand and its type; of a call its first argument's number among
+-- all arguments and how many it has; of a `br` its two labels; of a `jmp` and a label the label. A call has its callee
+-- on the left, and `br` its condition. Cells that a kind has no use for are 0, and so is an operand's type until typing
+-- writes it.
 use Prim.Native.Nat.{ℕ, zero, suc, _+_, _*_}
 use mathlib.Core.List.{List, [], _∷_, _++_}
 use mathlib.Core.Bool.{Bool}
@@ -17,34 +17,56 @@ use Rattle.parser.specs.declared.Variable.{Variable}
 use Rattle.parser.specs.declared.Operation.{Operation}
 use Rattle.parser.specs.declared.Operation.the-variants as O
 use Rattle.body.specs.declared.ItemRecord.{ItemRecord}
+use Rattle.body.specs.declared.Last.{Last}
+use Rattle.body.specs.declared.Last.the-variants as L
 
-abbrev pub itemRecord : ℕ → ℕ → ℕ → ℕ → ℕ → ℕ → ℕ → ℕ → ItemRecord
-itemRecord k w d dt l lt r rt =
-    record { kind = k; token = w; dest = d; dty = dt; left = l; lty = lt; right = r; rty = rt }
+abbrev pub named : ℕ → Identifier
+named n = record { 0 = n }
+
+abbrev pub none : Identifier
+none = named 0
+
+abbrev pub itemRecord : ℕ → ℕ → Identifier → ℕ → Identifier → ℕ → Last → ItemRecord
+itemRecord k w d dt l lt z = record { kind = k; token = w; dest = d; dty = dt; left = l; lty = lt; last = z }
+
+-- no right operand
+abbrev pub nothing : Last
+nothing = L.Name none 0
 
 -- The kinds: 1 a label, 2 binary, 3 unary, 4 `const`, 5 a call, 6 a call with a result, 7 `print`, 8 `nop`, and those
 -- that end a block: 9 `jmp`, 10 `br`, 11 `ret`, 12 `ret` with a value.
 unfoldable pub operationRecord : Operation → ItemRecord
-operationRecord (O.BinaryOp w v x y) = itemRecord 2 w (v .id .0) (typeCell (v .ty)) (x .0) 0 (y .0) 0
-operationRecord (O.UnaryOp w v x) = itemRecord 3 w (v .id .0) (typeCell (v .ty)) (x .0) 0 0 0
-operationRecord (O.Const w v) = itemRecord 4 w (v .id .0) (typeCell (v .ty)) 0 0 0 0
-operationRecord (O.Print w x) = itemRecord 7 w 0 0 (x .0) 0 0 0
-operationRecord (O.Nop w) = itemRecord 8 w 0 0 0 0 0 0
-operationRecord (O.Jump w l) = itemRecord 9 w 0 0 0 0 (l .0) 0
-operationRecord (O.Branch w x l m) = itemRecord 10 w 0 0 (x .0) 0 (l .0) (m .0)
-operationRecord (O.Ret w) = itemRecord 11 w 0 0 0 0 0 0
-operationRecord (O.RetValue w x) = itemRecord 12 w 0 0 (x .0) 0 0 0
+operationRecord (O.BinaryOp w v x y) = itemRecord 2 w (v .id) (typeCell (v .ty)) x 0 (L.Name y 0)
+operationRecord (O.UnaryOp w v x) = itemRecord 3 w (v .id) (typeCell (v .ty)) x 0 nothing
+operationRecord (O.Const w v) = itemRecord 4 w (v .id) (typeCell (v .ty)) none 0 nothing
+operationRecord (O.Print w x) = itemRecord 7 w none 0 x 0 nothing
+operationRecord (O.Nop w) = itemRecord 8 w none 0 none 0 nothing
+operationRecord (O.Jump w l) = itemRecord 9 w none 0 none 0 (L.Name l 0)
+operationRecord (O.Branch w x l m) = itemRecord 10 w none 0 x 0 (L.Labels l m)
+operationRecord (O.Ret w) = itemRecord 11 w none 0 none 0 nothing
+operationRecord (O.RetValue w x) = itemRecord 12 w none 0 x 0 nothing
 
 -- an item whose arguments, if it has any, begin at `used`
 unfoldable pub recordOf : ℕ → Item → ItemRecord
-recordOf used (label w l) = itemRecord 1 w 0 0 0 0 (l .0) 0
+recordOf used (label w l) = itemRecord 1 w none 0 none 0 (L.Name l 0)
 recordOf used (plain o) = operationRecord o
-recordOf used (call w g xs) = itemRecord 5 w 0 0 (g .0) 0 used (length xs)
-recordOf used (callInto w v g xs) = itemRecord 6 w (v .id .0) (typeCell (v .ty)) (g .0) 0 used (length xs)
+recordOf used (call w g xs) = itemRecord 5 w none 0 g 0 (L.Run used (length xs))
+recordOf used (callInto w v g xs) = itemRecord 6 w (v .id) (typeCell (v .ty)) g 0 (L.Run used (length xs))
+
+-- the last two cells
+abbrev pub firstCell : Last → ℕ
+firstCell (L.Name x t) = x .0
+firstCell (L.Labels l m) = l .0
+firstCell (L.Run first count) = first
+
+abbrev pub secondCell : Last → ℕ
+secondCell (L.Name x t) = t
+secondCell (L.Labels l m) = m .0
+secondCell (L.Run first count) = count
 
 abbrev pub recordCells : ItemRecord → List ℕ
 recordCells r =
-    r .kind ∷ r .token ∷ r .dest ∷ r .dty ∷ r .left ∷ r .lty ∷ r .right ∷ r .rty ∷ []
+    r .kind ∷ r .token ∷ r .dest .0 ∷ r .dty ∷ r .left .0 ∷ r .lty ∷ firstCell (r .last) ∷ secondCell (r .last) ∷ []
 
 -- the cells of items whose arguments begin at `used`, and those of the arguments
 unfoldable pub itemsCells : ℕ → List Item → List ℕ
@@ -62,25 +84,37 @@ argumentsCount (i ∷ is) = length (argumentsIn i) + argumentsCount is
 
 -- What cells hold. --------------------------------------------------------------------------------------------------
 
+-- what two cells hold, by the kind of their record
+unfoldable pub lastOf : ℕ → ℕ → ℕ → Last
+lastOf kind first second =
+    pick (eqb kind 5) (L.Run first second)
+    (pick (eqb kind 6) (L.Run first second)
+    (pick (eqb kind 10) (L.Labels (named first) (named second))
+    (L.Name (named first) second)))
+
 -- the record at an index
 abbrev pub recordAt : List ℕ → ℕ → ItemRecord
 recordAt cells i =
     itemRecord
     (getD cells (i * 8) 0)
     (getD cells (i * 8 + 1) 0)
-    (getD cells (i * 8 + 2) 0)
+    (named (getD cells (i * 8 + 2) 0))
     (getD cells (i * 8 + 3) 0)
-    (getD cells (i * 8 + 4) 0)
+    (named (getD cells (i * 8 + 4) 0))
     (getD cells (i * 8 + 5) 0)
-    (getD cells (i * 8 + 6) 0)
-    (getD cells (i * 8 + 7) 0)
+    (lastOf (getD cells (i * 8) 0) (getD cells (i * 8 + 6) 0) (getD cells (i * 8 + 7) 0))
 
 -- what blocks and edges need of a record: a label's name, or an operation's token and the labels that it goes to
-unfoldable pub goesOf : ItemRecord → List ℕ
-goesOf r = pick (eqb (r .kind) 9) (r .right ∷ []) (pick (eqb (r .kind) 10) (r .right ∷ r .rty ∷ []) [])
+unfoldable pub goesBy : ℕ → Last → List ℕ
+goesBy kind (L.Name l t) = pick (eqb kind 9) (l .0 ∷ []) []
+goesBy kind (L.Labels l m) = l .0 ∷ m .0 ∷ []
+goesBy kind (L.Run first count) = []
+
+abbrev pub goesOf : ItemRecord → List ℕ
+goesOf r = goesBy (r .kind) (r .last)
 
 unfoldable pub recordPart : ItemRecord → Part
-recordPart r = pick (eqb (r .kind) 1) (name (r .right)) (operation (r .token) (goesOf r))
+recordPart r = pick (eqb (r .kind) 1) (name (firstCell (r .last))) (operation (r .token) (goesOf r))
 
 -- the parts of `count` records from the index `first` on
 unfoldable pub partsAt : List ℕ → ℕ → ℕ → List Part

@@ -5,7 +5,7 @@ use mathlib.Core.Path.{_≡_}
 use mathlib.Core.List.{List, [], _∷_, _++_}
 use mathlib.Core.Bool.{Bool}
 use lib.Dec.{eqb, leb}
-use lib.ListN.{length, take}
+use lib.ListN.{length, take, set}
 use lib.Seq.{sets}
 use Rattle.utils.specs.Bytes.{pick}
 use Rattle.lexer.specs.Decoded.{Tok, tokenAt}
@@ -24,6 +24,7 @@ use Rattle.parser.specs.declared.Named.the-variants as N
 use Rattle.body.specs.Records.{itemRecord, recordOf, recordCells, itemsCells}
 use Rattle.body.specs.Room.{Within}
 use Rattle.body.specs.declared.ItemRecord.{ItemRecord}
+use Rattle.body.specs.declared.Last.the-variants as L
 use Rattle.body.specs.declared.ItemRead.{ItemRead}
 use Rattle.body.specs.declared.ItemRead.the-variants as I
 use Rattle.body.specs.declared.Closed.{Closed}
@@ -49,11 +50,12 @@ ItemHeld n used items₀ items arguments₀ arguments (item i next) =
     Put n used (recordOf used i) (variablesCells (argumentsIn i)) items₀ items arguments₀ arguments
 ItemHeld n used items₀ items arguments₀ arguments (refused e) = Unit
 
--- a call's record, from its kind, its word and its result's two cells
-abbrev pub callRecord : ℕ → ℕ → ℕ → ℕ → ℕ → Calling → ItemRecord
-callRecord kind word dest dty used c = itemRecord kind word dest dty (c .callee .0) 0 used (length (c .arguments .list))
+-- a call's record, from its kind, its word, its result and the result's type
+abbrev pub callRecord : ℕ → ℕ → Identifier → ℕ → ℕ → Calling → ItemRecord
+callRecord kind word dest dty used c =
+    itemRecord kind word dest dty (c .callee) 0 (L.Run used (length (c .arguments .list)))
 
-unfoldable pub callRead : ℕ → ℕ → ℕ → ℕ → ℕ → Calling → ItemRead
+unfoldable pub callRead : ℕ → ℕ → Identifier → ℕ → ℕ → Calling → ItemRead
 callRead kind word dest dty used c =
     thenAt I.Refused (c .arguments .end) (λ next.
     I.Done (callRecord kind word dest dty used c) (used + length (c .arguments .list)) next)
@@ -149,7 +151,7 @@ pub record LabelTaken (ts : List Tok) (void : Bool) (s s′ : Going) (items₀ i
   pub goes : labelledD ts (take (s .labels) labels₀) (s .at) ≡ N.At name (s′ .at)
   pub labels-next : s′ .labels ≡ s .labels + 1
   pub labels-few : s′ .labels ≤ 255
-  pub labels-are : take (s′ .labels) labels ≡ take (s .labels) labels₀ ++ (name .0 ∷ [])
+  pub labels-are : labels ≡ set labels₀ (s .labels) (name .0)
   pub passed : Passed ts (s .at) (s′ .at) (label (s .at) name)
   pub taken : Taken void (label (s .at) name) s s′ items₀ items [] []
 
@@ -169,7 +171,7 @@ pub record Gone (ts : List Tok) (void : Bool) (s s′ : Going) (items₀ items a
   pub goes : (room : ℕ) → bodyFrom ts (suc room) s labels₀ ≡ bodyThen read (bodyFrom ts room s′ labels)
   pub labels-next : s′ .labels ≡ s .labels + length (labelsOf (read ∷ []))
   pub labels-few : s′ .labels ≤ 255
-  pub labels-are : take (s′ .labels) labels ≡ take (s .labels) labels₀ ++ labelsOf (read ∷ [])
+  pub labels-are : labels ≡ sets labels₀ (s .labels) (labelsOf (read ∷ []))
   pub passed : Passed ts (s .at) (s′ .at) read
   pub taken : Taken void read s s′ items₀ items arguments₀ arguments
 

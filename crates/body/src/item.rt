@@ -8,17 +8,19 @@ ghost use Rattle.parser.specs.Body.{itemD};
 ghost use Rattle.body.specs.Room.{Within};
 ghost use Rattle.body.specs.Turns.{itemRead, ItemHeld, callRecord, callRead, CallHeld};
 use crate::ItemRead;
+use crate::Last;
 use crate::records;
 use parser::Called;
 use parser::Parsed;
 use parser::runs;
+use pieces::Identifier;
 
-// A call from its word on; `dest` and `dty` are its result's cells.
+// A call from its word on; `dest` and `dty` are its result and the result's type.
 fn parse_call_item(
     tokens: &[u32],
     word: usize,
     kind: u32,
-    dest: u32,
+    dest: Identifier,
     dty: u32,
     items: &mut [u32],
     n: usize,
@@ -36,7 +38,8 @@ fn parse_call_item(
     match runs::parse_call(tokens, word, arguments, used * 2) {
         Called::Refused(e) => ItemRead::Refused(e),
         Called::Done(callee, count, next) => {
-            let r = records::record_of(kind, word, dest, dty, callee.0, used as u32, count as u32);
+            let run = Last::Run(used as u32, count as u32);
+            let r = records::record_of(kind, word, dest, dty, callee, run);
             records::put_record(items, n, r);
             ItemRead::Done(r, used + count, next)
         }
@@ -65,11 +68,14 @@ pub(crate) fn parse_item(
             records::put_record(items, n, r);
             ItemRead::Done(r, used, next)
         }
-        Parsed::Call(word) => parse_call_item(tokens, word, 5, 0, 0, items, n, arguments, used),
+        Parsed::Call(word) => {
+            parse_call_item(tokens, word, 5, Identifier(0), 0, items, n, arguments, used)
+        }
         Parsed::CallInto(v, word) => {
             let ty = v.ty;
+            let dest = v.id;
             let dty = runs::type_cell(ty);
-            parse_call_item(tokens, word, 6, v.id.0, dty, items, n, arguments, used)
+            parse_call_item(tokens, word, 6, dest, dty, items, n, arguments, used)
         }
     }
 }

@@ -10,17 +10,27 @@ ghost use Rattle.lexer.specs.Decoded.{tokensOf};
 ghost use Rattle.body.specs.Room.{Within};
 ghost use Rattle.body.specs.Answer.{functionBody, bodyRead, Held};
 use parser::Refusal;
+use pieces::Identifier;
 
-// An item as its eight cells (docs/INTERFACE.md): the result, the left and the right operand, each with its type.
+// What an item's last two cells hold, by its kind.
+pub enum Last {
+    // The right operand and its type, the label of a label or a `jmp`, or nothing.
+    Name(Identifier, u32),
+    // The two labels of a `br`.
+    Labels(Identifier, Identifier),
+    // A call's arguments: the first one's index among all, and how many they are.
+    Run(u32, u32),
+}
+
+// An item (docs/INTERFACE.md): the result and the left operand, each with its type, and what its kind has besides.
 pub struct ItemRecord {
     pub kind: u32,
     pub token: u32,
-    pub dest: u32,
+    pub dest: Identifier,
     pub dty: u32,
-    pub left: u32,
+    pub left: Identifier,
     pub lty: u32,
-    pub right: u32,
-    pub rty: u32,
+    pub last: Last,
 }
 
 // Where to go on behind a body, and how many items, arguments and labels it has.
@@ -78,7 +88,7 @@ pub fn parse_body(
     ensures { λ _. ⌜ Held (tokensOf (now (tokens .entry))) void
         (functionBody (tokensOf (now (tokens .entry))) at .items) at first used
         (now (items .entry)) (now (items .exit)) (now (arguments .entry)) (now (arguments .exit))
-        (now (labels .exit)) (functionBody (tokensOf (now (tokens .entry))) at .end) ⌝ }
+        (now (labels .entry)) (now (labels .exit)) (functionBody (tokensOf (now (tokens .entry))) at .end) ⌝ }
 {
     let mut s = Going {
         at,

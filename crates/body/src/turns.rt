@@ -11,11 +11,13 @@ use crate::Closed;
 use crate::Going;
 use crate::ItemRead;
 use crate::ItemRecord;
+use crate::Last;
 use crate::Turn;
 use crate::item;
 use crate::records;
 use parser::Named;
 use parser::Refusal;
+use pieces::Identifier;
 
 // Right behind a label an operation has to stand.
 fn closes_body(before: u32, kind: u32) -> bool
@@ -56,12 +58,11 @@ fn add_ret(items: &mut [u32], n: usize, lacks: bool, last: u32) -> usize
         let r = ItemRecord {
             kind: 11,
             token: last,
-            dest: 0,
+            dest: Identifier(0),
             dty: 0,
-            left: 0,
+            left: Identifier(0),
             lty: 0,
-            right: 0,
-            rty: 0,
+            last: Last::Name(Identifier(0), 0),
         };
         records::put_record(items, n, r);
         return n + 1;
@@ -116,7 +117,15 @@ fn label_turn(tokens: &[u32], void: bool, s: Going, items: &mut [u32], labels: &
         Named::Refused(e) => Turn::Refused(e),
         Named::At(label, next) => {
             let n = add_ret(items, s.items, lacks_ret(void, s.before), s.last);
-            records::put_record(items, n, records::record_of(1, at, 0, 0, 0, label.0, 0));
+            let r = records::record_of(
+                1,
+                at,
+                Identifier(0),
+                0,
+                Identifier(0),
+                Last::Name(label, 0),
+            );
+            records::put_record(items, n, r);
             labels[count] = label.0;
             Turn::On(Going {
                 at: next,

@@ -14,14 +14,15 @@ use Rattle.functions.specs.Answer.{countsFrom}
 use Rattle.messages.specs.Opened as messages
 use Rattle.sema.specs.Opened as typing
 use Rattle.functions.specs.Laid.{rowsCells, allBlocks, allPredecessors}
-use Rattle.elaborate.specs.Types.{calleeIn, isCall, typedRecord, typedItemsCells, typedVariables, typedArgumentsCells}
+use Rattle.elaborate.specs.Types.{calleeIn, isCall, typedLast, typedRecord, typedItemsCells, typedVariables}
+use Rattle.elaborate.specs.Types.{typedArgumentsCells}
 use Rattle.typing.specs.Outcome.{unitD, tablesOf, allItems, allArguments}
 use Rattle.checker.specs.Check.{Checking, checkOf}
 
 -- To unfold this is to unfold the whole definition.
 unfoldable pub opened : ℕ
 unfolding
-    typing.opened messages.opened operationRecord recordOf blockCells predecessorCells countsFrom isCall typedRecord
+    typing.opened messages.opened operationRecord recordOf blockCells predecessorCells countsFrom isCall typedLast typedRecord
     unitD tablesOf calleeIn typedItemsCells typedVariables typedArgumentsCells rowsCells allItems allArguments allBlocks
     allPredecessors checkOf
 opened = 0

@@ -72,7 +72,7 @@ items-typed table callees (i ∷ is) before rest first used e =
     let u : ℕ = used + length (argumentsIn i) in
     let behind : List ℕ = itemsCells u is ++ rest in
     let cells : List ℕ = before ++ (recordCells r ++ behind) in
-    let one : recordAt cells first ≡ r = record-there before r behind first e in
+    let one : recordAt cells first ≡ r = record-there before used i behind first e in
     let two : sets cells (first * 8) (recordCells w) ≡ before ++ (recordCells w ++ behind) =
     over before (recordCells r) (recordCells w) behind (first * 8) e refl in
     let far : length (before ++ recordCells w) ≡ (first + 1) * 8 =
@@ -115,7 +115,7 @@ run-typed table (v ∷ vs) before rest at e =
 call-typed : (table : List ℕ) (i : Item) (before rest : List ℕ) (used : ℕ) → length before ≡ used * 2
     → typedArguments table (before ++ (variablesCells (argumentsIn i) ++ rest)) (recordOf used i)
     ≡ before ++ (typedVariables table (argumentsIn i) ++ rest)
-unfolding typedVariables variablesCells recordOf operationRecord isCall pick
+unfolding typedVariables variablesCells recordOf operationRecord
 call-typed table (label w l) before rest used e = refl
 call-typed table (plain (O.BinaryOp w v x y)) before rest used e = refl
 call-typed table (plain (O.UnaryOp w v x)) before rest used e = refl
@@ -147,7 +147,7 @@ calls-there table (i ∷ is) front more before rest first used e f =
     let ys : List ℕ = typedVariables table xs in
     let split : cells ≡ before ++ (variablesCells xs ++ others) =
     ap (λ (l : List ℕ). before ++ l) (append-assoc (variablesCells xs) (argumentsCells is) rest) in
-    let one : recordAt items first ≡ r = record-there front r behind first e in
+    let one : recordAt items first ≡ r = record-there front used i behind first e in
     let two : typedArguments table cells r ≡ (before ++ ys) ++ others =
     ap (λ (l : List ℕ). typedArguments table l r) split ∙ call-typed table i before others used f
     ∙ sym (append-assoc before ys others) in

@@ -14,6 +14,8 @@ use Rattle.parser.specs.Body.{Item, argumentsIn}
 use Rattle.parser.specs.declared.Variable.{Variable}
 use Rattle.body.specs.Records.{itemRecord, recordOf, recordAt, recordCells, itemsCells, argumentsCells}
 use Rattle.body.specs.declared.ItemRecord.{ItemRecord}
+use Rattle.body.specs.declared.Last.{Last}
+use Rattle.body.specs.declared.Last.the-variants as L
 use Rattle.functions.specs.Functions.{Function}
 use Rattle.functions.specs.Rows.{nameAt, typeAt}
 
@@ -32,16 +34,22 @@ calleeIn (f ∷ fs) name =
 unfoldable pub isCall : ℕ → Bool
 isCall kind = pick (eqb kind 5) true (eqb kind 6)
 
+-- a right operand with its type
+unfoldable pub typedLast : List ℕ → Last → Last
+typedLast table (L.Name x t) = L.Name x (typeOf table (x .0))
+typedLast table (L.Labels l m) = L.Labels l m
+typedLast table (L.Run first count) = L.Run first count
+
 -- `callees` gives a callee's type. 2 is binary, 3 unary.
 unfoldable pub typedRecord : List ℕ → (ℕ → ℕ) → ItemRecord → ItemRecord
 typedRecord table callees r =
     let k = r .kind in
-    let left = typeOf table (r .left) in
-    let right = typeOf table (r .right) in
-    let callee = callees (r .left) in
-    pick (eqb k 2) (itemRecord k (r .token) (r .dest) (r .dty) (r .left) left (r .right) right)
-    (pick (eqb k 3) (itemRecord k (r .token) (r .dest) (r .dty) (r .left) left (r .right) (r .rty))
-    (pick (isCall k) (itemRecord k (r .token) (r .dest) (r .dty) (r .left) callee (r .right) (r .rty))
+    let left = typeOf table (r .left .0) in
+    let right = typedLast table (r .last) in
+    let callee = callees (r .left .0) in
+    pick (eqb k 2) (itemRecord k (r .token) (r .dest) (r .dty) (r .left) left right)
+    (pick (eqb k 3) (itemRecord k (r .token) (r .dest) (r .dty) (r .left) left (r .last))
+    (pick (isCall k) (itemRecord k (r .token) (r .dest) (r .dty) (r .left) callee (r .last))
     r))
 
 -- items with the types of their operands, and arguments with theirs
@@ -90,8 +98,14 @@ typedRun table cells at zero = cells
 typedRun table cells at (suc n) =
     typedRun table (set cells (at * 2 + 1) (typeOf table (getD cells (at * 2) 0))) (at + 1) n
 
+abbrev pub typedIn : List ℕ → List ℕ → Last → List ℕ
+typedIn table cells (L.Name x t) = cells
+typedIn table cells (L.Labels l m) = cells
+typedIn table cells (L.Run first count) = typedRun table cells first count
+
+-- those of a record, if it is a call
 abbrev pub typedArguments : List ℕ → List ℕ → ItemRecord → List ℕ
-typedArguments table cells r = pick (isCall (r .kind)) (typedRun table cells (r .right) (r .rty)) cells
+typedArguments table cells r = typedIn table cells (r .last)
 
 -- the items of a function, and their arguments
 unfoldable pub typedItems : List ℕ → (ℕ → ℕ) → List ℕ → ℕ → ℕ → List ℕ

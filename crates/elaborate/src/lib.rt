@@ -4,20 +4,22 @@ ghost use Prim.Native.Nat.{ℕ, _+_, _*_, _≤_, _<_};
 ghost use lib.ListN.{length, getD, set};
 ghost use Rattle.body.specs.Records.{itemRecord, recordAt};
 ghost use Rattle.functions.specs.Rows.{typeAt};
-ghost use Rattle.elaborate.specs.Types.{typeOf, calleeOf, isCall, typedRecord, typedRun, typedArguments};
+ghost use Rattle.elaborate.specs.Types.{calleeOf, isCall, typedLast, typedRecord, typedRun, typedArguments};
 ghost use Rattle.elaborate.specs.Types.{typedItems, typedCalls, Elaborated};
 use body::ItemRecord;
+use body::Last;
 use body::records;
+use pieces::Identifier;
 use utils::cell_at;
 
 // The function type of the first function of this name among n.
-fn callee_type(rows: &[u32], n: usize, name: u32) -> u32
+fn callee_type(rows: &[u32], n: usize, name: Identifier) -> u32
     requires { ⌜ (n ≤ 64) × (2881 ≤ length (now rows)) × ((i : ℕ) → i < n → getD (now rows) (typeAt i) 0 ≤ 64) ⌝ }
-    ensures { λ r. ⌜ r ≡ calleeOf (now (rows .entry)) n name ⌝ }
+    ensures { λ r. ⌜ r ≡ calleeOf (now (rows .entry)) n (name .0) ⌝ }
 {
     let mut i: usize = 0;
     while i < n {
-        if rows[2 + i * 45] == name {
+        if rows[2 + i * 45] == name.0 {
             return rows[8 + i * 45] + 4;
         }
         i += 1;
@@ -34,19 +36,31 @@ fn is_call(kind: u32) -> bool
     kind == 6
 }
 
-// An item with other types of its left and right operands.
-fn with_types(r: ItemRecord, lty: u32, rty: u32) -> ItemRecord
-    ensures { λ res. ⌜ res ≡ itemRecord (r .kind) (r .token) (r .dest) (r .dty) (r .left) lty (r .right) rty ⌝ }
+// An item with another type of its left operand, and other last cells.
+fn with_types(r: ItemRecord, lty: u32, last: Last) -> ItemRecord
+    ensures { λ res. ⌜ res ≡ itemRecord (r .kind) (r .token) (r .dest) (r .dty) (r .left) lty last ⌝ }
 {
+    let dest = r.dest;
+    let left = r.left;
     ItemRecord {
         kind: r.kind,
         token: r.token,
-        dest: r.dest,
+        dest,
         dty: r.dty,
-        left: r.left,
+        left,
         lty,
-        right: r.right,
-        rty,
+        last,
+    }
+}
+
+// A right operand with its type.
+fn typed_last(table: &[u32], last: Last) -> Last
+    ensures { λ res. ⌜ res ≡ typedLast (now (table .entry)) last ⌝ }
+{
+    match last {
+        Last::Name(x, _) => Last::Name(x, cell_at(table, x.0 as usize)),
+        Last::Labels(_, _) => last,
+        Last::Run(_, _) => last,
     }
 }
 
@@ -57,17 +71,16 @@ fn typed_record(r: ItemRecord, table: &[u32], rows: &[u32], n: usize) -> ItemRec
 {
     let kind = r.kind;
     let left = r.left;
-    let right = r.right;
-    let rty = r.rty;
+    let last = r.last;
     if kind == 2 {
-        let lty = cell_at(table, left as usize);
-        return with_types(r, lty, cell_at(table, right as usize));
+        let lty = cell_at(table, left.0 as usize);
+        return with_types(r, lty, typed_last(table, last));
     }
     if kind == 3 {
-        return with_types(r, cell_at(table, left as usize), rty);
+        return with_types(r, cell_at(table, left.0 as usize), last);
     }
     if is_call(kind) {
-        return with_types(r, callee_type(rows, n, left), rty);
+        return with_types(r, callee_type(rows, n, left), last);
     }
     r
 }
@@ -115,8 +128,11 @@ fn elaborate_calls(table: &[u32], items: &[u32], first: usize, count: usize, arg
 fn type_call(table: &[u32], r: ItemRecord, arguments: &mut [u32])
     ensures { λ _. ⌜ now (arguments .exit) ≡ typedArguments (now (table .entry)) (now (arguments .entry)) r ⌝ }
 {
-    if is_call(r.kind) {
-        type_run(table, arguments, r.right, r.rty);
+    let last = r.last;
+    match last {
+        Last::Name(_, _) => {}
+        Last::Labels(_, _) => {}
+        Last::Run(first, count) => type_run(table, arguments, first, count),
     }
 }
 

@@ -5,8 +5,8 @@ use mathlib.Core.Path.{_≡_, refl, sym, ap, subst, _∙_}
 use mathlib.Core.Bool.{Bool, true}
 use mathlib.Core.List.{List, []}
 use native.Mathlib.Omega.{arith}
-use lib.ListN.{length, take}
-use lib.Seq.{sets, length-sets}
+use lib.ListN.{length, take, drop}
+use lib.Seq.{sets, length-sets, sets-eq, take-append-seam}
 use Rattle.lexer.specs.Decoded.{Tok}
 use Rattle.parser.specs.Step.{thenAt}
 use Rattle.parser.specs.Body.{Item, Body, labelsOf, closedItems}
@@ -60,7 +60,8 @@ linked-done : (bs : List Block) (x : Resolved) (n m : ℕ) → L.Done n m ≡ li
 linked-done bs fine n m h = (refl, cc, cc)
 linked-done bs (refused e) n m h = let z : _≡_ {A = ℕ} 0 1 = cc in absurd (omega arith)
 
-module _ (ts : List Tok) (void : Bool) (named at : ℕ) (n : Counts) (items₀ items arguments₀ arguments labels : List ℕ) where
+module _ (ts : List Tok) (void : Bool) (named at : ℕ) (n : Counts)
+    (items₀ items arguments₀ arguments labels₀ labels : List ℕ) where
   abbrev body : Body
   body = functionBody ts at
 
@@ -76,7 +77,8 @@ module _ (ts : List Tok) (void : Bool) (named at : ℕ) (n : Counts) (items₀ i
       rw (refused-at (body .end) (length is) (argumentsCount (body .items)) (length (labelsOf (body .items))) e h)
 
   module _ (c : Closed) (done : B.Done c ≡ bodyRead void body)
-      (held : Held ts void (body .items) at (n .items) (n .arguments) items₀ items arguments₀ arguments labels (body .end))
+      (held : Held ts void (body .items) at (n .items) (n .arguments) items₀ items arguments₀ arguments labels₀ labels
+      (body .end))
       (room : Room ts at n) (behind : n .blocks * 4 + 2 ≤ at) (blocks₀ preds₀ : List ℕ)
       (long : Long items₀ arguments₀ blocks₀ preds₀) (labels-long : 255 ≤ length labels) where
     ended : (body .end ≡ C.At (c .next)) × (c .items ≡ length is) × (c .arguments ≡ argumentsCount (body .items))
@@ -84,9 +86,11 @@ module _ (ts : List Tok) (void : Bool) (named at : ℕ) (n : Counts) (items₀ i
     unfolding bodyRead
     ended = done-at (body .end) 0 (length is) (argumentsCount (body .items)) (length (labelsOf (body .items))) c done
 
-    stored : Stored ts void (body .items) at (n .items) (n .arguments) (c .next) items₀ items arguments₀ arguments labels
+    stored : Stored ts void (body .items) at (n .items) (n .arguments) (c .next) items₀ items arguments₀ arguments
+        labels₀ labels
     stored =
-        subst (λ (e : Consumed). Held ts void (body .items) at (n .items) (n .arguments) items₀ items arguments₀ arguments labels e)
+        subst (λ (e : Consumed).
+        Held ts void (body .items) at (n .items) (n .arguments) items₀ items arguments₀ arguments labels₀ labels e)
         (ended .0) held
 
     bounds : Bounds at (c .next) (length is) (argumentsCount (body .items)) (filled true (partsOf is))
@@ -105,6 +109,14 @@ module _ (ts : List Tok) (void : Bool) (named at : ℕ) (n : Counts) (items₀ i
         ∙ parts-stored items items₀ (n .arguments) (n .items) is (stored .items-are)
         (omega (arith, few-items, ended .1, long .items-long))
 
+    -- the labels stand at the front
+    labels-front : take (length (labelsOf (body .items))) labels ≡ labelsOf (body .items)
+    labels-front =
+        let ls : List ℕ = labelsOf (body .items) in
+        let same : length labels ≡ length labels₀ = ap length (stored .labels-are) ∙ length-sets labels₀ 0 ls in
+        let fits : 0 + length ls ≤ length labels₀ = omega (arith, stored .few-labels, labels-long) in
+        rw (stored .labels-are, sets-eq ls labels₀ 0 fits) (take-append-seam ls (drop (0 + length ls) labels₀))
+
     few-filled : (n .blocks + filled true (partsOf is)) * 4 ≤ 4096
     few-filled = omega (arith, bounds .blocks-few, behind, stored .on .reached, stored .on .few)
 
@@ -116,7 +128,7 @@ module _ (ts : List Tok) (void : Bool) (named at : ℕ) (n : Counts) (items₀ i
           few-labels = omega (arith, ended .3, stored .few-labels);
           labels-there = omega (arith, ended .3, stored .few-labels, labels-long);
           labels-are =
-              rw (ended .3, parts, names-closed void 0 0 (body .items)) (stored .labels-are);
+              rw (ended .3, parts, names-closed void 0 0 (body .items)) labels-front;
           few-blocks = rw parts (omega (arith, few-filled));
           blocks-there = long .blocks-long;
           few-before = room .predecessors-few;

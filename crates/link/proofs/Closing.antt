@@ -8,7 +8,7 @@ use lib.Dec.{eqb}
 use lib.ListN.{length}
 use Rattle.utils.specs.Bytes.{pick}
 use Rattle.parser.specs.Blocks.{Part, name, operation, Block, fresh, grown, blocksFrom}
-use Rattle.body.specs.Records.{recordAt, recordPart, goesOf, partsAt}
+use Rattle.body.specs.Records.{firstCell, recordAt, recordPart, goesOf, partsAt}
 use Rattle.body.specs.Room.{filled}
 use Rattle.link.specs.Steps.{run}
 
@@ -142,7 +142,7 @@ closed-one cells from b rest (operation w goes) e ih =
         let r = recordAt cells from in
         let u : from + (run rest + 1) - 1 ≡ from = omega arith in
         let v : closing (grown b w goes) rest .token ≡ w = ap (λ (x : Block). x .token) (ih (grown b w goes) .none z) in
-        let is = operation-is (eqb (r .kind) 1) (r .right) w (r .token) goes (goesOf r) e in
+        let is = operation-is (eqb (r .kind) 1) (firstCell (r .last)) w (r .token) goes (goesOf r) e in
         rw u (v ∙ is .0)
     by-token (suc n) z =
         let u : from + (run rest + 1) - 1 ≡ from + 1 + run rest - 1 = omega arith in
@@ -154,7 +154,7 @@ closed-one cells from b rest (operation w goes) e ih =
         let r = recordAt cells from in
         let u : from + (run rest + 1) - 1 ≡ from = omega arith in
         let v : closing (grown b w goes) rest .goes ≡ goes = ap (λ (x : Block). x .goes) (ih (grown b w goes) .none z) in
-        let is = operation-is (eqb (r .kind) 1) (r .right) w (r .token) goes (goesOf r) e in
+        let is = operation-is (eqb (r .kind) 1) (firstCell (r .last)) w (r .token) goes (goesOf r) e in
         rw u (v ∙ is .1)
     by-goes (suc n) z =
         let u : from + (run rest + 1) - 1 ≡ from + 1 + run rest - 1 = omega arith in

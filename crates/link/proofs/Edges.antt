@@ -14,8 +14,10 @@ use Rattle.parser.specs.Blocks.{blocksAfter, blocksOf}
 use Rattle.parser.specs.Edges.{Place, at, nowhere, placeOf, thenPlace, places, successors, entering, predecessors}
 use Rattle.parser.specs.declared.Operation.{Operation}
 use Rattle.parser.specs.declared.Operation.the-variants as O
-use Rattle.body.specs.Records.{recordAt, recordPart, goesOf, partsAt}
+use Rattle.body.specs.Records.{firstCell, recordAt, recordPart, goesBy, goesOf, partsAt}
 use Rattle.body.specs.declared.ItemRecord.{ItemRecord}
+use Rattle.body.specs.declared.Last.{Last}
+use Rattle.body.specs.declared.Last.the-variants as L
 use Rattle.link.specs.Steps.{entriesFrom}
 
 -- how many of these targets are block j, and how many are among m blocks from j on
@@ -122,22 +124,23 @@ abbrev ThinParts : List Part → Type 0
 ThinParts [] = Unit
 ThinParts (p ∷ ps) = ThinPart p × ThinParts ps
 
-goes-few : (r : ItemRecord) → length (goesOf r) ≤ 2
-unfolding goesOf pick
-goes-few r = by (eqb (r .kind) 9) (eqb (r .kind) 10)
+goes-few : (kind : ℕ) (z : Last) → length (goesBy kind z) ≤ 2
+unfolding goesBy pick
+goes-few kind (L.Name l t) = by (eqb kind 9)
   where
-    by : (s t : Bool) → length (pick s (r .right ∷ []) (pick t (r .right ∷ r .rty ∷ []) [])) ≤ 2
-    by true t = omega arith
-    by false true = omega arith
-    by false false = omega arith
+    by : (jumps : Bool) → length (pick jumps (l .0 ∷ []) []) ≤ 2
+    by true = omega arith
+    by false = omega arith
+goes-few kind (L.Labels l m) = omega arith
+goes-few kind (L.Run first count) = omega arith
 
 thin-part : (r : ItemRecord) → ThinPart (recordPart r)
 unfolding recordPart pick
 thin-part r = by (eqb (r .kind) 1)
   where
-    by : (t : Bool) → ThinPart (pick t (name (r .right)) (operation (r .token) (goesOf r)))
+    by : (t : Bool) → ThinPart (pick t (name (firstCell (r .last))) (operation (r .token) (goesOf r)))
     by true = tt
-    by false = goes-few r
+    by false = goes-few (r .kind) (r .last)
 
 thin-parts : (cells : List ℕ) (count first : ℕ) → ThinParts (partsAt cells first count)
 unfolding partsAt

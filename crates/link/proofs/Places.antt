@@ -11,10 +11,12 @@ use Rattle.utils.specs.Bytes.{pick}
 use Rattle.parser.specs.Labels.{has}
 use Rattle.parser.specs.Blocks.{Part, name, operation, Block, fresh, grown, namesIn, blocksFrom, blocksAfter, blocksOf}
 use Rattle.parser.specs.Edges.{Place, at, nowhere, placeOf, thenPlace, missing, places, Resolved, refused, resolveLabels}
-use Rattle.body.specs.Records.{goesOf}
+use Rattle.body.specs.Records.{goesBy, goesOf}
 use Rattle.body.specs.declared.ItemRecord.{ItemRecord}
+use Rattle.body.specs.declared.Last.{Last}
+use Rattle.body.specs.declared.Last.the-variants as L
 use Rattle.link.specs.Table.{leading, blockOf, labelPlace}
-use Rattle.link.specs.Steps.{blockId, foundOf, thenFound, oneD, twoD, goesD}
+use Rattle.link.specs.Steps.{blockId, foundOf, thenFound, oneD, twoD, leadsBy, goesD}
 use Rattle.link.specs.declared.Goes.{Goes}
 use Rattle.link.specs.declared.Goes.the-variants as G
 
@@ -104,18 +106,21 @@ gone-two all token l m nowhere q e f = λ rest. rw e
 
 module _ (all : List Block) (before : ℕ) (names : List ℕ)
     (same : (l : ℕ) → placeOf all l 0 ≡ labelPlace before 0 names l) where
-  gone-by : (r : ItemRecord) (nine ten : Bool)
-      → Gone all (r .token) (pick nine (r .right ∷ []) (pick ten (r .right ∷ r .rty ∷ []) []))
-      (pick nine (oneD before names (r .token) (r .right))
-      (pick ten (twoD before names (r .token) (r .right) (r .rty)) (G.Done 0 (blockId 0) (blockId 0))))
-  unfolding pick oneD twoD resolveLabels places
-  gone-by r true ten =
-      gone-one all (r .token) (r .right) (labelPlace before 0 names (r .right)) (same (r .right))
-  gone-by r false true =
-      gone-two all (r .token) (r .right) (r .rty) (labelPlace before 0 names (r .right))
-      (labelPlace before 0 names (r .rty)) (same (r .right)) (same (r .rty))
-  gone-by r false false = (λ rest. refl, refl, refl, refl)
+  gone-jump : (token l : ℕ) (jumps : Bool)
+      → Gone all token (pick jumps (l ∷ []) [])
+      (pick jumps (oneD before names token l) (G.Done 0 (blockId 0) (blockId 0)))
+  unfolding pick oneD resolveLabels places
+  gone-jump token l true = gone-one all token l (labelPlace before 0 names l) (same l)
+  gone-jump token l false = (λ rest. refl, refl, refl, refl)
+
+  gone-by : (kind token : ℕ) (z : Last) → Gone all token (goesBy kind z) (leadsBy before names kind token z)
+  unfolding goesBy leadsBy twoD resolveLabels places
+  gone-by kind token (L.Name l t) = gone-jump token (l .0) (eqb kind 9)
+  gone-by kind token (L.Labels l m) =
+      gone-two all token (l .0) (m .0) (labelPlace before 0 names (l .0)) (labelPlace before 0 names (m .0))
+      (same (l .0)) (same (m .0))
+  gone-by kind token (L.Run first count) = (λ rest. refl, refl, refl, refl)
 
   pub gone : (r : ItemRecord) → Gone all (r .token) (goesOf r) (goesD before names r)
-  unfolding goesOf goesD
-  gone r = gone-by r (eqb (r .kind) 9) (eqb (r .kind) 10)
+  unfolding goesD
+  gone r = gone-by (r .kind) (r .token) (r .last)

@@ -6,7 +6,7 @@ use native.Mathlib.Omega.{arith}
 use borrow.Author.Tests.{eq-eqb, ne-eqb}
 use Rattle.utils.specs.Bytes.{pick}
 use Rattle.parser.specs.Blocks.{name, operation}
-use Rattle.body.specs.Records.{recordAt, recordPart, goesOf, partsAt}
+use Rattle.body.specs.Records.{firstCell, recordAt, recordPart, goesOf, partsAt}
 use Rattle.body.specs.declared.ItemRecord.{ItemRecord}
 use Rattle.link.specs.Table.{leading}
 use Rattle.link.specs.Steps.{run}
@@ -23,7 +23,7 @@ pub parts-none : (cells : List ℕ) (first count : ℕ) → count ≡ 0 → part
 unfolding partsAt
 parts-none cells first count z = rw z
 
-pub label-part : (r : ItemRecord) → r .kind ≡ 1 → recordPart r ≡ name (r .right)
+pub label-part : (r : ItemRecord) → r .kind ≡ 1 → recordPart r ≡ name (firstCell (r .last))
 unfolding recordPart pick
 label-part r h = rw (eq-eqb _ _ h)
 

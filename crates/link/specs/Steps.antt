@@ -16,6 +16,8 @@ use Rattle.parser.specs.declared.Refusal.{Refusal}
 use Rattle.body.specs.Records.{recordAt, partsAt}
 use Rattle.body.specs.Room.{filled}
 use Rattle.body.specs.declared.ItemRecord.{ItemRecord}
+use Rattle.body.specs.declared.Last.{Last}
+use Rattle.body.specs.declared.Last.the-variants as L
 use Rattle.link.specs.Table.{labelPlace, leading}
 use Rattle.link.specs.Cells.{bit}
 use Rattle.link.specs.declared.Found.{Found}
@@ -77,12 +79,15 @@ twoD before names token l m =
     thenFound (foundOf (labelPlace before 0 names m)) (λ y. G.Done 2 x y) (G.Refused (missing token m)))
     (G.Refused (missing token l))
 
--- where a block leads whose last operation has this record
+-- where a block leads whose last operation has this record: by its kind and its last two cells
+unfoldable pub leadsBy : ℕ → List ℕ → ℕ → ℕ → Last → Goes
+leadsBy before names kind token (L.Name l t) =
+    pick (eqb kind 9) (oneD before names token (l .0)) (G.Done 0 (blockId 0) (blockId 0))
+leadsBy before names kind token (L.Labels l m) = twoD before names token (l .0) (m .0)
+leadsBy before names kind token (L.Run first count) = G.Done 0 (blockId 0) (blockId 0)
+
 unfoldable pub goesD : ℕ → List ℕ → ItemRecord → Goes
-goesD before names r =
-    pick (eqb (r .kind) 9) (oneD before names (r .token) (r .right))
-    (pick (eqb (r .kind) 10) (twoD before names (r .token) (r .right) (r .rty))
-    (G.Done 0 (blockId 0) (blockId 0)))
+goesD before names r = leadsBy before names (r .kind) (r .token) (r .last)
 
 -- Blocks. -----------------------------------------------------------------------------------------------------------
 

@@ -9,6 +9,7 @@ ghost use Rattle.parser.specs.Edges.{missing};
 use crate::Found;
 use crate::Goes;
 use body::ItemRecord;
+use body::Last;
 use graph::BlockId;
 use parser::Refusal;
 use pieces::Identifier;
@@ -106,25 +107,21 @@ fn resolve_two(
     }
 }
 
-// Where a block leads whose last operation has this record. Kind 9 is `jmp`, 10 is `br`.
+// Where a block leads whose last operation has this record. Kind 9 is `jmp`.
 pub fn resolve(labels: &[u32], labelled: usize, before: usize, r: ItemRecord) -> Goes
     requires { ⌜ (labelled ≤ 255) × (labelled ≤ length (now labels)) ⌝ }
     ensures { λ res. ⌜ res ≡ goesD before (take labelled (now (labels .entry))) r ⌝ }
 {
     let token = r.token as usize;
-    let jumps = r.kind == 9;
-    if jumps {
-        return resolve_one(labels, labelled, before, token, Identifier(r.right));
+    let last = r.last;
+    match last {
+        Last::Name(next, _) => {
+            if r.kind == 9 {
+                return resolve_one(labels, labelled, before, token, next);
+            }
+            Goes::Done(0, BlockId(0), BlockId(0))
+        }
+        Last::Labels(then, els) => resolve_two(labels, labelled, before, token, then, els),
+        Last::Run(_, _) => Goes::Done(0, BlockId(0), BlockId(0)),
     }
-    if r.kind == 10 {
-        return resolve_two(
-            labels,
-            labelled,
-            before,
-            token,
-            Identifier(r.right),
-            Identifier(r.rty),
-        );
-    }
-    Goes::Done(0, BlockId(0), BlockId(0))
 }

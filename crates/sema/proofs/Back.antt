@@ -15,7 +15,8 @@ use Rattle.parser.specs.declared.Variable.{Variable}
 use Rattle.parser.specs.declared.Operation.{Operation}
 use Rattle.parser.specs.declared.Operation.the-variants as O
 use Rattle.body.specs.Records.{operationRecord, recordOf, recordCells, recordAt, itemsCells, argumentsCells}
-use Rattle.sema.specs.Items.{tyOf, variablesAt, operationOf, itemOf, itemAt}
+use Rattle.body.proofs.Decode.{last-back}
+use Rattle.sema.specs.Items.{tyOf, variablesAt, operationOf, itemBy, itemOf, itemAt}
 use Rattle.sema.specs.Blocks.{itemsAt, formalsFrom}
 
 pub type-back : (ty : Ty) → tyOf (typeCell ty) ≡ ty
@@ -34,37 +35,24 @@ type-back (Y.Fn n) =
       m,
     )
 
-pub operation-back : (o : Operation) → operationOf (operationRecord o) ≡ o
-unfolding operationOf operationRecord pick
-operation-back (O.BinaryOp w v x y) = rw (type-back (v .ty))
-operation-back (O.UnaryOp w v x) = rw (type-back (v .ty))
-operation-back (O.Const w v) = rw (type-back (v .ty))
-operation-back (O.Jump w l) = refl
-operation-back (O.Branch w x l m) = refl
-operation-back (O.Ret w) = refl
-operation-back (O.RetValue w x) = refl
-operation-back (O.Print w x) = refl
-operation-back (O.Nop w) = refl
-
-plain-back : (o : Operation) (used : ℕ) (args : List ℕ)
-    → itemOf (recordOf used (plain o)) args ≡ plain (operationOf (operationRecord o))
-unfolding itemOf recordOf operationRecord pick
-plain-back (O.BinaryOp w v x y) used args = refl
-plain-back (O.UnaryOp w v x) used args = refl
-plain-back (O.Const w v) used args = refl
-plain-back (O.Jump w l) used args = refl
-plain-back (O.Branch w x l m) used args = refl
-plain-back (O.Ret w) used args = refl
-plain-back (O.RetValue w x) used args = refl
-plain-back (O.Print w x) used args = refl
-plain-back (O.Nop w) used args = refl
+pub operation-back : (o : Operation) (used : ℕ) (args : List ℕ) → itemOf (recordOf used (plain o)) args ≡ plain o
+unfolding itemOf itemBy operationOf recordOf operationRecord pick
+operation-back (O.BinaryOp w v x y) used args = rw (type-back (v .ty))
+operation-back (O.UnaryOp w v x) used args = rw (type-back (v .ty))
+operation-back (O.Const w v) used args = rw (type-back (v .ty))
+operation-back (O.Jump w l) used args = refl
+operation-back (O.Branch w x l m) used args = refl
+operation-back (O.Ret w) used args = refl
+operation-back (O.RetValue w x) used args = refl
+operation-back (O.Print w x) used args = refl
+operation-back (O.Nop w) used args = refl
 
 -- a call's arguments have to stand where its record says
 pub item-back : (i : Item) (used : ℕ) (args : List ℕ) → variablesAt args used (length (argumentsIn i)) ≡ argumentsIn i
     → itemOf (recordOf used i) args ≡ i
-unfolding itemOf recordOf pick
+unfolding itemOf itemBy recordOf pick
 item-back (label w l) used args h = refl
-item-back (plain o) used args h = plain-back o used args ∙ ap plain (operation-back o)
+item-back (plain o) used args h = operation-back o used args
 item-back (call w g xs) used args h = rw h
 item-back (callInto w v g xs) used args h = rw (h, type-back (v .ty))
 
@@ -105,7 +93,7 @@ record-back i items first used rest h =
     let e7 = cell-back (k + 6) items (next 5 (e6 .1)) in
     let e8 = cell-back (k + 7) items (next 6 (e7 .1)) in
     let m : (first + 1) * 8 ≡ k + 7 + 1 = omega arith in
-    (rw (e1 .0, e2 .0, e3 .0, e4 .0, e5 .0, e6 .0, e7 .0, e8 .0), rw m (e8 .1))
+    (rw (e1 .0, e2 .0, e3 .0, e4 .0, e5 .0, e6 .0, e7 .0, e8 .0, last-back used i), rw m (e8 .1))
   where
     next : {l : List ℕ} (j : ℕ) → drop (first * 8 + j + 1) items ≡ l → drop (first * 8 + (j + 1)) items ≡ l
     next j g = let m : first * 8 + (j + 1) ≡ first * 8 + j + 1 = omega arith in rw m g

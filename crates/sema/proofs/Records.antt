@@ -1,22 +1,28 @@
 -- A record's operation by its kind, and a block's last item.
-use Prim.Native.Nat.{ℕ, zero, suc, _+_, _-_, _≤_}
-use mathlib.Core.Path.{_≡_, refl}
+use Prim.Native.Nat.{ℕ, zero, suc, _+_, _-_, _*_, _≤_}
+use mathlib.Core.Path.{_≡_, refl, sym, ap, _∙_}
 use mathlib.Core.List.{List, [], _∷_}
 use mathlib.Core.Bool.{Bool, true, false}
 use native.Mathlib.Omega.{arith}
 use borrow.Author.Tests.{ne-eqb, eqb-true, eqb-false}
 use lib.Dec.{eqb}
+use lib.ListN.{getD}
 use Rattle.utils.specs.Bytes.{pick}
 use Rattle.lexer.specs.Decoded.{Tok, tokenAt}
 use Rattle.lexer.specs.declared.TokenAt.{TokenAt}
+use Rattle.pieces.specs.declared.Identifier.{Identifier}
 use Rattle.parser.specs.Step.{refusal}
 use Rattle.parser.specs.Runs.{typeCell}
 use Rattle.parser.specs.Body.{plain, label, call, callInto}
+use Rattle.parser.specs.declared.Variable.{Variable}
 use Rattle.parser.specs.declared.Operation.the-variants as O
+use Rattle.body.specs.Records.{named, lastOf, recordAt}
 use Rattle.body.specs.declared.ItemRecord.{ItemRecord}
+use Rattle.body.specs.declared.Last.{Last}
+use Rattle.body.specs.declared.Last.the-variants as L
 use Rattle.sema.specs.Symbols.{on, stop}
 use Rattle.sema.specs.Typing.{Global, binaryD, unaryD, constD, retD, retValueD, callD, callIntoD, plainD, analyzeD}
-use Rattle.sema.specs.Items.{named, typed, tyOf, variablesAt, operationOf, itemOf, itemAt}
+use Rattle.sema.specs.Items.{typed, tyOf, variablesAt, operationOf, itemBy, itemOf, itemAt}
 use Rattle.sema.specs.Blocks.{itemsAt, endD}
 
 -- a type's cell is the cell that it was read from
@@ -36,109 +42,137 @@ cell-of (suc (suc (suc (suc n)))) =
     )
     (let m : k - 4 + 4 ≡ k = omega arith in m)
 
-module _ (ts : List Tok) (ret : ℕ) (t : List ℕ) (r : ItemRecord) where
+module _ (ts : List Tok) (ret : ℕ) (t : List ℕ) (r : ItemRecord) (right : Identifier) where
   pub plain-binary : {x : TokenAt} → x ≡ tokenAt ts (r .token) → r .kind ≡ 2
-      → binaryD t (x .kind) (r .token) (named (r .dest)) (r .dty) (named (r .left)) (named (r .right))
-      ≡ plainD ts ret t (operationOf r)
+      → binaryD t (x .kind) (r .token) (r .dest) (r .dty) (r .left) right ≡ plainD ts ret t (operationOf r right)
   unfolding plainD operationOf pick
   plain-binary e h = rw (h, cell-of (r .dty), e)
 
   pub plain-unary : {x : TokenAt} → x ≡ tokenAt ts (r .token) → r .kind ≡ 3
-      → unaryD t (x .kind) (r .token) (named (r .dest)) (r .dty) (named (r .left))
-      ≡ plainD ts ret t (operationOf r)
+      → unaryD t (x .kind) (r .token) (r .dest) (r .dty) (r .left) ≡ plainD ts ret t (operationOf r right)
   unfolding plainD operationOf pick
   plain-unary e h = rw (h, cell-of (r .dty), e)
 
   pub plain-const : {x : TokenAt} → x ≡ tokenAt ts (r .token) → r .kind ≡ 4
-      → constD t (x .kind) (r .token) (named (r .dest)) (r .dty) ≡ plainD ts ret t (operationOf r)
+      → constD t (x .kind) (r .token) (r .dest) (r .dty) ≡ plainD ts ret t (operationOf r right)
   unfolding plainD operationOf pick
   plain-const e h = rw (h, cell-of (r .dty), e)
 
-  pub plain-ret : r .kind ≡ 11 → retD t ret (r .token) ≡ plainD ts ret t (operationOf r)
+  pub plain-ret : r .kind ≡ 11 → retD t ret (r .token) ≡ plainD ts ret t (operationOf r right)
   unfolding plainD operationOf pick
   plain-ret h = rw h
 
-  pub plain-value : r .kind ≡ 12 → retValueD t ret (r .token) (named (r .left)) ≡ plainD ts ret t (operationOf r)
+  pub plain-value : r .kind ≡ 12 → retValueD t ret (r .token) (r .left) ≡ plainD ts ret t (operationOf r right)
   unfolding plainD operationOf pick
   plain-value h = rw h
 
   pub plain-other : (r .kind ≡ 2 → ⊥) → (r .kind ≡ 3 → ⊥) → (r .kind ≡ 4 → ⊥) → (r .kind ≡ 11 → ⊥) → (r .kind ≡ 12 → ⊥)
-      → on t ≡ plainD ts ret t (operationOf r)
+      → on t ≡ plainD ts ret t (operationOf r right)
   unfolding plainD operationOf pick
   plain-other n2 n3 n4 n11 n12 =
       rw (ne-eqb _ _ n2, ne-eqb _ _ n3, ne-eqb _ _ n4, ne-eqb _ _ n11, ne-eqb _ _ n12)
-      (by (eqb (r .kind) 7) (eqb (r .kind) 9) (eqb (r .kind) 10))
+      (by (eqb (r .kind) 7) (eqb (r .kind) 9))
     where
-      by : (print jump branch : Bool) → on t ≡ plainD ts ret t
-          (pick print (O.Print (r .token) (named (r .left)))
-          (pick jump (O.Jump (r .token) (named (r .right)))
-          (pick branch (O.Branch (r .token) (named (r .left)) (named (r .right)) (named (r .rty)))
-          (O.Nop (r .token)))))
-      by true b c = refl
-      by false true c = refl
-      by false false true = refl
-      by false false false = refl
+      by : (print jump : Bool) → on t ≡ plainD ts ret t
+          (pick print (O.Print (r .token) (r .left)) (pick jump (O.Jump (r .token) right) (O.Nop (r .token))))
+      by true jump = refl
+      by false true = refl
+      by false false = refl
 
 module _ (ts : List Tok) (globals : ℕ → Global) (ret : ℕ) (t : List ℕ) (r : ItemRecord) (args : List ℕ) where
-  pub item-label : r .kind ≡ 1 → on t ≡ analyzeD ts globals ret t (itemOf r args)
-  unfolding analyzeD itemOf pick
-  item-label h = rw h
+  -- a label is typed as an operation that looks nothing up
+  pub item-plain : {x : Identifier} {ty : ℕ} → r .last ≡ L.Name x ty
+      → plainD ts ret t (operationOf r x) ≡ analyzeD ts globals ret t (itemOf r args)
+  unfolding analyzeD itemOf itemBy pick
+  item-plain {x} e =
+      by (eqb (r .kind) 1) refl ∙ ap (λ (z : Last). analyzeD ts globals ret t (itemBy r args z)) (sym e)
+    where
+      by : (b : Bool) → eqb (r .kind) 1 ≡ b
+          → plainD ts ret t (operationOf r x)
+          ≡ analyzeD ts globals ret t (pick b (label (r .token) x) (plain (operationOf r x)))
+      by false h = refl
+      by true h =
+          let k : r .kind ≡ 1 = eqb-true (r .kind) 1 h in
+          sym (plain-other ts ret t r x (λ z. omega (arith, z)) (λ z. omega (arith, z)) (λ z. omega (arith, z))
+          (λ z. omega (arith, z)) (λ z. omega (arith, z)))
 
-  pub item-call : r .kind ≡ 5
-      → callD t (globals (r .left)) (r .token) (named (r .left)) (variablesAt args (r .right) (r .rty))
-      ≡ analyzeD ts globals ret t (itemOf r args)
-  unfolding analyzeD itemOf pick
-  item-call h = rw h
+  pub item-branch : {l m : Identifier} → r .last ≡ L.Labels l m → on t ≡ analyzeD ts globals ret t (itemOf r args)
+  unfolding analyzeD itemOf itemBy plainD
+  item-branch e = rw e
 
-  pub item-call-into : r .kind ≡ 6
-      → callIntoD t (globals (r .left)) (r .token) (named (r .dest)) (r .dty) (named (r .left))
-      (variablesAt args (r .right) (r .rty))
-      ≡ analyzeD ts globals ret t (itemOf r args)
-  unfolding analyzeD itemOf pick
-  item-call-into h = rw (h, cell-of (r .dty))
+  module _ {first count : ℕ} (e : r .last ≡ L.Run first count) where
+    pub item-call-into : r .kind ≡ 6
+        → callIntoD t (globals (r .left .0)) (r .token) (r .dest) (r .dty) (r .left) (variablesAt args first count)
+        ≡ analyzeD ts globals ret t (itemOf r args)
+    unfolding analyzeD itemOf itemBy pick
+    item-call-into h = rw (e, h, cell-of (r .dty))
 
-  pub item-plain : (r .kind ≡ 1 → ⊥) → (r .kind ≡ 5 → ⊥) → (r .kind ≡ 6 → ⊥)
-      → plainD ts ret t (operationOf r) ≡ analyzeD ts globals ret t (itemOf r args)
-  unfolding analyzeD itemOf pick
-  item-plain n1 n5 n6 = rw (ne-eqb _ _ n1, ne-eqb _ _ n5, ne-eqb _ _ n6)
+    pub item-call : (r .kind ≡ 6 → ⊥)
+        → callD t (globals (r .left .0)) (r .token) (r .left) (variablesAt args first count)
+        ≡ analyzeD ts globals ret t (itemOf r args)
+    unfolding analyzeD itemOf itemBy pick
+    item-call h = rw (e, ne-eqb _ _ h)
 
 -- A block's last item. ------------------------------------------------------------------------------------------------
 
-module _ (t : List ℕ) (r : ItemRecord) (args : List ℕ) where
+-- a record from cells: its kind says what its last two cells hold
+abbrev FromCells : ItemRecord → Type 0
+FromCells r = (first : ℕ) × (second : ℕ) × (r .last ≡ lastOf (r .kind) first second)
+
+pub from-cells : (r : ItemRecord) (cells : List ℕ) (i : ℕ) → r ≡ recordAt cells i → FromCells r
+from-cells r cells i e = rw e (getD cells (i * 8 + 6) 0, getD cells (i * 8 + 7) 0, refl)
+
+module _ (t : List ℕ) (r : ItemRecord) (args : List ℕ) (from : FromCells r) where
   pub last-other : (r .kind ≡ 9 → ⊥) → (r .kind ≡ 10 → ⊥) → (r .kind ≡ 11 → ⊥) → (r .kind ≡ 12 → ⊥)
       → stop t (refusal 21 (r .token) 0) ≡ endD t (itemOf r args ∷ [])
-  unfolding endD itemOf operationOf pick
+  unfolding endD itemOf itemBy operationOf lastOf pick
   last-other n9 n10 n11 n12 =
-      rw (ne-eqb _ _ n9, ne-eqb _ _ n10, ne-eqb _ _ n11, ne-eqb _ _ n12)
-      (by (eqb (r .kind) 1) (eqb (r .kind) 5) (eqb (r .kind) 6) (eqb (r .kind) 2) (eqb (r .kind) 3) (eqb (r .kind) 4)
-      (eqb (r .kind) 7))
+      let here : lastOf (r .kind) (from .0) (from .1)
+      ≡ pick (eqb (r .kind) 5) (L.Run (from .0) (from .1))
+      (pick (eqb (r .kind) 6) (L.Run (from .0) (from .1)) (L.Name (named (from .0)) (from .1))) =
+      rw (ne-eqb _ _ n10) in
+      by (eqb (r .kind) 5) (eqb (r .kind) 6)
+      ∙ ap (λ (z : Last). endD t (itemBy r args z ∷ [])) (sym (from .2 ∙ here))
     where
-      by : (b1 b5 b6 b2 b3 b4 b7 : Bool) → stop t (refusal 21 (r .token) 0) ≡ endD t
-          (pick b1 (label (r .token) (named (r .right)))
-          (pick b5 (call (r .token) (named (r .left)) (variablesAt args (r .right) (r .rty)))
-          (pick b6 (callInto (r .token) (typed (r .dest) (r .dty)) (named (r .left)) (variablesAt args (r .right) (r .rty)))
+      called : (into : Bool) (xs : List Variable) → stop t (refusal 21 (r .token) 0) ≡ endD t
+          (pick into (callInto (r .token) (typed (r .dest) (r .dty)) (r .left) xs) (call (r .token) (r .left) xs) ∷ [])
+      called true xs = refl
+      called false xs = refl
+
+      other : (x : Identifier) (b1 b2 b3 b4 b7 : Bool) → stop t (refusal 21 (r .token) 0) ≡ endD t
+          (pick b1 (label (r .token) x)
           (plain
-          (pick b2 (O.BinaryOp (r .token) (typed (r .dest) (r .dty)) (named (r .left)) (named (r .right)))
-          (pick b3 (O.UnaryOp (r .token) (typed (r .dest) (r .dty)) (named (r .left)))
+          (pick b2 (O.BinaryOp (r .token) (typed (r .dest) (r .dty)) (r .left) x)
+          (pick b3 (O.UnaryOp (r .token) (typed (r .dest) (r .dty)) (r .left))
           (pick b4 (O.Const (r .token) (typed (r .dest) (r .dty)))
-          (pick b7 (O.Print (r .token) (named (r .left)))
-          (O.Nop (r .token)))))))))
+          (pick b7 (O.Print (r .token) (r .left))
+          (O.Nop (r .token))))))) ∷ [])
+      other x true b2 b3 b4 b7 = refl
+      other x false true b3 b4 b7 = refl
+      other x false false true b4 b7 = refl
+      other x false false false true b7 = refl
+      other x false false false false true = refl
+      other x false false false false false = refl
+
+      by : (b5 b6 : Bool) → stop t (refusal 21 (r .token) 0) ≡ endD t
+          (itemBy r args
+          (pick b5 (L.Run (from .0) (from .1)) (pick b6 (L.Run (from .0) (from .1)) (L.Name (named (from .0)) (from .1))))
           ∷ [])
-      by true b5 b6 b2 b3 b4 b7 = refl
-      by false true b6 b2 b3 b4 b7 = refl
-      by false false true b2 b3 b4 b7 = refl
-      by false false false true b3 b4 b7 = refl
-      by false false false false true b4 b7 = refl
-      by false false false false false true b7 = refl
-      by false false false false false false true = refl
-      by false false false false false false false = refl
+      by true b6 = called (eqb (r .kind) 6) (variablesAt args (from .0) (from .1))
+      by false true = called (eqb (r .kind) 6) (variablesAt args (from .0) (from .1))
+      by false false =
+          rw (ne-eqb _ _ n9, ne-eqb _ _ n11, ne-eqb _ _ n12)
+          (other (named (from .0)) (eqb (r .kind) 1) (eqb (r .kind) 2) (eqb (r .kind) 3) (eqb (r .kind) 4)
+          (eqb (r .kind) 7))
 
   pub last-ends : 9 ≤ r .kind → r .kind ≤ 12 → on t ≡ endD t (itemOf r args ∷ [])
-  unfolding endD itemOf operationOf pick
-  last-ends h g = by (eqb (r .kind) 9) refl (eqb (r .kind) 10) refl (eqb (r .kind) 11) refl
+  unfolding endD itemOf itemBy operationOf lastOf pick
+  last-ends h g =
+      by (eqb (r .kind) 9) refl (eqb (r .kind) 10) refl (eqb (r .kind) 11) refl
+      ∙ ap (λ (z : Last). endD t (itemBy r args z ∷ [])) (sym (from .2))
     where
       by : (b9 : Bool) → eqb (r .kind) 9 ≡ b9 → (b10 : Bool) → eqb (r .kind) 10 ≡ b10 → (b11 : Bool) → eqb (r .kind) 11 ≡ b11
-          → on t ≡ endD t (itemOf r args ∷ [])
+          → on t ≡ endD t (itemBy r args (lastOf (r .kind) (from .0) (from .1)) ∷ [])
       by true e b10 e10 b11 e11 = rw (eqb-true (r .kind) 9 e)
       by false e9 true e b11 e11 = rw (eqb-true (r .kind) 10 e)
       by false e9 false e10 true e = rw (eqb-true (r .kind) 11 e)

@@ -18,7 +18,8 @@ use Rattle.graph.specs.declared.Popped.the-variants as P
 use Rattle.graph.proofs.Callers.{blocks-most, new-remaining, popped-block, popped-empty}
 use Rattle.sema.specs.Symbols.{Typed, typed, on, thenTyped, enterD}
 use Rattle.sema.specs.Typing.{Global, analyzeD}
-use Rattle.sema.specs.Items.{named, itemAt}
+use Rattle.body.specs.Records.{named}
+use Rattle.sema.specs.Items.{itemAt}
 use Rattle.sema.specs.Items.{typed as variable}
 use Rattle.sema.specs.Blocks.{itemsAt, itemsD, endD, blockD, formalsFrom, formalsD, blockItems, blocksAt, blocksD}
 use Rattle.sema.specs.declared.Checked.{Checked}
@@ -63,7 +64,7 @@ module _ (ts : List Tok) (globals : ℕ → Global) (ret : ℕ) (t₀ : List ℕ
 
 -- the formals
 formals-more : (rows : List ℕ) (at n : ℕ) → 0 < n
-    → formalsFrom rows at n ≡ variable (getD rows at 0) (getD rows (at + 1) 0) ∷ formalsFrom rows (at + 2) (n - 1)
+    → formalsFrom rows at n ≡ variable (named (getD rows at 0)) (getD rows (at + 1) 0) ∷ formalsFrom rows (at + 2) (n - 1)
 unfolding formalsFrom
 formals-more rows at zero h = absurd (omega arith)
 formals-more rows at (suc n) h = let m : suc n - 1 ≡ n = omega arith in rw m

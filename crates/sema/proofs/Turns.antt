@@ -9,12 +9,14 @@ use borrow.Author.Tests.{eq-eqb, ne-eqb}
 use lib.ListN.{getD, length}
 use Rattle.utils.specs.Bytes.{pick}
 use Rattle.functions.specs.Rows.{nameAt, typesAt}
+use Rattle.body.specs.Records.{named}
 use Rattle.sema.specs.Items.{typed, variablesAt}
 use Rattle.sema.specs.Globals.{rowFrom}
 use Rattle.sema.specs.declared.FoundRow.the-variants as W
 
 pub variables-more : (cells : List ℕ) (at n : ℕ) → 0 < n
-    → variablesAt cells at n ≡ typed (getD cells (at * 2) 0) (getD cells (at * 2 + 1) 0) ∷ variablesAt cells (at + 1) (n - 1)
+    → variablesAt cells at n
+    ≡ typed (named (getD cells (at * 2) 0)) (getD cells (at * 2 + 1) 0) ∷ variablesAt cells (at + 1) (n - 1)
 unfolding variablesAt
 variables-more cells at zero h = absurd (omega arith)
 variables-more cells at (suc n) h = let m : suc n - 1 ≡ n = omega arith in rw m

@@ -10,6 +10,7 @@ use Rattle.parser.specs.Step.{refusal}
 use Rattle.parser.specs.Runs.{typeCell}
 use Rattle.parser.specs.Body.{Item, isTerminator, itemToken}
 use Rattle.parser.specs.declared.Variable.{Variable}
+use Rattle.body.specs.Records.{named}
 use Rattle.functions.specs.Rows.{rowAt, retAt, countAt, formalsAt, atMost16}
 use Rattle.sema.specs.Symbols.{Typed, on, stop, thenTyped, enterD}
 use Rattle.sema.specs.Typing.{Global, analyzeD}
@@ -66,7 +67,7 @@ blockCountAt i = 12 + i * 45
 -- n formals, a name and a type each
 unfoldable pub formalsFrom : List ℕ → ℕ → ℕ → List Variable
 formalsFrom rows at zero = []
-formalsFrom rows at (suc n) = typed (getD rows at 0) (getD rows (at + 1) 0) ∷ formalsFrom rows (at + 2) n
+formalsFrom rows at (suc n) = typed (named (getD rows at 0)) (getD rows (at + 1) 0) ∷ formalsFrom rows (at + 2) n
 
 abbrev pub formalsIn : List ℕ → ℕ → List Variable
 formalsIn rows i = formalsFrom rows (formalsAt i) (atMost16 (getD rows (countAt i) 0))

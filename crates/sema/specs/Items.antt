@@ -12,48 +12,50 @@ use Rattle.parser.specs.declared.Ty.the-variants as Y
 use Rattle.parser.specs.declared.Variable.{Variable}
 use Rattle.parser.specs.declared.Operation.{Operation}
 use Rattle.parser.specs.declared.Operation.the-variants as O
-use Rattle.body.specs.Records.{recordAt}
+use Rattle.body.specs.Records.{named, recordAt}
 use Rattle.body.specs.declared.ItemRecord.{ItemRecord}
-
-abbrev pub named : ℕ → Identifier
-named n = record { 0 = n }
+use Rattle.body.specs.declared.Last.{Last}
+use Rattle.body.specs.declared.Last.the-variants as L
 
 -- a type by its cell
 unfoldable pub tyOf : ℕ → Ty
 tyOf n =
     pick (eqb n 0) Y.Placeholder (pick (eqb n 1) Y.Int (pick (eqb n 2) Y.Bool (pick (eqb n 3) Y.Void (Y.Fn (n - 4)))))
 
-abbrev pub typed : ℕ → ℕ → Variable
-typed name type = record { id = named name; ty = tyOf type }
+abbrev pub typed : Identifier → ℕ → Variable
+typed name type = record { id = name; ty = tyOf type }
 
 -- the run of so many variables
 unfoldable pub variablesAt : List ℕ → ℕ → ℕ → List Variable
 variablesAt cells at zero = []
-variablesAt cells at (suc n) = typed (getD cells (at * 2) 0) (getD cells (at * 2 + 1) 0) ∷ variablesAt cells (at + 1) n
+variablesAt cells at (suc n) =
+    typed (named (getD cells (at * 2) 0)) (getD cells (at * 2 + 1) 0) ∷ variablesAt cells (at + 1) n
 
--- the operation of a record that is neither a label nor a call
-unfoldable pub operationOf : ItemRecord → Operation
-operationOf r =
+-- the operation of a record that is no label, with the name in its last two cells
+unfoldable pub operationOf : ItemRecord → Identifier → Operation
+operationOf r x =
     let k = r .kind in
     let w = r .token in
-    pick (eqb k 2) (O.BinaryOp w (typed (r .dest) (r .dty)) (named (r .left)) (named (r .right)))
-    (pick (eqb k 3) (O.UnaryOp w (typed (r .dest) (r .dty)) (named (r .left)))
+    pick (eqb k 2) (O.BinaryOp w (typed (r .dest) (r .dty)) (r .left) x)
+    (pick (eqb k 3) (O.UnaryOp w (typed (r .dest) (r .dty)) (r .left))
     (pick (eqb k 4) (O.Const w (typed (r .dest) (r .dty)))
-    (pick (eqb k 7) (O.Print w (named (r .left)))
-    (pick (eqb k 9) (O.Jump w (named (r .right)))
-    (pick (eqb k 10) (O.Branch w (named (r .left)) (named (r .right)) (named (r .rty)))
+    (pick (eqb k 7) (O.Print w (r .left))
+    (pick (eqb k 9) (O.Jump w x)
     (pick (eqb k 11) (O.Ret w)
-    (pick (eqb k 12) (O.RetValue w (named (r .left)))
-    (O.Nop w))))))))
+    (pick (eqb k 12) (O.RetValue w (r .left))
+    (O.Nop w)))))))
+
+-- the item of a record, by what its last two cells hold
+unfoldable pub itemBy : ItemRecord → List ℕ → Last → Item
+itemBy r args (L.Name x t) = pick (eqb (r .kind) 1) (label (r .token) x) (plain (operationOf r x))
+itemBy r args (L.Labels l m) = plain (O.Branch (r .token) (r .left) l m)
+itemBy r args (L.Run first count) =
+    let w = r .token in
+    let xs = variablesAt args first count in
+    pick (eqb (r .kind) 6) (callInto w (typed (r .dest) (r .dty)) (r .left) xs) (call w (r .left) xs)
 
 unfoldable pub itemOf : ItemRecord → List ℕ → Item
-itemOf r args =
-    let w = r .token in
-    let xs = variablesAt args (r .right) (r .rty) in
-    pick (eqb (r .kind) 1) (label w (named (r .right)))
-    (pick (eqb (r .kind) 5) (call w (named (r .left)) xs)
-    (pick (eqb (r .kind) 6) (callInto w (typed (r .dest) (r .dty)) (named (r .left)) xs)
-    (plain (operationOf r))))
+itemOf r args = itemBy r args (r .last)
 
 abbrev pub itemAt : List ℕ → List ℕ → ℕ → Item
 itemAt items args i = itemOf (recordAt items i) args

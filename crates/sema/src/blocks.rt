@@ -4,7 +4,6 @@ ghost use mathlib.Core.List.{List};
 ghost use Prim.Native.Nat.{ℕ, _+_, _*_, _≤_, _<_};
 ghost use lib.ListN.{length};
 ghost use Rattle.lexer.specs.Decoded.{tokensOf};
-ghost use Rattle.body.specs.Records.{recordAt};
 ghost use Rattle.sema.specs.Symbols.{typed};
 ghost use Rattle.sema.specs.Typing.{plainD, analyzeD};
 ghost use Rattle.sema.specs.Items.{operationOf, itemOf, itemAt};
@@ -15,42 +14,31 @@ use crate::calls;
 use crate::operations;
 use crate::symbols;
 use body::ItemRecord;
+use body::Last;
+use body::records::record_at;
 use lexer::token_at;
 use pieces::Identifier;
-use utils::cell_at;
 
-// A record, with 0 for every cell past the end.
-fn record_at(items: &[u32], i: usize) -> ItemRecord
-    requires { ⌜ i ≤ 8589934592 ⌝ }
-    ensures { λ r. ⌜ r ≡ recordAt (now (items .entry)) i ⌝ }
-{
-    let at = i * 8;
-    ItemRecord {
-        kind: cell_at(items, at),
-        token: cell_at(items, at + 1),
-        dest: cell_at(items, at + 2),
-        dty: cell_at(items, at + 3),
-        left: cell_at(items, at + 4),
-        lty: cell_at(items, at + 5),
-        right: cell_at(items, at + 6),
-        rty: cell_at(items, at + 7),
-    }
-}
-
-// A record that is neither a label nor a call.
-fn analyze_plain(tokens: &[u32], ret: u32, table: &mut [u32], r: ItemRecord) -> Checked
+// A record that is neither a call nor a `br`; x is the name in its last two cells. Labels, and operations that look
+// nothing up and enter nothing, are fine.
+fn analyze_plain(
+    tokens: &[u32],
+    ret: u32,
+    table: &mut [u32],
+    r: ItemRecord,
+    x: Identifier,
+) -> Checked
     ensures { λ s. ⌜ typed (now (table .exit)) s
-        ≡ plainD (tokensOf (now (tokens .entry))) ret (now (table .entry)) (operationOf r) ⌝ }
+        ≡ plainD (tokensOf (now (tokens .entry))) ret (now (table .entry)) (operationOf r x) ⌝ }
 {
     let kind = r.kind;
     let w = r.token as usize;
     let word = token_at(tokens, w).kind;
-    let result = Identifier(r.dest);
+    let result = r.dest;
     let ty = r.dty;
-    let left = Identifier(r.left);
-    let right = Identifier(r.right);
+    let left = r.left;
     match kind {
-        2 => operations::analyze_bin_op(table, word, w, result, ty, left, right),
+        2 => operations::analyze_bin_op(table, word, w, result, ty, left, x),
         3 => operations::analyze_unary_op(table, word, w, result, ty, left),
         4 => operations::analyze_const(table, word, w, result, ty),
         11 => operations::analyze_ret(ret, w),
@@ -59,6 +47,7 @@ fn analyze_plain(tokens: &[u32], ret: u32, table: &mut [u32], r: ItemRecord) -> 
     }
 }
 
+// A call with a result is of kind 6.
 fn analyze_record(
     tokens: &[u32],
     rows: &[u32],
@@ -73,29 +62,31 @@ fn analyze_record(
         ≡ analyzeD (tokensOf (now (tokens .entry))) (globalsIn (now (rows .entry)) n) ret (now (table .entry))
         (itemOf r (now (arguments .entry))) ⌝ }
 {
-    let kind = r.kind;
     let w = r.token as usize;
-    let result = Identifier(r.dest);
+    let result = r.dest;
     let ty = r.dty;
-    let callee = Identifier(r.left);
-    let first = r.right;
-    let count = r.rty;
-    match kind {
-        1 => Checked::Fine,
-        5 => calls::analyze_call(table, w, rows, n, callee, arguments, first, count),
-        6 => calls::analyze_call_into(
-            table,
-            w,
-            rows,
-            n,
-            result,
-            ty,
-            callee,
-            arguments,
-            first,
-            count,
-        ),
-        _ => analyze_plain(tokens, ret, table, r),
+    let callee = r.left;
+    let last = r.last;
+    match last {
+        Last::Name(x, _) => analyze_plain(tokens, ret, table, r, x),
+        Last::Labels(_, _) => Checked::Fine,
+        Last::Run(first, count) => {
+            if r.kind == 6 {
+                return calls::analyze_call_into(
+                    table,
+                    w,
+                    rows,
+                    n,
+                    result,
+                    ty,
+                    callee,
+                    arguments,
+                    first,
+                    count,
+                );
+            }
+            calls::analyze_call(table, w, rows, n, callee, arguments, first, count)
+        }
     }
 }
 

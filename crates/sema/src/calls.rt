@@ -6,12 +6,11 @@ ghost use lib.ListN.{length, getD};
 ghost use Rattle.functions.specs.Rows.{retAt, countAt, formalsAt, atMost16, typesAt};
 ghost use Rattle.sema.specs.Symbols.{typed, thenTyped, enterD};
 ghost use Rattle.sema.specs.Typing.{presentD, typesOf, sameAll, argumentsD, callD, callIntoD};
-ghost use Rattle.sema.specs.Items.{named, variablesAt};
+ghost use Rattle.body.specs.Records.{named};
+ghost use Rattle.sema.specs.Items.{variablesAt};
 ghost use Rattle.sema.specs.Globals.{rowFrom, rowGlobal, globalsIn};
 use crate::Checked;
 use crate::FoundRow;
-use crate::compared;
-use crate::entered;
 use crate::symbols;
 use pieces::Identifier;
 use utils::cell_at;
@@ -104,7 +103,7 @@ pub(crate) fn at_most_16(n: u32) -> u32
 }
 
 // The arguments of a call of the function in row i.
-pub(crate) fn analyze_arguments(
+fn analyze_arguments(
     table: &[u32],
     token: usize,
     rows: &[u32],
@@ -183,9 +182,9 @@ fn enter_result(
         (typesAt (now (rows .entry)) (formalsAt i) (atMost16 (getD (now (rows .entry)) (countAt i) 0)))
         (variablesAt (now (arguments .entry)) first count)) ⌝ }
 {
-    match entered::call(table, token, rows, i, result, ty, arguments, first, count) {
+    match symbols::insert(table, token, result, ty) {
         Checked::Refused(e) => Checked::Refused(e),
-        Checked::Fine => compared::call(table, token, rows, i, result, ty, arguments, first, count),
+        Checked::Fine => analyze_arguments(table, token, rows, i, arguments, first, count),
     }
 }
 

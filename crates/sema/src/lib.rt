@@ -1,8 +1,6 @@
 // Typing: Sema of bril-lib/src/parser.rs, with SymbolTable of ir.rs.
 mod blocks;
 mod calls;
-mod compared;
-mod entered;
 pub mod function;
 mod operations;
 mod symbols;

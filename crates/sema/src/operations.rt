@@ -7,8 +7,6 @@ ghost use Rattle.utils.specs.Bytes.{pick};
 ghost use Rattle.sema.specs.Symbols.{typed};
 ghost use Rattle.sema.specs.Typing.{thenThree, operandsD, binaryD, operandD, unaryD, constD, retD, retValueD};
 use crate::Checked;
-use crate::compared;
-use crate::entered;
 use crate::symbols;
 use pieces::Identifier;
 
@@ -110,7 +108,7 @@ pub fn analyze_unary_op(
     }
 }
 
-pub(crate) fn constant_type(kind: u32) -> u32
+fn constant_type(kind: u32) -> u32
     ensures { λ r. ⌜ r ≡ pick (eqb kind 4) 1 2 ⌝ }
 {
     if kind == 4 {
@@ -129,9 +127,9 @@ pub fn analyze_const(
 ) -> Checked
     ensures { λ r. ⌜ typed (now (table .exit)) r ≡ constD (now (table .entry)) kind token result ty ⌝ }
 {
-    match compared::constant(table, kind, token, result, ty) {
+    match symbols::expect_type(token, constant_type(kind), ty) {
         Checked::Refused(e) => Checked::Refused(e),
-        Checked::Fine => entered::constant(table, kind, token, result, ty),
+        Checked::Fine => symbols::insert(table, token, result, ty),
     }
 }
 

@@ -80,7 +80,7 @@ sub-t20 c =
     let v = loop .inv .2 in
     let g = rw (e .given .1) at (turn .ensures) in
     let f =
-    finish (pre .1 .0 .0) (pre .1 .0 .1) (loop .inv .0) (loop .inv .1) v (pre .1 .1 .2) g in
+    finish (pre .1 .0 .0) (pre .1 .0 .1) (loop .inv .0) (loop .inv .1) v g in
     omega (arith, f .1)
 
 sub-t21 : tie.Need-sub-t21 Inv-loop μ-loop
@@ -94,7 +94,7 @@ sub-t21 c =
     let v = loop .inv .2 in
     let g = rw (e .given .1) at (turn .ensures) in
     let f =
-    finish (pre .1 .0 .0) (pre .1 .0 .1) (loop .inv .0) (loop .inv .1) v (pre .1 .1 .2) g in
+    finish (pre .1 .0 .0) (pre .1 .0 .1) (loop .inv .0) (loop .inv .1) v g in
     omega (arith, f .2)
 
 same-length : tie.Need-same-length Inv-loop μ-loop
@@ -134,10 +134,10 @@ returns c =
     let v = loop .inv .2 in
     let g = rw (e .given .1) at (turn .ensures) in
     let f =
-    finish (pre .1 .0 .0) (pre .1 .0 .1) (loop .inv .0) (loop .inv .1) v (pre .1 .1 .2) g in
+    finish (pre .1 .0 .0) (pre .1 .0 .1) (loop .inv .0) (loop .inv .1) v g in
     closed-read ts (a .void) (a .at) (a .first) (a .used) (functionBody ts (a .at)) (e .given .0 .0)
     (now (a .items)) (turn .last .1 .1 .1 .0) (now (a .arguments)) (turn .last .1 .1 .1 .1 .0)
-    (turn .last .1 .1 .1 .1 .1 .0) f
+    (now (a .labels)) (turn .last .1 .1 .1 .1 .1 .0) f
 
 enum-known-e-2 : tie.Need-enum-known-e-2 Inv-loop μ-loop
 enum-known-e-2 c = search needs
@@ -181,7 +181,7 @@ returns-2 c =
     let f = stop (pre .1 .0 .0) (pre .1 .0 .1) (loop .inv .0) (loop .inv .1) (e2 .given .0 .0) v g in
     refused-read ts (a .void) (a .at) (a .first) (a .used) (functionBody ts (a .at)) (e2 .given .0 .0)
     (now (a .items)) (turn .last .1 .1 .1 .0) (now (a .arguments)) (turn .last .1 .1 .1 .1 .0)
-    (turn .last .1 .1 .1 .1 .1 .0) f
+    (now (a .labels)) (turn .last .1 .1 .1 .1 .1 .0) f
 
 pub parse-body-spec : {M : Type 1} → statement M
 parse-body-spec =

@@ -1,103 +1,83 @@
-use Rattle.elaborate.proofs.Turns.{callee-here, callee-later, callee-none, run-more, run-none}
-use Rattle.elaborate.specs.Types.{calleeFrom, isCall, typedRecord, typedRun}
-use Rattle.utils.specs.Bytes.{pick}
+-- Behind i rows of other names, the callee is to be found among the rest.
+use Rattle.elaborate.proofs.Turns.{callee-here, callee-later, callee-none}
+use Rattle.elaborate.specs.Types.{calleeFrom}
 use native.Mathlib.Nat.{sub-zero}
 use borrow.Author.Needs.{needs}
-use borrow.Author.Tests.{lt-ltb, le-ltb, le-leb, lt-leb, eq-eqb, ne-eqb}
 use native.Mathlib.Omega.{arith}
-use native.Mathlib.Numerals.{add-one}
-use Prim.Native.Nat.{ℕ, suc, _+_, _-_, _*_, _≤_, _<_}
-use mathlib.Core.Path.{_≡_, refl, sym, ap, _∙_}
-use mathlib.Core.Logic.{⊎-elim}
-use mathlib.Core.List.{List, [], _∷_, _++_}
-use mathlib.Core.Bool.{Bool, true, false}
-use lib.ListN.{length, drop, take, getD}
-use lib.Seq.{drop-cons}
+use Prim.Native.Nat.{_-_, _≤_}
+use mathlib.Core.Path.{_≡_}
 use denote.Ref.{now}
 use Rattle.elaborate.proofs.callee_type.Statement.{statement}
 use Rattle.elaborate.proofs.callee_type.Tie as tie
-use Rattle.elaborate.proofs.callee_type.Reads as reads
-use Rattle.elaborate.proofs.callee_type.Lts as lts
 
 abbrev Inv-loop : tie.InvT-loop
-Inv-loop rows n name i₀ i = (i ≤ n) × (calleeFrom rows i (n - i) name ≡ calleeFrom rows 0 n name)
+Inv-loop rows n name i₀ i = (i ≤ n) × (calleeFrom rows i (n - i) (name .0) ≡ calleeFrom rows 0 n (name .0))
 
 abbrev μ-loop : tie.MeasureT-loop
 μ-loop rows n name i₀ i = n - i
 
--- src/lib.rt:27:5
 loop-holds : tie.Need-loop-holds Inv-loop μ-loop
 loop-holds c = (omega arith, rw sub-zero)
 
--- src/lib.rt:28:21
 mul-if1 : tie.Need-mul-if1 Inv-loop μ-loop
 mul-if1 c = search needs
 
--- src/lib.rt:28:17
 add-if1 : tie.Need-add-if1 Inv-loop μ-loop
 add-if1 c = search needs
 
--- src/lib.rt:28:12
 mul-if1-2 : tie.Need-mul-if1-2 Inv-loop μ-loop
 mul-if1-2 c = search needs
 
--- src/lib.rt:28:12
 shared-slice-read-if1 : tie.Need-shared-slice-read-if1 Inv-loop μ-loop
 shared-slice-read-if1 c = search needs
 
--- src/lib.rt:29:29
 mul-result : tie.Need-mul-result Inv-loop μ-loop
 mul-result c = search needs
 
--- src/lib.rt:29:25
 add-result : tie.Need-add-result Inv-loop μ-loop
 add-result c = search needs
 
--- src/lib.rt:29:20
 mul-result-2 : tie.Need-mul-result-2 Inv-loop μ-loop
 mul-result-2 c = search needs
 
--- src/lib.rt:29:20
 shared-slice-read-result : tie.Need-shared-slice-read-result Inv-loop μ-loop
 shared-slice-read-result c = search needs
 
--- src/lib.rt:29:20
 add-result-2 : tie.Need-add-result-2 Inv-loop μ-loop
-add-result-2 c = omega (arith, c .before .before .before .before .before .pre .2 (c .before .before .before .before .loop .i) (c .before .before .before .loop-test .taken))
+add-result-2 c =
+    let loop = c .before .before .before .before .before .loop in
+    let loop-test = c .before .before .before .before .loop-test in
+    let pre = c .before .before .before .before .before .before .pre in
+    omega (arith, pre .2 (loop .i) (loop-test .taken))
 
--- src/lib.rt:29:13
 returns : tie.Need-returns Inv-loop μ-loop
 returns c =
-    let a = c .before .before .before .before .before .args in
-    let loop = c .before .before .before .before .loop in
-    let loop-test = c .before .before .before .loop-test in
+    let a = c .before .before .before .before .before .before .args in
+    let loop = c .before .before .before .before .before .loop in
+    let loop-test = c .before .before .before .before .loop-test in
     let if1 = c .before .if1 in
-    rw (← loop .inv .1, callee-here (now (a .rows)) (loop .i) (a .n) (a .name) (loop-test .taken) (if1 .taken))
+    rw (← loop .inv .1, callee-here (now (a .rows)) (loop .i) (a .n) (a .name .0) (loop-test .taken) (if1 .taken))
 
--- src/lib.rt:31:9
 add-i : tie.Need-add-i Inv-loop μ-loop
 add-i c = search needs
 
--- src/lib.rt:27:5
 loop-less : tie.Need-loop-less Inv-loop μ-loop
 loop-less c = search needs
 
--- src/lib.rt:27:5
 loop-again : tie.Need-loop-again Inv-loop μ-loop
 loop-again c =
-    let a = c .before .before .before .before .args in
-    let loop = c .before .before .before .loop in
-    let loop-test = c .before .before .loop-test in
+    let a = c .before .before .before .before .before .args in
+    let loop = c .before .before .before .before .loop in
+    let loop-test = c .before .before .before .loop-test in
     let if1 = c .if1 in
-    (omega arith, rw (← loop .inv .1, callee-later (now (a .rows)) (loop .i) (a .n) (a .name) (loop-test .taken) (if1 .left)))
+    (omega arith, rw (← loop .inv .1, callee-later (now (a .rows)) (loop .i) (a .n) (a .name .0) (loop-test .taken) (if1 .left)))
 
--- src/lib.rt:22:1
 returns-2 : tie.Need-returns-2 Inv-loop μ-loop
 returns-2 c =
     let a = c .before .before .args in
     let loop = c .before .loop in
     let loop-test = c .loop-test in
-    rw (← loop .inv .1, callee-none (now (a .rows)) (loop .i) (a .n) (a .name) (loop-test .left))
+    rw (← loop .inv .1, callee-none (now (a .rows)) (loop .i) (a .n) (a .name .0) (loop-test .left))
 
 pub callee-type-spec : {M : Type 1} → statement M
 callee-type-spec =

@@ -49,7 +49,12 @@ put-record-requires c κs = search needs
 
 -- src/lib.rt:168:9
 add-at : tie.Need-add-at Inv-loop μ-loop
-add-at c = search needs
+add-at c =
+    let back8 = c .before .before .before .before .before .before .before .before in
+    let pre = back8 .before .before .before .before .pre in
+    let loop = c .before .before .before .before .before .before .before .before .loop in
+    let loop-test = c .before .before .before .before .before .before .before .loop-test in
+    omega (arith, loop .inv .0, loop .inv .1, loop-test .taken, pre .3)
 
 -- src/lib.rt:169:9
 sub-left : tie.Need-sub-left Inv-loop μ-loop

@@ -24,11 +24,11 @@ enum-known-e c = search needs
 enum-known-callee : tie.Need-enum-known-callee
 enum-known-callee c = search needs
 
-cast-record-of : tie.Need-cast-record-of
-cast-record-of c = search needs
+cast-t21 : tie.Need-cast-t21
+cast-t21 c = search needs
 
-cast-record-of-2 : tie.Need-cast-record-of-2
-cast-record-of-2 c =
+cast-t22 : tie.Need-cast-t22
+cast-t22 c =
     let back8 = c .before .before .before .before .before .before .before .before in
     let a = back8 .before .before .args in
     let pre = back8 .before .before .pre in
@@ -46,8 +46,8 @@ record-of-requires c κs = search needs
 put-record-requires : tie.Need-put-record-requires
 put-record-requires c κs = search needs
 
-add-t25 : tie.Need-add-t25
-add-t25 c =
+add-t26 : tie.Need-add-t26
+add-t26 c =
     let back8 = c .before .before .before .before .before .before .before .before in
     let a = back8 .before .before .before .before .before .before .before .args in
     let pre = back8 .before .before .before .before .before .before .before .pre in
@@ -106,11 +106,11 @@ parse-call-item-spec =
     parse-call-requires
     enum-known-e
     enum-known-callee
-    cast-record-of
-    cast-record-of-2
+    cast-t21
+    cast-t22
     record-of-requires
     put-record-requires
-    add-t25
+    add-t26
     same-length
     returns
     same-length-2

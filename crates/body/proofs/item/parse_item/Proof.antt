@@ -63,10 +63,10 @@ type-cell-requires c κs = search needs
 parse-call-item-requires-2 : tie.Need-parse-call-item-requires-2
 parse-call-item-requires-2 c κs =
     let back8 = c .before .before .before .before .before .before .before .before in
-    let a = back8 .before .before .args in
-    let pre = back8 .before .before .pre in
-    let parse-instruction = c .before .before .before .before .before .before .parse-instruction in
-    let v = c .before .before .before .before .v in
+    let a = back8 .before .before .before .args in
+    let pre = back8 .before .before .before .pre in
+    let parse-instruction = c .before .before .before .before .before .before .before .parse-instruction in
+    let v = c .before .before .before .before .before .v in
     let ts = tokensOf (now (a .tokens)) in
     let w = pre .0 in
     let p = rw (← parse-instruction .ensures, v .given .1) at
@@ -124,18 +124,19 @@ returns-4 : tie.Need-returns-4
 unfolding itemD parsedItem recordOf
 returns-4 c =
     let back8 = c .before .before .before .before .before .before .before .before in
-    let a = back8 .before .before .before .before .before .before .before .args in
-    let v-known = back8 .before .v in
+    let back16 = back8 .before .before .before .before .before .before .before .before in
+    let a = back16 .args in
+    let v-known = back8 .before .before .v in
     let parse-call-item2 = c .before .before .before .before .parse-call-item2 in
     let type-cell = c .before .before .before .before .before .before .before .type-cell in
-    let parse-instruction = back8 .before .before .before .parse-instruction in
+    let parse-instruction = back8 .before .before .before .before .parse-instruction in
     let ts = tokensOf (now (a .tokens)) in
     let v = v-known .given .0 .0 in
     let word = v-known .given .0 .1 .0 in
     let call = parse-call-item2 in
     let t = type-cell .result in
     let c′ = callD ts word in
-    let q : callRecord 6 word (v .id .0) t (a .used) c′ ≡ recordOf (a .used)
+    let q : callRecord 6 word (v .id) t (a .used) c′ ≡ recordOf (a .used)
     (callInto word v (c′ .callee) (c′ .arguments .list)) = rw (type-cell .ensures) in
     let h = call-into-item word (a .n) (a .used) v t c′ (now (a .items)) (call .last .1 .1 .1 .1 .1 .0)
     (now (a .arguments)) (call .last .1 .1 .1 .1 .1 .1 .1 .0) q (call .ensures .1) in

@@ -80,8 +80,8 @@ slice-write-labels c =
     let room = label-room ts (a .void) s l next (now (a .labels)) (pre .0 .within) few q (pre .0 .items-few) in
     omega (arith, room .1, pre .2)
 
-add-t23 : tie.Need-add-t23
-add-t23 c =
+add-t26 : tie.Need-add-t26
+add-t26 c =
     let back8 = c .before .before .before .before .before .before .before .before in
     let back16 = back8 .before .before .before .before .before .before .before .before in
     let a = back16 .before .before .args in
@@ -99,8 +99,8 @@ add-t23 c =
     let room = label-room ts (a .void) s l next (now (a .labels)) (pre .0 .within) few q (pre .0 .items-few) in
     omega (arith, room .0, add-ret .ensures .0, added-short (lacks-ret .result) (s .last))
 
-add-t25 : tie.Need-add-t25
-add-t25 c =
+add-t28 : tie.Need-add-t28
+add-t28 c =
     let back8 = c .before .before .before .before .before .before .before .before in
     let back16 = back8 .before .before .before .before .before .before .before .before in
     let a = back16 .before .before .args in
@@ -142,7 +142,7 @@ returns-2 c =
     let add-ret = c .before .before .before .before .before .before .before .add-ret in
     let put-record = c .before .before .put-record in
     let lacks-ret = c .before .before .before .before .before .before .before .before .lacks-ret in
-    let record-of = c .before .before .before .record-of in
+    let record-of = c .before .before .before .before .record-of in
     let ts = tokensOf (now (a .tokens)) in
     let s = a .s in
     let q = sym (parse-label .ensures) ∙ label .given .1 in
@@ -150,7 +150,7 @@ returns-2 c =
     let l = label .given .0 .0 in
     let next = label .given .0 .1 .0 in
     label-taken ts (a .void) s l next (now (a .labels)) (pre .0 .within) few q (add-ret .result)
-    (now (a .items)) (add-ret .last .0) (put-record .last .0) (pre .2)
+    (now (a .items)) (add-ret .last .0) (put-record .last .0)
     (rw (lacks-ret .ensures) at (add-ret .ensures .0))
     (rw (lacks-ret .ensures) at (add-ret .ensures .1)) (rw (record-of .ensures) at (put-record .ensures))
 
@@ -167,8 +167,8 @@ label-turn-spec =
     put-record-requires
     mul-labels
     slice-write-labels
-    add-t23
-    add-t25
+    add-t26
+    add-t28
     same-length
     returns
     same-length-2

@@ -67,7 +67,7 @@ returns-2 c =
     let k = rw (token-at .ensures) at (sym (closes-body .ensures) ∙ if1 .left) in
     let j = rw (token-at .ensures) at (eq-eqb (token-at .result .kind) 3 (if2 .taken)) in
     label-turned ts (a .void) s (now (a .items)) (label-turn .last .1 .1 .1 .0) (now (a .labels)) k
-    (pre .0 .labels-few) (label-turn .result) (now (a .arguments)) (label-turn .last .1 .1 .1 .1 .0) j
+    (pre .0 .labels-few) (pre .3) (label-turn .result) (now (a .arguments)) (label-turn .last .1 .1 .1 .1 .0) j
     (label-turn .ensures)
 
 item-turn-requires : tie.Need-item-turn-requires
@@ -95,7 +95,7 @@ returns-3 c =
     let k = rw (token-at .ensures) at (sym (closes-body .ensures) ∙ if1 .left) in
     let j = rw (token-at .ensures) at (ne-eqb (token-at .result .kind) 3 (if2 .left)) in
     item-turned ts (a .void) s (now (a .items)) (item-turn .last .1 .1 .0) (now (a .labels)) k
-    (pre .0 .labels-few) (item-turn .result) (now (a .arguments)) (item-turn .last .1 .1 .1 .0) j
+    (pre .0 .labels-few) (pre .3) (item-turn .result) (now (a .arguments)) (item-turn .last .1 .1 .1 .0) j
     (item-turn .ensures)
 
 pub turn-spec : {M : Type 1} → statement M

@@ -42,7 +42,7 @@ link-requires c κs =
     let a = c .before .before .before .before .before .before .before .before .before .before .before .before .before .before .before .before .before .before .before .before .before .before .before .args in
     let parse-body = c .before .before .before .before .before .before .before .before .before .before .before .before .before .parse-body in
     let closed = c .before .before .before .before .before .closed in
-    ready (tokensOf (now (a .tokens))) (a .void) (a .name) (a .at) (a .n) (now (a .items)) _ (now (a .arguments)) _ _
+    ready (tokensOf (now (a .tokens))) (a .void) (a .name) (a .at) (a .n) (now (a .items)) _ (now (a .arguments)) _ _ _
     (closed .given .0 .0) (sym (closed .given .1) ∙ parse-body .ensures .0) (parse-body .ensures .1) (c .before .before .before .before .before .before .before .before .before .before .before .before .before .before .before .before .before .before .before .before .before .before .before .pre .0) (c .before .before .before .before .before .before .before .before .before .before .before .before .before .before .before .before .before .before .before .before .before .before .before .pre .1)
     (now (a .blocks)) (now (a .predecessors)) (c .before .before .before .before .before .before .before .before .before .before .before .before .before .before .before .before .before .before .before .before .before .before .before .pre .3) (omega (arith, c .before .before .before .before .before .before .before .before .before .before .before .before .before .before .before .before .before .before .before .before .before .before .before .pre .2, parse-body .kept .1 .1 .1 .1 .1 .1 .1 .0))
 
@@ -69,7 +69,7 @@ same-length-3 c = search needs
 -- src/build.rt:15:1
 returns : tie.Need-returns
 returns c = let a = c .before .before .before .before .before .before .before .before .before .before .before .before .before .before .before .before .before .before .before .args in
-    rw (body-refused (tokensOf (now (a .tokens))) (a .void) (a .name) (a .at) (a .n) [] [] [] [] [] (c .before .e .given .0 .0) (sym (c .before .e .given .1) ∙ c .before .before .before .before .before .before .before .before .before .parse-body .ensures .0)) (refl, tt)
+    rw (body-refused (tokensOf (now (a .tokens))) (a .void) (a .name) (a .at) (a .n) [] [] [] [] [] [] (c .before .e .given .0 .0) (sym (c .before .e .given .1) ∙ c .before .before .before .before .before .before .before .before .before .parse-body .ensures .0)) (refl, tt)
 
 -- src/build.rt:15:1
 same-length-4 : tie.Need-same-length-4
@@ -97,7 +97,7 @@ returns-2 c =
     let a = c .before .before .before .before .before .before .before .before .before .before .before .before .before .before .before .before .before .before .before .before .before .before .before .before .before .before .before .before .before .before .before .args in
     let parse-body = c .before .before .before .before .before .before .before .before .before .before .before .before .before .before .before .before .before .before .before .before .before .parse-body in
     let closed = c .before .before .before .before .before .before .before .before .before .before .before .before .before .closed in
-    rw (link-refused (tokensOf (now (a .tokens))) (a .void) (a .name) (a .at) (a .n) (now (a .items)) _ (now (a .arguments)) _ _
+    rw (link-refused (tokensOf (now (a .tokens))) (a .void) (a .name) (a .at) (a .n) (now (a .items)) _ (now (a .arguments)) _ _ _
     (closed .given .0 .0) (sym (closed .given .1) ∙ parse-body .ensures .0) (parse-body .ensures .1) (c .before .before .before .before .before .before .before .before .before .before .before .before .before .before .before .before .before .before .before .before .before .before .before .before .before .before .before .before .before .before .before .pre .0) (c .before .before .before .before .before .before .before .before .before .before .before .before .before .before .before .before .before .before .before .before .before .before .before .before .before .before .before .before .before .before .before .pre .1)
     (now (a .blocks)) (now (a .predecessors)) (c .before .before .before .before .before .before .before .before .before .before .before .before .before .before .before .before .before .before .before .before .before .before .before .before .before .before .before .before .before .before .before .pre .3) (omega (arith, c .before .before .before .before .before .before .before .before .before .before .before .before .before .before .before .before .before .before .before .before .before .before .before .before .before .before .before .before .before .before .before .pre .2, parse-body .kept .1 .1 .1 .1 .1 .1 .1 .0))
     (c .before .e2 .given .0 .0) (sym (c .before .e2 .given .1) ∙ c .before .before .before .before .before .before .before .link .ensures .0)) (refl, tt)
@@ -131,11 +131,11 @@ returns-3 c =
     let link = c .before .before .before .before .before .before .before .link in
     let count = c .before .count in
     let kept = subst (LinkHeld _ _ _ _ _ _ _ _) (count .given .1) (link .ensures .1) in (
-      answered (tokensOf (now (a .tokens))) (a .void) (a .name) (a .at) (a .n) (now (a .items)) _ (now (a .arguments)) _ _
+      answered (tokensOf (now (a .tokens))) (a .void) (a .name) (a .at) (a .n) (now (a .items)) _ (now (a .arguments)) _ _ _
           (closed .given .0 .0) (sym (closed .given .1) ∙ parse-body .ensures .0) (parse-body .ensures .1) (c .before .before .before .before .before .before .before .before .before .before .before .before .before .before .before .before .before .before .before .before .before .before .before .before .before .before .before .before .before .before .before .pre .0) (c .before .before .before .before .before .before .before .before .before .before .before .before .before .before .before .before .before .before .before .before .before .before .before .before .before .before .before .before .before .before .before .pre .1)
           (now (a .blocks)) (now (a .predecessors)) (c .before .before .before .before .before .before .before .before .before .before .before .before .before .before .before .before .before .before .before .before .before .before .before .before .before .before .before .before .before .before .before .pre .3) (omega (arith, c .before .before .before .before .before .before .before .before .before .before .before .before .before .before .before .before .before .before .before .before .before .before .before .before .before .before .before .before .before .before .before .pre .2, parse-body .kept .1 .1 .1 .1 .1 .1 .1 .0))
           _ _ (sym (count .given .1) ∙ link .ensures .0) _ _ kept,
-      is-held (tokensOf (now (a .tokens))) (a .void) (a .name) (a .at) (a .n) (now (a .items)) _ (now (a .arguments)) _ _
+      is-held (tokensOf (now (a .tokens))) (a .void) (a .name) (a .at) (a .n) (now (a .items)) _ (now (a .arguments)) _ _ _
           (closed .given .0 .0) (sym (closed .given .1) ∙ parse-body .ensures .0) (parse-body .ensures .1) (c .before .before .before .before .before .before .before .before .before .before .before .before .before .before .before .before .before .before .before .before .before .before .before .before .before .before .before .before .before .before .before .pre .0) (c .before .before .before .before .before .before .before .before .before .before .before .before .before .before .before .before .before .before .before .before .before .before .before .before .before .before .before .before .before .before .before .pre .1)
           (now (a .blocks)) (now (a .predecessors)) (c .before .before .before .before .before .before .before .before .before .before .before .before .before .before .before .before .before .before .before .before .before .before .before .before .before .before .before .before .before .before .before .pre .3) (omega (arith, c .before .before .before .before .before .before .before .before .before .before .before .before .before .before .before .before .before .before .before .before .before .before .before .before .before .before .before .before .before .before .before .pre .2, parse-body .kept .1 .1 .1 .1 .1 .1 .1 .0))
           _ _ (sym (count .given .1) ∙ link .ensures .0) _ _ kept,

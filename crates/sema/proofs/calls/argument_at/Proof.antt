@@ -1,7 +1,7 @@
 use Prim.Native.Nat.{ℕ}
 use mathlib.Core.Path.{ap}
 use borrow.Author.Needs.{needs}
-use Rattle.sema.specs.Items.{named}
+use Rattle.body.specs.Records.{named}
 use Rattle.sema.proofs.calls.argument_at.Statement.{statement}
 use Rattle.sema.proofs.calls.argument_at.Tie as tie
 use Rattle.sema.proofs.calls.argument_at.Reads as reads
