@@ -147,7 +147,7 @@ fn next_token(text: &[u8], names: &mut [u32], count: usize, at: Cursor) -> Next
         (addedBy (now (text .entry)) (firstNames count (now (names .entry)))
         (pieceAt (now (text .entry)) (at .place) (at .line))) ⌝ }
 {
-    match at.lex(text) {
+    match reader::lex_at(text, at.place, at.line) {
         Lexed::Skipped(next) => Next::Skipped(next),
         Lexed::Token(token, next) => Next::Token(row_of(token), next, count),
         Lexed::Name(name, next) => number_name(text, names, count, name, next),
