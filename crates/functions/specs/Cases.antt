@@ -9,7 +9,7 @@ use lib.ListN.{length}
 use Rattle.utils.specs.Bytes.{pick, bytes, sameBytes}
 use Rattle.lexer.specs.Cases as lexing
 use Rattle.lexer.specs.Read.{readOf}
-use Rattle.lexer.specs.Decoded.{Tok, tokensOf, tokenAt}
+use Rattle.lexer.specs.Decoded.{Tok, tokensOf, isName, nameIn, integerIn, tokenAt}
 use Rattle.parser.specs.Step.{look, thenAt, thenNamed, thenType, thenDefined}
 use Rattle.parser.specs.Grammar.{consumeD, namedD, typeD, printD, retD, jumpD, branchD, nopD, definedD, isConstant}
 use Rattle.parser.specs.Grammar.{constD, unaryD, binaryD, isUnary, isBinary, valueD, definitionD, instructionD}
@@ -32,7 +32,7 @@ use Rattle.functions.specs.Answer.{edgesIn}
 -- To unfold this is to unfold the whole definition.
 unfoldable pub opened : ℕ
 unfolding
-    lexing.opened tokensOf tokenAt look thenAt thenNamed thenType thenDefined
+    lexing.opened tokensOf isName nameIn integerIn tokenAt look thenAt thenNamed thenType thenDefined
     consumeD namedD typeD printD retD jumpD branchD nopD definedD isConstant constD unaryD binaryD isUnary isBinary
     valueD definitionD instructionD formalD formalsFromD formalsD argumentsD callD has labelledD
     thenItem calledItem parsedItem itemD behind closes bodyD lacksRet closedFrom partsOf blocksFrom blocksAfter

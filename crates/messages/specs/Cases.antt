@@ -13,14 +13,16 @@ use Rattle.pieces.specs.declared.OptionValue.{OptionValue}
 use Rattle.pieces.specs.declared.OptionValue.the-variants as O
 use Rattle.lexer.specs.Cases as lexing
 use Rattle.lexer.specs.Read.{readOf}
-use Rattle.lexer.specs.Decoded.{tokensOf, tokenAt, nameOf}
+use Rattle.lexer.specs.Decoded.{tokensOf, isName, nameIn, integerIn, tokenAt, nameOf}
 use Rattle.parser.specs.Kinds as T
 use Rattle.parser.specs.declared.Refusal.{Refusal}
 use Rattle.messages.specs.Messages.{words, signed, shown, typeWord, atToken, itemOf, fixed, textOf, messageOf}
 
 -- To unfold this is to unfold the whole definition.
 unfoldable pub opened : ℕ
-unfolding lexing.opened tokensOf tokenAt nameOf words signed shown typeWord atToken itemOf fixed textOf
+unfolding
+    lexing.opened tokensOf isName nameIn integerIn tokenAt nameOf words signed shown typeWord atToken itemOf fixed
+    textOf
 opened = 0
 
 facts : ℕ → ℕ → ℕ → ℕ → ℕ → Refusal
@@ -122,11 +124,11 @@ wordsRight : List Word → Bool
 wordsRight [] = true
 wordsRight (w ∷ ws) =
     let more = wordsRight ws in
-    pick (sameBytes (shown (kindOf (w .value)) 0) (w .spelling)) more false
+    pick (sameBytes (shown (kindOf (w .value)) (record { 0 = 0 }) 0) (w .spelling)) more false
 
 signRight : ℕ → OptionValue → Bool
 signRight b O.None = false
-signRight b (O.Some v) = sameBytes (shown (kindOf v) 0) (b ∷ [])
+signRight b (O.Some v) = sameBytes (shown (kindOf v) (record { 0 = 0 }) 0) (b ∷ [])
 
 signsRight : List ℕ → Bool
 signsRight [] = true

@@ -17,9 +17,6 @@ enum-known-next c = search needs
 enum-known-token : tie.Need-enum-known-token
 enum-known-token c = search needs
 
-row-of-requires : tie.Need-row-of-requires
-row-of-requires c κs = search needs
-
 enum-known-name : tie.Need-enum-known-name
 enum-known-name c = search needs
 
@@ -31,7 +28,7 @@ number-name-requires c κs =
     let pre = c .before .before .before .before .before .before .before .pre in
     let past =
     rw (← lex-at .ensures, name .given .1) at (piece-past (now (a .text)) (a .at .place) (a .at .line) (pre .1)) in
-    (pre .0, omega (arith, past .name-end, past .within), past .kind-from, past .kind-to)
+    (pre .0, omega (arith, past .name-end, past .within))
 
 enum-known-end : tie.Need-enum-known-end
 enum-known-end c = search needs
@@ -49,10 +46,9 @@ returns c =
 returns-2 : tie.Need-returns-2
 unfolding nextOf addedBy
 returns-2 c =
-    let lex-at = c .before .before .before .before .lex-at in
-    let token = c .before .before .token in
-    let row-of = c .row-of in
-    rw (← lex-at .ensures, token .given .1, row-of .ensures) (refl, refl)
+    let lex-at = c .before .before .before .lex-at in
+    let token = c .before .token in
+    rw (← lex-at .ensures, token .given .1) (refl, refl)
 
 same-length : tie.Need-same-length
 same-length c = search needs
@@ -86,7 +82,6 @@ next-token-spec =
     lex-at-requires
     enum-known-next
     enum-known-token
-    row-of-requires
     enum-known-name
     number-name-requires
     enum-known-end

@@ -34,7 +34,7 @@ use denote.Enum.Laws as EL
 use denote.Struct.At.{spelled, valAt}
 use denote.Struct.Declared.{Declared}
 use denote.Struct.Laws as LL
-use denote.Struct.Rest.{all-own, ownAt, rest, own-open, own-out}
+use denote.Struct.Rest.{all-own, rest, own-open, own-out}
 use denote.Struct.Values.{Values}
 use denote.Triple.Statement.{Contract, Triple}
 use denote.Triple.Call.{calls-at}
