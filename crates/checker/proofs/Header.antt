@@ -13,7 +13,7 @@ use Rattle.pieces.specs.declared.Token.{Token}
 use Rattle.lexer.specs.Numbered.{Part, tokensCells, namesCells}
 use Rattle.lexer.specs.Sound.{Sound, noToken, noPart}
 use Rattle.pieces.specs.Tokens.{kindOf, carried}
-use Rattle.lexer.specs.Decoded.{Tok, tokensOf, withNext, tokenAt}
+use Rattle.lexer.specs.Decoded.{Tok, tokensOf, isName, nameIn, withNext, tokenAt}
 use Rattle.lexer.specs.declared.TokenAt.{TokenAt}
 use Rattle.lexer.proofs.Cells.{tokOf, length-tokens-cells, cells-token-at, names-cell}
 use Rattle.lexer.proofs.Records.{tokens-count}
@@ -200,7 +200,7 @@ optional-good ts at =
 
 -- the global at this token
 abbrev IsGlobal : List Tok → ℕ → Identifier → Type 0
-IsGlobal ts at g = (tokenAt ts at .kind ≡ 2) × (g .0 ≡ tokenAt ts at .value)
+IsGlobal ts at g = (tokenAt ts at .kind ≡ 2) × (g .0 ≡ tokenAt ts at .name .0)
 
 abbrev GoodNamed : List Tok → ℕ → Named → Type 0
 GoodNamed ts at (N.At g i) = IsGlobal ts at g
@@ -212,7 +212,7 @@ global-good ts at = by (eqb (tokenAt ts at .kind) 2) refl
   where
     by : (b : Bool) → eqb (tokenAt ts at .kind) 2 ≡ b
         → GoodNamed ts at
-        (pick b (N.At (record { 0 = tokenAt ts at .value }) (tokenAt ts at .next)) (N.Refused (refusal 7 at 0)))
+        (pick b (N.At (tokenAt ts at .name) (tokenAt ts at .next)) (N.Refused (refusal 7 at 0)))
     by true e = (eqb-true _ _ e, refl)
     by false e = tt
 
@@ -382,8 +382,12 @@ part-within s place len h e =
 record GlobalIn (text names : List ℕ) (t : TokenAt) : Type 0 where
   place-in : t .place ≤ 16384
   line-in : Between 1 16385 (t .line .0)
-  long : Between 2 64 (getD names (t .value * 2 + 1) 0)
-  inside : t .place + getD names (t .value * 2 + 1) 0 ≤ length text
+  long : Between 2 64 (getD names (t .name .0 * 2 + 1) 0)
+  inside : t .place + getD names (t .name .0 * 2 + 1) 0 ≤ length text
+
+global-named : (kind carried : ℕ) → kind ≡ 2 → nameIn kind carried .0 ≡ carried
+unfolding nameIn isName pick
+global-named kind carried e = rw e
 
 module _ (s : List ℕ) (toks : List Token) (ns : List Part) (v : Sound s 1 toks ns) where
   abbrev ts : List Tok
@@ -410,11 +414,12 @@ module _ (s : List ℕ) (toks : List Token) (ns : List Part) (v : Sound s 1 toks
       ap length (v .spelled i h (omega (arith, e)))
       ∙ length-slice (p .place) (p .place + p .len) s (v .within k numbered .2) ∙ omega arith in
       let r = v .ranges i h in
+      let name : nameIn (kindOf (t .value)) k .0 ≡ k = global-named (kindOf (t .value)) k e in
       record {
         place-in = omega (arith, r .2, v .short);
         line-in = (r .0, omega (arith, r .1, r .2, v .short));
-        long = rw cell (long, v .within k numbered .1);
-        inside = rw cell (part-within s (t .place) (p .len) (omega (arith, long)) bytes);
+        long = rw (name, cell) (long, v .within k numbered .1);
+        inside = rw (name, cell) (part-within s (t .place) (p .len) (omega (arith, long)) bytes);
       }
 
   -- past the last token there is none
@@ -471,7 +476,7 @@ module _ (text : List ℕ) (ts : List Tok) (names rows rest : List ℕ)
       let vs = f .head .formals in
       let t = tokenAt ts (f .token) in
       let global = globals-in (f .token) (g .global .0) in
-      let len : getD rows (lengthAt i) 0 ≡ getD names (t .value * 2 + 1) 0 =
+      let len : getD rows (lengthAt i) 0 ≡ getD names (t .name .0 * 2 + 1) 0 =
       cell (lengthAt i) 4 (omega arith) ∙ ap (λ (x : ℕ). getD names (x * 2 + 1) 0) (g .global .1) in
       record {
         name = rw (cell (placeAt i) 3 (omega arith), len) (global .inside);

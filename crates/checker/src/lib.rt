@@ -10,6 +10,7 @@ use functions::Counts;
 use functions::ProgramRead;
 use lexer::ReadAnswer;
 use parser::Refusal;
+use pieces::Location;
 
 // What `check` answers: document 01's number, line and place, and how many records each slice has.
 #[repr(C)]
@@ -26,12 +27,12 @@ pub struct CheckAnswer {
     pub predecessors: u32,
 }
 
-fn refused(number: u32, line: u32, place: u32) -> CheckAnswer
-    ensures { λ r. ⌜ r ≡ refusal number line place ⌝ }
+fn refused(number: u32, line: Location, place: u32) -> CheckAnswer
+    ensures { λ r. ⌜ r ≡ refusal number (line .0) place ⌝ }
 {
     CheckAnswer {
         number,
-        line,
+        line: line.0,
         place,
         tokens: 0,
         names: 0,
@@ -82,7 +83,8 @@ fn refuse(
     let t = lexer::token_at(&tokens[0..last], e.token);
     utils::clear(tokens);
     utils::clear(names);
-    refused(e.number, t.line.0, t.place)
+    let line = t.line;
+    refused(e.number, line, t.place)
 }
 
 // The functions of a text that is read.
@@ -161,7 +163,7 @@ fn check_sized(
         );
     }
     typing::clear::clear_five(functions, items, arguments, blocks, predecessors);
-    refused(r.number, r.line, r.place)
+    refused(r.number, Location(r.line), r.place)
 }
 
 fn fits_unit(f: usize, i: usize, a: usize, b: usize, p: usize) -> bool
@@ -240,5 +242,5 @@ pub fn check(
             message,
         );
     }
-    refused(30, 0, 0)
+    refused(30, Location(0), 0)
 }

@@ -1,7 +1,7 @@
 -- For tables of cases, which are shown by computation.
 use Prim.Native.Nat.{ℕ}
 use Rattle.lexer.specs.Opened as lexing
-use Rattle.lexer.specs.Decoded.{tokensOf, tokenAt}
+use Rattle.lexer.specs.Decoded.{tokensOf, isName, nameIn, integerIn, tokenAt}
 use Rattle.parser.specs.Step.{look, thenAt, thenNamed, thenType, thenDefined}
 use Rattle.parser.specs.Grammar.{consumeD, namedD, typeD, printD, retD, jumpD, branchD, nopD, definedD, isConstant}
 use Rattle.parser.specs.Grammar.{constD, unaryD, binaryD, isUnary, isBinary, valueD, definitionD, instructionD}
@@ -19,7 +19,7 @@ use Rattle.functions.specs.Functions.{thenFunction, functionD, functions
 -- To unfold this is to unfold the whole definition.
 unfoldable pub opened : ℕ
 unfolding
-    lexing.opened tokensOf tokenAt look thenAt thenNamed thenType thenDefined
+    lexing.opened tokensOf isName nameIn integerIn tokenAt look thenAt thenNamed thenType thenDefined
     consumeD namedD typeD printD retD jumpD branchD nopD definedD isConstant constD unaryD binaryD isUnary isBinary
     valueD definitionD instructionD formalD formalsFromD formalsD argumentsD callD has labelledD
     thenItem calledItem parsedItem itemD behind closes bodyD lacksRet closedFrom partsOf blocksFrom blocksAfter

@@ -64,7 +64,7 @@ fn enter(
         (ret ∷ formals ∷ typesAt (now (rows .entry)) (formalsAt n) formals) at ⌝ }
 {
     let ty = known::type_number(rows, n, ret, formals, types);
-    let expected = known::expected_type(rows, n, name.0, ty);
+    let expected = known::expected_type(rows, n, name, ty);
     if expected != ty {
         return Entered::Refused(Refusal {
             number: 15,

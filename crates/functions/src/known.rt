@@ -6,6 +6,7 @@ ghost use lib.ListN.{length};
 ghost use Rattle.utils.specs.Bytes.{sameBytes};
 ghost use Rattle.functions.specs.Known.{typeNumber, expectedType};
 ghost use Rattle.functions.specs.Rows.{formalsAt, typesAt, signedAt, knownFrom};
+use pieces::Identifier;
 
 // Whether the first `count` formals of rows a and b have the same types.
 fn same_formals(rows: &[u32], a: usize, b: usize, count: usize) -> bool
@@ -59,13 +60,13 @@ pub fn type_number(rows: &[u32], n: usize, ret: u32, count: usize, types: u32) -
 }
 
 // The type that this name has among the first n functions, or the given one.
-pub fn expected_type(rows: &[u32], n: usize, name: u32, ty: u32) -> u32
+pub fn expected_type(rows: &[u32], n: usize, name: Identifier, ty: u32) -> u32
     requires { ⌜ (n ≤ 64) × (2881 ≤ length (now rows)) ⌝ }
-    ensures { λ r. ⌜ r ≡ expectedType (knownFrom (now (rows .entry)) 0 n) name ty ⌝ }
+    ensures { λ r. ⌜ r ≡ expectedType (knownFrom (now (rows .entry)) 0 n) (name .0) ty ⌝ }
 {
     let mut i: usize = 0;
     while i < n {
-        if rows[2 + i * 45] == name {
+        if rows[2 + i * 45] == name.0 {
             return rows[8 + i * 45];
         }
         i += 1;

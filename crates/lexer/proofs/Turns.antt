@@ -17,7 +17,7 @@ use Rattle.lexer.specs.Numbered.{Part, part, Outcome, identified, onFoun
 use Rattle.lexer.specs.Numbered.{atToken, thenIdentified, thenRoom, numberedFrom, numbered, tokensCells}
 use Rattle.lexer.specs.Numbered.{namesCells}
 use Rattle.lexer.specs.Read.{resultOf, Held}
-use Rattle.lexer.specs.Steps.{partsOf, Within, newCells, rowOf, nextName, nextOf, addedBy}
+use Rattle.lexer.specs.Steps.{partsOf, Within, newCells, nextName, nextOf, addedBy}
 use Rattle.lexer.proofs.Parts.{tokens-cells-snoc, names-cells-snoc, within-snoc}
 use Rattle.lexer.proofs.Cells.{length-tokens-cells, length-names-cells, cells-parts-padded}
 use Rattle.pieces.proofs.Progress.{Past, piece-past, pick-either}
@@ -129,8 +129,8 @@ pub record Closed (s : List ℕ) (first : ℕ) (t₀ n₀ t n : List ℕ) (count
 abbrev pub After : List ℕ → ℕ → List ℕ → List ℕ → List ℕ → List ℕ → ℕ → ℕ → Cursor → Next → Type 0
 After s first t₀ n₀ t n count known at (N.Skipped c) =
     Lexing s first t₀ n₀ t n count known c × (at .place < c .place) × (c .place ≤ length s)
-After s first t₀ n₀ t n count known at (N.Token r c k) = (u : Token) × (r ≡ rowOf u) × Made s first t₀ n₀ t n count k at c u
-After s first t₀ n₀ t n count known at (N.End r) = (u : Token) × (r ≡ rowOf u) × Closed s first t₀ n₀ t n count known u
+After s first t₀ n₀ t n count known at (N.Token u c k) = Made s first t₀ n₀ t n count k at c u
+After s first t₀ n₀ t n count known at (N.End u) = Closed s first t₀ n₀ t n count known u
 After s first t₀ n₀ t n count known at (N.Refused r) =
     (numbered s first ≡ Outcome.refused r) × (factsOf r .place ≤ length s)
 
@@ -209,12 +209,9 @@ module _ {s : List ℕ} {first : ℕ} {t₀ n₀ t n : List ℕ} {count known : 
       → n′ ≡ sets n (known * 2) (newCells m i)
       → After s first t₀ n₀ t n′ count known at (nextName known m c i)
   unfolding numberedFrom thenIdentified
-  of-name m c (I.Known i) n′ past e r whole d = (
-    named m i,
-    refl,
-    made (named m i) c (v .parts) known n′ (past .on) (past .within) (past .same-line) (past .name-place)
-        (v .parts-counted) (v .parts-room) (rw d (v .long-names)) (kept n′ d) (v .parts-within) (whole ∙ rw e),
-  )
+  of-name m c (I.Known i) n′ past e r whole d =
+      made (named m i) c (v .parts) known n′ (past .on) (past .within) (past .same-line) (past .name-place)
+      (v .parts-counted) (v .parts-room) (rw d (v .long-names)) (kept n′ d) (v .parts-within) (whole ∙ rw e)
   of-name m c (I.New i) n′ past e r whole d =
       let p = part (m .place) (m .len) in
       let l : length (namesCells (v .parts)) ≡ known * 2 =
@@ -225,13 +222,10 @@ module _ {s : List ℕ} {first : ℕ} {t₀ n₀ t n : List ℕ} {count known : 
       let cells : List ℕ = m .place ∷ m .len ∷ [] in
       let held : n′ ≡ padTo (length n₀) (namesCells (v .parts ++ (p ∷ []))) =
       d ∙ rw (v .parts-held, names-cells-snoc)
-      (sets-pad (length n₀) (known * 2) (namesCells (v .parts)) cells l (omega arith)) in (
-        named m i,
-        refl,
-        made (named m i) c (v .parts ++ (p ∷ [])) (known + 1) n′ (past .on) (past .within) (past .same-line)
-            (past .name-place) q (omega arith) (rw d (length-sets n _ cells ∙ v .long-names)) held
-            (within-snoc (length s) (v .parts) p (v .parts-within) (omega (arith, past .name-end, past .within))) (whole ∙ rw e),
-      )
+      (sets-pad (length n₀) (known * 2) (namesCells (v .parts)) cells l (omega arith)) in
+      made (named m i) c (v .parts ++ (p ∷ [])) (known + 1) n′ (past .on) (past .within) (past .same-line)
+      (past .name-place) q (omega arith) (rw d (length-sets n _ cells ∙ v .long-names)) held
+      (within-snoc (length s) (v .parts) p (v .parts-within) (omega (arith, past .name-end, past .within))) (whole ∙ rw e)
   of-name m c (I.Refused x) n′ past e r whole d = (whole ∙ rw e, omega (arith, r, past .name-place, v .within))
 
   of-piece : (p : Lexed) (n′ : List ℕ)
@@ -264,32 +258,26 @@ module _ {s : List ℕ} {first : ℕ} {t₀ n₀ t n : List ℕ} {count known : 
   of-piece (L.Name m c) n′ e past d =
       of-name m c (identified s (v .parts) m) n′ past refl (identified-room s (v .parts) m)
       (unfolded (L.Name m c) e) d
-  of-piece (L.Token u c) n′ e past d = (
-    u,
-    refl,
-    made u c (v .parts) known n′ (past .on) (past .within) (past .same-line) (past .token-place)
-        (v .parts-counted) (v .parts-room) (rw d (v .long-names)) (kept n′ d) (v .parts-within)
-        (unfolded (L.Token u c) e),
-  )
+  of-piece (L.Token u c) n′ e past d =
+      made u c (v .parts) known n′ (past .on) (past .within) (past .same-line) (past .token-place)
+      (v .parts-counted) (v .parts-room) (rw d (v .long-names)) (kept n′ d) (v .parts-within)
+      (unfolded (L.Token u c) e)
   of-piece (L.End c) n′ e past d =
-      let u = token T.EndOfFile (c .line) (c .place) in (
-        u,
-        refl,
-        record {
-          place = omega (arith, past .same-place, v .within);
-          full = λ f. unfolded (L.End c) e ∙ rw (v .counted, le-ltb count 4096 f);
-          done = λ f t′ h.
-              record {
-                tokens = v .found ++ (u ∷ []);
-                names = v .parts;
-                whole = unfolded (L.End c) e ∙ rw (v .counted, lt-ltb count 4096 f);
-                counted = length-append (v .found) (u ∷ []) ∙ omega (arith, v .counted);
-                names-counted = v .parts-counted;
-                held = stored u t′ f h;
-                names-held = kept n′ d;
-              };
-        },
-      )
+      let u = token T.EndOfFile (c .line) (c .place) in
+      record {
+        place = omega (arith, past .same-place, v .within);
+        full = λ f. unfolded (L.End c) e ∙ rw (v .counted, le-ltb count 4096 f);
+        done = λ f t′ h.
+            record {
+              tokens = v .found ++ (u ∷ []);
+              names = v .parts;
+              whole = unfolded (L.End c) e ∙ rw (v .counted, lt-ltb count 4096 f);
+              counted = length-append (v .found) (u ∷ []) ∙ omega (arith, v .counted);
+              names-counted = v .parts-counted;
+              held = stored u t′ f h;
+              names-held = kept n′ d;
+            };
+      }
   of-piece (L.Refused r) n′ e past d = (unfolded (L.Refused r) e, omega (arith, past .place, v .within))
 
   -- THE TURN: what next_token's answer makes of the loop's state

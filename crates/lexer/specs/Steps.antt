@@ -6,8 +6,8 @@ use lib.Dec.{ltb}
 use lib.ListN.{length, take}
 use lib.Seq.{sets}
 use Rattle.utils.specs.Bytes.{pick}
-use Rattle.pieces.specs.Tokens.{kindOf, carried}
-use Rattle.pieces.specs.Pieces.{cursor, token}
+use Rattle.pieces.specs.Tokens.{tokenCells}
+use Rattle.pieces.specs.Pieces.{token}
 use Rattle.lexer.specs.Numbered.{Part, part, identified, named}
 use Rattle.pieces.specs.declared.Cursor.{Cursor}
 use Rattle.pieces.specs.declared.Token.{Token}
@@ -17,7 +17,6 @@ use Rattle.lexer.specs.declared.Identified.{Identified}
 use Rattle.lexer.specs.declared.Identified.the-variants as I
 use Rattle.pieces.specs.declared.Lexed.{Lexed}
 use Rattle.pieces.specs.declared.Lexed.the-variants as L
-use Rattle.lexer.specs.declared.Row.{Row}
 use Rattle.lexer.specs.declared.Next.{Next}
 use Rattle.lexer.specs.declared.Next.the-variants as N
 
@@ -49,27 +48,17 @@ newCells n (I.Known i) = []
 newCells n (I.New i) = n .place ∷ n .len ∷ []
 newCells n (I.Refused r) = []
 
--- a token as its record, the record's cells, and where it begins
-abbrev pub rowOf : Token → Row
-rowOf t = record { kind = kindOf (t .value); value = carried (t .value); line = t .line .0; place = t .place }
-
-abbrev pub rowCells : Row → List ℕ
-rowCells r = r .kind ∷ r .value ∷ r .line ∷ r .place ∷ []
-
-abbrev pub atRow : Row → Cursor
-atRow r = cursor (r .place) (r .line)
-
 -- a name that has its number, and how many names there are then
 abbrev pub nextName : ℕ → Name → Cursor → Identified → Next
-nextName count n c (I.Known i) = N.Token (rowOf (named n i)) c count
-nextName count n c (I.New i) = N.Token (rowOf (named n i)) c (count + 1)
+nextName count n c (I.Known i) = N.Token (named n i) c count
+nextName count n c (I.New i) = N.Token (named n i) c (count + 1)
 nextName count n c (I.Refused r) = N.Refused r
 
 unfoldable pub nextOf : List ℕ → List Part → ℕ → Lexed → Next
 nextOf s names count (L.Skipped c) = N.Skipped c
 nextOf s names count (L.Name n c) = nextName count n c (identified s names n)
-nextOf s names count (L.Token t c) = N.Token (rowOf t) c count
-nextOf s names count (L.End c) = N.End (rowOf (token T.EndOfFile (c .line) (c .place)))
+nextOf s names count (L.Token t c) = N.Token t c count
+nextOf s names count (L.End c) = N.End (token T.EndOfFile (c .line) (c .place))
 nextOf s names count (L.Refused r) = N.Refused r
 
 -- what a piece adds to the names' cells
@@ -81,5 +70,5 @@ addedBy s names (L.End c) = []
 addedBy s names (L.Refused r) = []
 
 -- the tokens' cells with one token more, where there is room for it
-unfoldable pub pushed : List ℕ → ℕ → Row → List ℕ
-pushed cells count r = pick (ltb count 4096) (sets cells (count * 4) (rowCells r)) cells
+unfoldable pub pushed : List ℕ → ℕ → Token → List ℕ
+pushed cells count t = pick (ltb count 4096) (sets cells (count * 4) (tokenCells t)) cells

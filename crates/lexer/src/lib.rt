@@ -10,12 +10,13 @@ ghost use lib.ListN.{length, take};
 ghost use lib.Seq.{sets};
 ghost use Rattle.utils.specs.Bytes.{pick, padTo};
 ghost use Rattle.pieces.specs.Pieces.{pieceAt};
-ghost use Rattle.lexer.specs.Numbered.{identified, numbered};
-ghost use Rattle.lexer.specs.Steps.{firstNames, Table, newCells, rowOf, rowCells, atRow};
+ghost use Rattle.pieces.specs.Tokens.{tokenCells};
+ghost use Rattle.lexer.specs.Numbered.{atToken, identified, named, numbered};
+ghost use Rattle.lexer.specs.Steps.{firstNames, Table, newCells};
 ghost use Rattle.lexer.specs.Steps.{nextName, nextOf, addedBy, pushed};
 ghost use Rattle.lexer.specs.Read.{lexedFrom, resultOf, tokensIn, namesIn, Held, reading, padded, readOf};
 ghost use Rattle.lexer.specs.Read.{sized, IfSized, Reads};
-ghost use Rattle.lexer.specs.Decoded.{tokensOf, tokenAt, nameOf};
+ghost use Rattle.lexer.specs.Decoded.{tokensOf, nameIn, integerIn, indexBehind, tokenAt, nameOf};
 use pieces::Cursor;
 use pieces::Identifier;
 use pieces::Lexed;
@@ -23,6 +24,7 @@ use pieces::Location;
 use pieces::Name;
 use pieces::Refusal;
 use pieces::Token;
+use pieces::TokenValue;
 use pieces::scan;
 use pieces::tokens;
 
@@ -39,20 +41,12 @@ pub enum Identified {
     Refused(Refusal),
 }
 
-// A token's record: its four cells. (A token's value has 38 cases; from here on two numbers stand for it.)
-pub struct Row {
-    pub kind: u32,
-    pub value: u32,
-    pub line: u32,
-    pub place: usize,
-}
-
 // One turn of lex_all: a piece whose name has its number.
 pub enum Next {
     Skipped(Cursor),
     // The token, the cursor after it, and how many names there are then.
-    Token(Row, Cursor, usize),
-    End(Row),
+    Token(Token, Cursor, usize),
+    End(Token),
     Refused(Refusal),
 }
 
@@ -73,67 +67,41 @@ pub struct ReadAnswer {
 }
 
 // A token as its record has it, and the index of the token after it; the end token is followed by itself.
+// `name` is a local's, global's or label's number, `integer` an integer's bits; each is 0 of any other token.
 pub struct TokenAt {
     pub kind: u32,
-    pub value: u32,
+    pub name: Identifier,
+    pub integer: u32,
     pub line: Location,
     pub place: u32,
     pub next: usize,
 }
 
+// The token of a name that has its number.
+fn named(name: Name, i: Identifier) -> Token
+    ensures { λ r. ⌜ r ≡ named name i ⌝ }
+{
+    let value = tokens::value_of(name.kind, i.0);
+    let line = name.line;
+    Token {
+        value,
+        line,
+        place: name.place,
+    }
+}
+
 // A name with its number in the table.
 fn number_name(text: &[u8], names: &mut [u32], count: usize, name: Name, next: Cursor) -> Next
-    requires { ⌜ Table (now text) (now names) count × (name .place + name .len ≤ length (now text))
-        × (1 ≤ name .kind) × (name .kind ≤ 3) ⌝ }
+    requires { ⌜ Table (now text) (now names) count × (name .place + name .len ≤ length (now text)) ⌝ }
     ensures { λ r. ⌜ r ≡ nextName count name next
         (identified (now (text .entry)) (firstNames count (now (names .entry))) name) ⌝ }
     ensures { λ r. ⌜ now (names .exit) ≡ sets (now (names .entry)) (count * 2)
         (newCells name (identified (now (text .entry)) (firstNames count (now (names .entry))) name)) ⌝ }
 {
-    let kind = name.kind;
-    let line = name.line.0;
-    let place = name.place;
     match names::get_identifier(text, names, count, name) {
-        Identified::Known(i) => {
-            let value = i.0;
-            Next::Token(
-                Row {
-                    kind,
-                    value,
-                    line,
-                    place,
-                },
-                next,
-                count,
-            )
-        }
-        Identified::New(i) => {
-            let value = i.0;
-            Next::Token(
-                Row {
-                    kind,
-                    value,
-                    line,
-                    place,
-                },
-                next,
-                count + 1,
-            )
-        }
+        Identified::Known(i) => Next::Token(named(name, i), next, count),
+        Identified::New(i) => Next::Token(named(name, i), next, count + 1),
         Identified::Refused(refusal) => Next::Refused(refusal),
-    }
-}
-
-fn row_of(token: Token) -> Row
-    ensures { λ r. ⌜ r ≡ rowOf token ⌝ }
-{
-    let value = token.value;
-    let first = tokens::kinded(value);
-    Row {
-        kind: first.0,
-        value: first.1,
-        line: token.line.0,
-        place: token.place,
     }
 }
 
@@ -147,14 +115,13 @@ fn next_token(text: &[u8], names: &mut [u32], count: usize, at: Cursor) -> Next
         (addedBy (now (text .entry)) (firstNames count (now (names .entry)))
         (pieceAt (now (text .entry)) (at .place) (at .line))) ⌝ }
 {
-    match at.lex(text) {
+    match reader::lex_at(text, at.place, at.line) {
         Lexed::Skipped(next) => Next::Skipped(next),
-        Lexed::Token(token, next) => Next::Token(row_of(token), next, count),
+        Lexed::Token(token, next) => Next::Token(token, next, count),
         Lexed::Name(name, next) => number_name(text, names, count, name, next),
-        Lexed::End(end) => Next::End(Row {
-            kind: 38,
-            value: 0,
-            line: end.line,
+        Lexed::End(end) => Next::End(Token {
+            value: TokenValue::EndOfFile,
+            line: Location(end.line),
             place: end.place,
         }),
         Lexed::Refused(refusal) => Next::Refused(refusal),
@@ -162,27 +129,29 @@ fn next_token(text: &[u8], names: &mut [u32], count: usize, at: Cursor) -> Next
 }
 
 // Stores a token's four cells, after `count` records.
-fn put_row(cells: &mut [u32], count: usize, row: Row)
-    requires { ⌜ (count * 4 + 4 ≤ length (now cells)) × (row .place < 4294967296) ⌝ }
-    ensures { λ r. ⌜ now (cells .exit) ≡ sets (now (cells .entry)) (count * 4) (rowCells row) ⌝ }
+fn put_token(cells: &mut [u32], count: usize, token: Token)
+    requires { ⌜ (count * 4 + 4 ≤ length (now cells)) × (token .place < 4294967296) ⌝ }
+    ensures { λ r. ⌜ now (cells .exit) ≡ sets (now (cells .entry)) (count * 4) (tokenCells token) ⌝ }
 {
+    let value = token.value;
+    let first = tokens::kinded(value);
     let at = count * 4;
     let a1 = at + 1;
     let a2 = at + 2;
     let a3 = at + 3;
-    cells[at] = row.kind;
-    cells[a1] = row.value;
-    cells[a2] = row.line;
-    cells[a3] = row.place as u32;
+    cells[at] = first.0;
+    cells[a1] = first.1;
+    cells[a2] = token.line.0;
+    cells[a3] = token.place as u32;
 }
 
 // Stores a token behind `count` others, where there is room for it.
-fn push_token(cells: &mut [u32], count: usize, row: Row) -> bool
-    requires { ⌜ (16384 ≤ length (now cells)) × (row .place < 4294967296) ⌝ }
-    ensures { λ r. ⌜ (r ≡ ltb count 4096) × (now (cells .exit) ≡ pushed (now (cells .entry)) count row) ⌝ }
+fn push_token(cells: &mut [u32], count: usize, token: Token) -> bool
+    requires { ⌜ (16384 ≤ length (now cells)) × (token .place < 4294967296) ⌝ }
+    ensures { λ r. ⌜ (r ≡ ltb count 4096) × (now (cells .exit) ≡ pushed (now (cells .entry)) count token) ⌝ }
 {
     if count < 4096 {
-        put_row(cells, count, row);
+        put_token(cells, count, token);
         return true;
     }
     false
@@ -206,17 +175,17 @@ fn lex_all(text: &[u8], line: u32, tokens: &mut [u32], names: &mut [u32]) -> Lex
             Next::Skipped(next) => {
                 at = next;
             }
-            Next::Token(row, next, then) => {
-                if !push_token(tokens, count, row) {
-                    return LexResult::Refused(too_many(row));
+            Next::Token(token, next, then) => {
+                if !push_token(tokens, count, token) {
+                    return LexResult::Refused(too_many(token));
                 }
                 count += 1;
                 known = then;
                 at = next;
             }
-            Next::End(row) => {
-                if !push_token(tokens, count, row) {
-                    return LexResult::Refused(too_many(row));
+            Next::End(token) => {
+                if !push_token(tokens, count, token) {
+                    return LexResult::Refused(too_many(token));
                 }
                 return LexResult::Done(count as u32 + 1, known as u32);
             }
@@ -227,12 +196,12 @@ fn lex_all(text: &[u8], line: u32, tokens: &mut [u32], names: &mut [u32]) -> Lex
     }
 }
 
-fn too_many(row: Row) -> Refusal
-    ensures { λ r. ⌜ r ≡ Refusal.TooManyTokens (atRow row) ⌝ }
+fn too_many(token: Token) -> Refusal
+    ensures { λ r. ⌜ r ≡ Refusal.TooManyTokens (atToken token) ⌝ }
 {
     Refusal::TooManyTokens(Cursor {
-        place: row.place,
-        line: row.line,
+        place: token.place,
+        line: token.line.0,
     })
 }
 
@@ -320,7 +289,41 @@ pub fn read(text: &[u8], tokens: &mut [u32], names: &mut [u32], message: &mut [u
     if fits(tokens.len(), names.len(), message.len()) {
         return read_sized(text, tokens, names, message);
     }
-    report::refuse_at(30, 0, 0)
+    report::refuse_at(30, Location(0), 0)
+}
+
+// The number that a name's token carries in its second cell; 0 where the kind is no name's.
+fn name_in(kind: u32, carried: u32) -> Identifier
+    ensures { λ r. ⌜ r ≡ nameIn kind carried ⌝ }
+{
+    if kind == 0 {
+        return Identifier(0);
+    }
+    if kind <= 3 {
+        return Identifier(carried);
+    }
+    Identifier(0)
+}
+
+// The bits that an integer's token carries there; 0 where the kind is no integer's.
+fn integer_in(kind: u32, carried: u32) -> u32
+    ensures { λ r. ⌜ r ≡ integerIn kind carried ⌝ }
+{
+    if kind == 4 {
+        return carried;
+    }
+    0
+}
+
+// The index behind a token: the end token is followed by itself.
+fn index_behind(kind: u32, at: usize) -> usize
+    requires { ⌜ at < 18446744073709551615 ⌝ }
+    ensures { λ r. ⌜ r ≡ indexBehind kind at ⌝ }
+{
+    if kind == 38 {
+        return at;
+    }
+    at + 1
 }
 
 // The token at an index. Past the slice's last record stands an end token.
@@ -330,29 +333,20 @@ pub fn token_at(tokens: &[u32], at: usize) -> TokenAt
     if at < tokens.len() / 4 {
         let i = at * 4;
         let kind = tokens[i];
-        let value = tokens[i + 1];
-        let line = Location(tokens[i + 2]);
-        let place = tokens[i + 3];
-        if kind == 38 {
-            return TokenAt {
-                kind,
-                value,
-                line,
-                place,
-                next: at,
-            };
-        }
+        let carried = tokens[i + 1];
         return TokenAt {
             kind,
-            value,
-            line,
-            place,
-            next: at + 1,
+            name: name_in(kind, carried),
+            integer: integer_in(kind, carried),
+            line: Location(tokens[i + 2]),
+            place: tokens[i + 3],
+            next: index_behind(kind, at),
         };
     }
     TokenAt {
         kind: 38,
-        value: 0,
+        name: Identifier(0),
+        integer: 0,
         line: Location(0),
         place: 0,
         next: at,

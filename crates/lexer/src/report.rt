@@ -8,15 +8,16 @@ ghost use Rattle.utils.specs.Message.{reported};
 ghost use Rattle.pieces.specs.Refusals.{factsOf, messageOf, unexpected};
 ghost use Rattle.lexer.specs.Read.{refusal, answerOf};
 use crate::ReadAnswer;
+use pieces::Location;
 use pieces::Refusal;
 
-pub(crate) fn refuse_at(number: u32, line: u32, place: usize) -> ReadAnswer
+pub(crate) fn refuse_at(number: u32, line: Location, place: usize) -> ReadAnswer
     requires { ⌜ place < 4294967296 ⌝ }
-    ensures { λ r. ⌜ r ≡ refusal number line place ⌝ }
+    ensures { λ r. ⌜ r ≡ refusal number (line .0) place ⌝ }
 {
     ReadAnswer {
         number,
-        line,
+        line: line.0,
         place: place as u32,
         tokens: 0,
         names: 0,
@@ -28,25 +29,25 @@ pub(crate) fn answer_of(refusal: Refusal) -> ReadAnswer
     ensures { λ r. ⌜ r ≡ answerOf refusal ⌝ }
 {
     match refusal {
-        Refusal::NotAscii(line) => refuse_at(1, line, 0),
-        Refusal::CommentNotClosed(at) => refuse_at(2, at.line, at.place),
-        Refusal::UnexpectedByte(_, at) => refuse_at(3, at.line, at.place),
-        Refusal::NumberExpected(at) => refuse_at(4, at.line, at.place),
-        Refusal::TooManyBytes => refuse_at(31, 0, 0),
-        Refusal::TooManyTokens(at) => refuse_at(32, at.line, at.place),
-        Refusal::TooManyNames(at) => refuse_at(33, at.line, at.place),
-        Refusal::NameTooLong(at) => refuse_at(34, at.line, at.place),
+        Refusal::NotAscii(line) => refuse_at(1, Location(line), 0),
+        Refusal::CommentNotClosed(at) => refuse_at(2, Location(at.line), at.place),
+        Refusal::UnexpectedByte(_, at) => refuse_at(3, Location(at.line), at.place),
+        Refusal::NumberExpected(at) => refuse_at(4, Location(at.line), at.place),
+        Refusal::TooManyBytes => refuse_at(31, Location(0), 0),
+        Refusal::TooManyTokens(at) => refuse_at(32, Location(at.line), at.place),
+        Refusal::TooManyNames(at) => refuse_at(33, Location(at.line), at.place),
+        Refusal::NameTooLong(at) => refuse_at(34, Location(at.line), at.place),
     }
 }
 
-fn report_unexpected(message: &mut [u8], line: u32, b: u8)
+fn report_unexpected(message: &mut [u8], line: Location, b: u8)
     requires { ⌜ 512 ≤ length (now message) ⌝ }
     ensures { λ r. ⌜ now (message .exit)
-        ≡ padTo (length (now (message .entry))) (reported line [] (unexpected b)) ⌝ }
+        ≡ padTo (length (now (message .entry))) (reported (line .0) [] (unexpected b)) ⌝ }
 {
     let mut text = *b"Unexpected token: ' '.";
     text[19] = b;
-    utils::error(message, line, &text);
+    utils::error(message, line.0, &text);
 }
 
 // The message of a refusal, and zeros after it.
@@ -59,7 +60,7 @@ pub(crate) fn report(message: &mut [u8], refusal: Refusal)
         Refusal::CommentNotClosed(at) => {
             utils::error(message, at.line, b"Multiline comment no closed.")
         }
-        Refusal::UnexpectedByte(b, at) => report_unexpected(message, at.line, b),
+        Refusal::UnexpectedByte(b, at) => report_unexpected(message, Location(at.line), b),
         Refusal::NumberExpected(at) => utils::error(
             message,
             at.line,

@@ -25,11 +25,11 @@ wordsRight : List Word → Bool
 wordsRight [] = true
 wordsRight (w ∷ ws) =
     let more = wordsRight ws in
-    pick (sameBytes (shown (kindOf (w .value)) 0) (w .spelling)) more false
+    pick (sameBytes (shown (kindOf (w .value)) (record { 0 = 0 }) 0) (w .spelling)) more false
 
 signRight : ℕ → OptionValue → Bool
 signRight b O.None = false
-signRight b (O.Some v) = sameBytes (shown (kindOf v) 0) (b ∷ [])
+signRight b (O.Some v) = sameBytes (shown (kindOf v) (record { 0 = 0 }) 0) (b ∷ [])
 
 signsRight : List ℕ → Bool
 signsRight [] = true

@@ -9,6 +9,7 @@ use Rattle.utils.specs.Bytes.{pick, bytes}
 use Rattle.utils.specs.Message.{decimal, reported}
 use Rattle.lexer.specs.Decoded.{Tok, tokenAt, nameOf}
 use Rattle.lexer.specs.declared.TokenAt.{TokenAt}
+use Rattle.pieces.specs.declared.Identifier.{Identifier}
 use Rattle.parser.specs.Kinds as T
 use Rattle.parser.specs.declared.Refusal.{Refusal}
 
@@ -67,11 +68,11 @@ unfoldable pub signed : ℕ → List ℕ
 signed bits = pick (ltb bits 2147483648) (decimal bits) (bytes "-" ++ decimal (4294967296 - bits))
 
 -- a token as Display shows it: `local_3` with the name's number, an integer, or the word or sign
-unfoldable pub shown : ℕ → ℕ → List ℕ
-shown kind value =
+unfoldable pub shown : ℕ → Identifier → ℕ → List ℕ
+shown kind name integer =
     pick (ltb T.integer kind) (wordOf kind)
-    (pick (eqb kind T.integer) (signed value)
-    (wordOf kind ++ decimal value))
+    (pick (eqb kind T.integer) (signed integer)
+    (wordOf kind ++ decimal (name .0)))
 
 -- Display for Type (ir.rs), by a type's cell
 unfoldable pub typeWord : ℕ → List ℕ
@@ -88,29 +89,30 @@ quoted s = bytes "'" ++ (s ++ bytes "'")
 -- ITEM. ---------------------------------------------------------------------------------------------------------------
 
 -- Token::error (lexer.rs): the token itself
-unfoldable pub atToken : ℕ → ℕ → List ℕ
-atToken kind value = pick (eqb kind T.endOfFile) (bytes "at end of file") (bytes "at " ++ quoted (shown kind value))
+unfoldable pub atToken : ℕ → Identifier → ℕ → List ℕ
+atToken kind name integer =
+    pick (eqb kind T.endOfFile) (bytes "at end of file") (bytes "at " ++ quoted (shown kind name integer))
 
 -- SymbolTable and LabelsToBlocks (ir.rs, parser.rs): a name as the text spells it
 abbrev pub atName : List ℕ → List ℕ
 atName name = bytes "at " ++ quoted name
 
 -- The token for 5 to 12 and 17 to 21; a name for 13, its token's own, and for 15 and 16; nothing for 14, where the Rust
--- has none, and for the numbers that are not the Rust's. (The token's kind and value, the refusal's number and name.)
-unfoldable pub itemOf : List ℕ → List ℕ → ℕ → ℕ → ℕ → ℕ → List ℕ
-itemOf text names kind value n name =
-    pick (ltb n 13) (atToken kind value)
-    (pick (eqb n 13) (atName (nameOf text names value))
+-- has none, and for the numbers that are not the Rust's. (The token's kind, name and integer, the refusal's number and name.)
+unfoldable pub itemOf : List ℕ → List ℕ → ℕ → Identifier → ℕ → ℕ → Identifier → List ℕ
+itemOf text names kind own integer n name =
+    pick (ltb n 13) (atToken kind own integer)
+    (pick (eqb n 13) (atName (nameOf text names (own .0)))
     (pick (eqb n 14) []
-    (pick (ltb n 17) (atName (nameOf text names name))
-    (pick (ltb n 22) (atToken kind value)
+    (pick (ltb n 17) (atName (nameOf text names (name .0)))
+    (pick (ltb n 22) (atToken kind own integer)
     []))))
 
 -- TEXT. ---------------------------------------------------------------------------------------------------------------
 
 -- 5
 abbrev pub expected : ℕ → List ℕ
-expected kind = quoted (shown kind 0) ++ bytes " expected."
+expected kind = quoted (shown kind (record { 0 = 0 }) 0) ++ bytes " expected."
 
 -- 14
 abbrev pub missing : List ℕ → List ℕ
@@ -154,10 +156,10 @@ fixed n =
     []))))))))))))))))
 
 -- (The refusal's number, what was wanted, what was found, its name.)
-unfoldable pub textOf : List ℕ → List ℕ → ℕ → ℕ → ℕ → ℕ → List ℕ
+unfoldable pub textOf : List ℕ → List ℕ → ℕ → ℕ → ℕ → Identifier → List ℕ
 textOf text names n wanted found name =
     pick (eqb n 5) (expected wanted)
-    (pick (eqb n 14) (missing (nameOf text names name))
+    (pick (eqb n 14) (missing (nameOf text names (name .0)))
     (pick (eqb n 15) (unexpected found wanted)
     (pick (eqb n 17) (otherType wanted found)
     (pick (eqb n 20) (otherCount wanted found)
@@ -167,14 +169,14 @@ textOf text names n wanted found name =
 
 abbrev pub messageAt : List ℕ → List ℕ → TokenAt → Refusal → List ℕ
 messageAt text names t e =
-    reported (t .line .0) (itemOf text names (t .kind) (t .value) (e .number) (e .name .0))
-    (textOf text names (e .number) (e .wanted) (e .found) (e .name .0))
+    reported (t .line .0) (itemOf text names (t .kind) (t .name) (t .integer) (e .number) (e .name))
+    (textOf text names (e .number) (e .wanted) (e .found) (e .name))
 
 -- `ITEM: TEXT` and a newline
 abbrev pub behindError : List ℕ → List ℕ → TokenAt → Refusal → List ℕ
 behindError text names t e =
-    itemOf text names (t .kind) (t .value) (e .number) (e .name .0)
-    ++ (bytes ": " ++ (textOf text names (e .number) (e .wanted) (e .found) (e .name .0) ++ (10 ∷ [])))
+    itemOf text names (t .kind) (t .name) (t .integer) (e .number) (e .name)
+    ++ (bytes ": " ++ (textOf text names (e .number) (e .wanted) (e .found) (e .name) ++ (10 ∷ [])))
 
 -- of a text with its tokens, its names' cells and its refusal
 abbrev pub messageOf : List ℕ → List Tok → List ℕ → Refusal → List ℕ

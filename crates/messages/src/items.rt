@@ -6,23 +6,24 @@ ghost use lib.Seq.{sets};
 ghost use Rattle.lexer.specs.Decoded.{nameOf};
 ghost use Rattle.messages.specs.Messages.{atToken, atName, itemOf, ShortNames};
 use crate::words;
+use pieces::Identifier;
 
-fn put_at_token(buf: &mut [u8], at: usize, kind: u32, value: u32) -> usize
+fn put_at_token(buf: &mut [u8], at: usize, kind: u32, name: Identifier, integer: u32) -> usize
     requires { ⌜ at + 26 ≤ length (now buf) ⌝ }
-    ensures { λ r. ⌜ (r ≡ at + length (atToken kind value))
-        × (now (buf .exit) ≡ sets (now (buf .entry)) at (atToken kind value)) × (r ≤ at + 26) ⌝ }
+    ensures { λ r. ⌜ (r ≡ at + length (atToken kind name integer))
+        × (now (buf .exit) ≡ sets (now (buf .entry)) at (atToken kind name integer)) × (r ≤ at + 26) ⌝ }
 {
     if kind == 38 {
         return utils::put(buf, at, b"at end of file");
     }
     let p1 = utils::put(buf, at, b"at ");
-    words::put_quoted_shown(buf, p1, kind, value)
+    words::put_quoted_shown(buf, p1, kind, name, integer)
 }
 
-fn put_at_name(buf: &mut [u8], at: usize, text: &[u8], names: &[u32], name: u32) -> usize
+fn put_at_name(buf: &mut [u8], at: usize, text: &[u8], names: &[u32], name: Identifier) -> usize
     requires { ⌜ (at + 69 ≤ length (now buf)) × ShortNames (now text) (now names) ⌝ }
-    ensures { λ r. ⌜ (r ≡ at + length (atName (nameOf (now (text .entry)) (now (names .entry)) name)))
-        × (now (buf .exit) ≡ sets (now (buf .entry)) at (atName (nameOf (now (text .entry)) (now (names .entry)) name)))
+    ensures { λ r. ⌜ (r ≡ at + length (atName (nameOf (now (text .entry)) (now (names .entry)) (name .0))))
+        × (now (buf .exit) ≡ sets (now (buf .entry)) at (atName (nameOf (now (text .entry)) (now (names .entry)) (name .0))))
         × (r ≤ at + 69) ⌝ }
 {
     let p1 = utils::put(buf, at, b"at ");
@@ -35,21 +36,22 @@ pub(crate) fn put_item(
     text: &[u8],
     names: &[u32],
     kind: u32,
-    value: u32,
+    own: Identifier,
+    integer: u32,
     number: u32,
-    name: u32,
+    name: Identifier,
 ) -> usize
     requires { ⌜ (at + 69 ≤ length (now buf)) × ShortNames (now text) (now names) ⌝ }
-    ensures { λ r. ⌜ (r ≡ at + length (itemOf (now (text .entry)) (now (names .entry)) kind value number name))
+    ensures { λ r. ⌜ (r ≡ at + length (itemOf (now (text .entry)) (now (names .entry)) kind own integer number name))
         × (now (buf .exit) ≡ sets (now (buf .entry)) at
-        (itemOf (now (text .entry)) (now (names .entry)) kind value number name))
+        (itemOf (now (text .entry)) (now (names .entry)) kind own integer number name))
         × (r ≤ at + 69) ⌝ }
 {
     if number < 13 {
-        return put_at_token(buf, at, kind, value);
+        return put_at_token(buf, at, kind, own, integer);
     }
     if number == 13 {
-        return put_at_name(buf, at, text, names, value);
+        return put_at_name(buf, at, text, names, own);
     }
     if number == 14 {
         return at;
@@ -58,7 +60,7 @@ pub(crate) fn put_item(
         return put_at_name(buf, at, text, names, name);
     }
     if number < 22 {
-        return put_at_token(buf, at, kind, value);
+        return put_at_token(buf, at, kind, own, integer);
     }
     at
 }

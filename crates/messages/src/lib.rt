@@ -28,8 +28,9 @@ fn put_behind(
         × (r ≤ at + 163) ⌝ }
 {
     let number = e.number;
-    let name = e.name.0;
-    let p1 = items::put_item(buf, at, text, names, t.kind, t.value, number, name);
+    let name = e.name;
+    let own = t.name;
+    let p1 = items::put_item(buf, at, text, names, t.kind, own, t.integer, number, name);
     let p2 = utils::put(buf, p1, b": ");
     let p3 = texts::put_text(buf, p2, text, names, number, e.wanted, e.found, name);
     utils::put(buf, p3, b"\n")

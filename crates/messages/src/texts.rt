@@ -7,21 +7,22 @@ ghost use Rattle.lexer.specs.Decoded.{nameOf};
 ghost use Rattle.messages.specs.Messages.{expected, missing, unexpected, otherType, otherCount, fixed, textOf};
 ghost use Rattle.messages.specs.Messages.{ShortNames};
 use crate::words;
+use pieces::Identifier;
 
 fn put_expected(buf: &mut [u8], at: usize, kind: u32) -> usize
     requires { ⌜ at + 33 ≤ length (now buf) ⌝ }
     ensures { λ r. ⌜ (r ≡ at + length (expected kind))
         × (now (buf .exit) ≡ sets (now (buf .entry)) at (expected kind)) × (r ≤ at + 33) ⌝ }
 {
-    let p1 = words::put_quoted_shown(buf, at, kind, 0);
+    let p1 = words::put_quoted_shown(buf, at, kind, Identifier(0), 0);
     utils::put(buf, p1, b" expected.")
 }
 
-fn put_missing(buf: &mut [u8], at: usize, text: &[u8], names: &[u32], name: u32) -> usize
+fn put_missing(buf: &mut [u8], at: usize, text: &[u8], names: &[u32], name: Identifier) -> usize
     requires { ⌜ (at + 91 ≤ length (now buf)) × ShortNames (now text) (now names) ⌝ }
-    ensures { λ r. ⌜ (r ≡ at + length (missing (nameOf (now (text .entry)) (now (names .entry)) name)))
+    ensures { λ r. ⌜ (r ≡ at + length (missing (nameOf (now (text .entry)) (now (names .entry)) (name .0))))
         × (now (buf .exit) ≡ sets (now (buf .entry)) at
-        (missing (nameOf (now (text .entry)) (now (names .entry)) name)))
+        (missing (nameOf (now (text .entry)) (now (names .entry)) (name .0))))
         × (r ≤ at + 91) ⌝ }
 {
     let p1 = utils::put(buf, at, b"Branch target ");
@@ -101,7 +102,7 @@ pub(crate) fn put_text(
     number: u32,
     wanted: u32,
     found: u32,
-    name: u32,
+    name: Identifier,
 ) -> usize
     requires { ⌜ (at + 91 ≤ length (now buf)) × ShortNames (now text) (now names) ⌝ }
     ensures { λ r. ⌜ (r ≡ at + length (textOf (now (text .entry)) (now (names .entry)) number wanted found name))

@@ -90,19 +90,19 @@ fn put_signed(buf: &mut [u8], at: usize, bits: u32) -> usize
     utils::put_decimal(buf, next, 4294967295 - bits + 1)
 }
 
-fn put_shown(buf: &mut [u8], at: usize, kind: u32, value: u32) -> usize
+fn put_shown(buf: &mut [u8], at: usize, kind: u32, name: Identifier, integer: u32) -> usize
     requires { ⌜ at + 21 ≤ length (now buf) ⌝ }
-    ensures { λ r. ⌜ (r ≡ at + length (shown kind value))
-        × (now (buf .exit) ≡ sets (now (buf .entry)) at (shown kind value)) × (r ≤ at + 21) ⌝ }
+    ensures { λ r. ⌜ (r ≡ at + length (shown kind name integer))
+        × (now (buf .exit) ≡ sets (now (buf .entry)) at (shown kind name integer)) × (r ≤ at + 21) ⌝ }
 {
     if kind > 4 {
         return put_word(buf, at, kind);
     }
     if kind == 4 {
-        return put_signed(buf, at, value);
+        return put_signed(buf, at, integer);
     }
     let next = put_word(buf, at, kind);
-    utils::put_decimal(buf, next, value)
+    utils::put_decimal(buf, next, name.0)
 }
 
 fn put_type(buf: &mut [u8], at: usize, cell: u32) -> usize
@@ -119,13 +119,19 @@ fn put_type(buf: &mut [u8], at: usize, cell: u32) -> usize
     }
 }
 
-pub(crate) fn put_quoted_shown(buf: &mut [u8], at: usize, kind: u32, value: u32) -> usize
+pub(crate) fn put_quoted_shown(
+    buf: &mut [u8],
+    at: usize,
+    kind: u32,
+    name: Identifier,
+    integer: u32,
+) -> usize
     requires { ⌜ at + 23 ≤ length (now buf) ⌝ }
-    ensures { λ r. ⌜ (r ≡ at + length (quoted (shown kind value)))
-        × (now (buf .exit) ≡ sets (now (buf .entry)) at (quoted (shown kind value))) × (r ≤ at + 23) ⌝ }
+    ensures { λ r. ⌜ (r ≡ at + length (quoted (shown kind name integer)))
+        × (now (buf .exit) ≡ sets (now (buf .entry)) at (quoted (shown kind name integer))) × (r ≤ at + 23) ⌝ }
 {
     let p1 = utils::put(buf, at, b"'");
-    let p2 = put_shown(buf, p1, kind, value);
+    let p2 = put_shown(buf, p1, kind, name, integer);
     utils::put(buf, p2, b"'")
 }
 
@@ -139,13 +145,13 @@ pub(crate) fn put_quoted_type(buf: &mut [u8], at: usize, cell: u32) -> usize
     utils::put(buf, p2, b"'")
 }
 
-fn put_name(buf: &mut [u8], at: usize, text: &[u8], names: &[u32], name: u32) -> usize
+fn put_name(buf: &mut [u8], at: usize, text: &[u8], names: &[u32], name: Identifier) -> usize
     requires { ⌜ (at + 64 ≤ length (now buf)) × ShortNames (now text) (now names) ⌝ }
-    ensures { λ r. ⌜ (r ≡ at + length (nameOf (now (text .entry)) (now (names .entry)) name))
-        × (now (buf .exit) ≡ sets (now (buf .entry)) at (nameOf (now (text .entry)) (now (names .entry)) name))
+    ensures { λ r. ⌜ (r ≡ at + length (nameOf (now (text .entry)) (now (names .entry)) (name .0)))
+        × (now (buf .exit) ≡ sets (now (buf .entry)) at (nameOf (now (text .entry)) (now (names .entry)) (name .0)))
         × (r ≤ at + 64) ⌝ }
 {
-    let part = lexer::get_name(text, names, Identifier(name));
+    let part = lexer::get_name(text, names, name);
     utils::put(buf, at, part)
 }
 
@@ -154,11 +160,11 @@ pub(crate) fn put_quoted_name(
     at: usize,
     text: &[u8],
     names: &[u32],
-    name: u32,
+    name: Identifier,
 ) -> usize
     requires { ⌜ (at + 66 ≤ length (now buf)) × ShortNames (now text) (now names) ⌝ }
-    ensures { λ r. ⌜ (r ≡ at + length (quoted (nameOf (now (text .entry)) (now (names .entry)) name)))
-        × (now (buf .exit) ≡ sets (now (buf .entry)) at (quoted (nameOf (now (text .entry)) (now (names .entry)) name)))
+    ensures { λ r. ⌜ (r ≡ at + length (quoted (nameOf (now (text .entry)) (now (names .entry)) (name .0))))
+        × (now (buf .exit) ≡ sets (now (buf .entry)) at (quoted (nameOf (now (text .entry)) (now (names .entry)) (name .0))))
         × (r ≤ at + 66) ⌝ }
 {
     let p1 = utils::put(buf, at, b"'");

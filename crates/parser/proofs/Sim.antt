@@ -10,7 +10,7 @@ use borrow.Author.Tests.{eqb-true, eqb-false, eq-eqb, ne-eqb}
 use lib.Dec.{eqb, leb}
 use lib.ListN.{length}
 use Rattle.utils.specs.Bytes.{pick}
-use Rattle.lexer.specs.Decoded.{Tok, tokenAt}
+use Rattle.lexer.specs.Decoded.{Tok, isName, tokenAt}
 use Rattle.pieces.specs.declared.Identifier.{Identifier}
 use Rattle.parser.specs.Step.{look, thenAt, thenNamed, thenType, thenDefined}
 use Rattle.parser.specs.Grammar.{consumeD, namedD, localD, labelD, globalD, typeD, printD, retD, jumpD, branchD}
@@ -19,7 +19,7 @@ use Rattle.parser.specs.Grammar.{definitionD, instructionD}
 use Rattle.parser.specs.Labels.{has, labelledD}
 use Rattle.parser.specs.Runs.{Variables, ended, andThen, formalD, formalsFromD, formalsD, argumentsD, calling}
 use Rattle.parser.specs.Runs.{callD}
-use Rattle.parser.specs.Moved.{Move, isName, Sim, SimName, SimE, SimC, SimN, SimR, SimV, SimD, SimO, SimP, Rel}
+use Rattle.parser.specs.Moved.{Move, Sim, SimName, SimE, SimC, SimN, SimR, SimV, SimD, SimO, SimP, Rel}
 use Rattle.parser.specs.Moved.{Each, SimVs, SimCalling, SimNumber}
 use Rattle.parser.specs.declared.Refusal.{Refusal}
 use Rattle.parser.specs.declared.Ty.{Ty}

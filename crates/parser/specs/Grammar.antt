@@ -31,7 +31,7 @@ consumeD ts at kind =
 unfoldable pub namedD : List Tok → ℕ → ℕ → ℕ → Named
 namedD ts at kind number =
     let t = tokenAt ts at in
-    pick (eqb (t .kind) kind) (N.At (record { 0 = t .value }) (t .next)) (N.Refused (refusal number at 0))
+    pick (eqb (t .kind) kind) (N.At (t .name) (t .next)) (N.Refused (refusal number at 0))
 
 abbrev pub localD : List Tok → ℕ → Named
 localD ts at = namedD ts at T.local 6

@@ -5,10 +5,9 @@
 use Prim.Native.Nat.{ℕ, _+_, _≤_, _<_}
 use mathlib.Core.Path.{_≡_}
 use mathlib.Core.List.{List, [], _∷_}
-use mathlib.Core.Bool.{Bool, true, false}
-use lib.Dec.{leb}
+use mathlib.Core.Bool.{true}
 use Rattle.utils.specs.Bytes.{pick}
-use Rattle.lexer.specs.Decoded.{Tok, tokenAt}
+use Rattle.lexer.specs.Decoded.{Tok, isName, tokenAt}
 use Rattle.lexer.specs.declared.TokenAt.{TokenAt}
 use Rattle.pieces.specs.declared.Identifier.{Identifier}
 use Rattle.parser.specs.Kinds as T
@@ -41,16 +40,13 @@ pub record Move : Type 0 where
   pub name : ℕ → ℕ
   pub apart : (x y : ℕ) → x < names → y < names → name x ≡ name y → x ≡ y
 
--- locals, globals and labels, the first kinds
-unfoldable pub isName : ℕ → Bool
-isName k = pick (leb k 0) false (leb k T.label)
-
 -- a token, moved
 abbrev pub moveT : Move → TokenAt → TokenAt
 moveT m t =
     record {
       kind = t .kind;
-      value = pick (isName (t .kind)) (m .name (t .value)) (t .value);
+      name = record { 0 = pick (isName (t .kind)) (m .name (t .name .0)) (t .name .0) };
+      integer = t .integer;
       line = record { 0 = m .down + t .line .0 };
       place = m .on + t .place;
       next = m .by + t .next;
@@ -59,7 +55,7 @@ moveT m t =
 -- The first n tokens of ts′ stand in ts from `by` on. Only a closing brace may be the last of them.
 pub record Sim (m : Move) (n : ℕ) (ts ts′ : List Tok) : Type 0 where
   pub same : (i : ℕ) → i < n → tokenAt ts (m .by + i) ≡ moveT m (tokenAt ts′ i)
-  pub fit : (i : ℕ) → i < n → isName (tokenAt ts′ i .kind) ≡ true → tokenAt ts′ i .value < m .names
+  pub fit : (i : ℕ) → i < n → isName (tokenAt ts′ i .kind) ≡ true → tokenAt ts′ i .name .0 < m .names
   pub near : (i : ℕ) → i < n → tokenAt ts′ i .next ≤ n
   pub inner : (i : ℕ) → i < n → (tokenAt ts′ i .kind ≡ T.rightBrace → ⊥) → tokenAt ts′ i .next < n
 

@@ -5,18 +5,19 @@ ghost use lib.ListN.{length, take};
 ghost use Rattle.lexer.specs.Decoded.{tokensOf};
 ghost use Rattle.parser.specs.Labels.{has, labelledD};
 use crate::Consumed;
+use crate::Identifier;
 use crate::Named;
 use crate::consume;
 use crate::consume_named;
 use crate::refuse;
 
-fn has_label(labels: &[u32], count: usize, name: u32) -> bool
+fn has_label(labels: &[u32], count: usize, name: Identifier) -> bool
     requires { ⌜ count ≤ length (now labels) ⌝ }
-    ensures { λ r. ⌜ r ≡ has (take count (now (labels .entry))) name ⌝ }
+    ensures { λ r. ⌜ r ≡ has (take count (now (labels .entry))) (name .0) ⌝ }
 {
     let mut i: usize = 0;
     while i < count {
-        if labels[i] == name {
+        if labels[i] == name.0 {
             return true;
         }
         i += 1;
@@ -37,7 +38,7 @@ pub fn parse_label(tokens: &[u32], at: usize, labels: &[u32], count: usize) -> N
                 if 255 <= count {
                     return Named::Refused(refuse(38, at));
                 }
-                if has_label(labels, count, label.0) {
+                if has_label(labels, count, label) {
                     return Named::Refused(refuse(13, at));
                 }
                 Named::At(label, at2)

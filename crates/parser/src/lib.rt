@@ -129,7 +129,8 @@ pub fn consume_named(tokens: &[u32], at: usize, kind: u32, number: u32) -> Named
 {
     let t = lexer::token_at(tokens, at);
     if t.kind == kind {
-        return Named::At(Identifier(t.value), t.next);
+        let name = t.name;
+        return Named::At(name, t.next);
     }
     Named::Refused(refuse(number, at))
 }

@@ -114,9 +114,15 @@ same-length-3 c = search needs
 -- src/lib.rt:66:1
 returns : tie.Need-returns
 returns c =
-    refuses-by-cells (now (c .before .before .before .before .before .before .before .before .before .before .before .before .before .before .before .before .before .before .before .before .before .before .before .before .before .before .args .text)) (now (c .before .before .before .before .before .before .before .before .before .before .before .before .before .before .before .before .before .before .before .before .before .before .before .before .before .before .args .message)) (now (c .before .before .before .before .before .before .before .before .before .before .before .before .before .before .before .before .before .before .before .before .before .before .before .before .before .before .args .tokens)) (now (c .before .before .before .before .before .before .before .before .before .before .before .before .before .before .before .before .before .before .before .before .before .before .before .before .before .before .args .names)) (c .before .before .before .before .before .before .before .before .before .before .before .before .before .before .before .before .before .before .before .before .before .before .before .before .before .before .args .e) _ _ (used-tokens (c .before .before .before .before .before .before .before .before .before .before .before .before .before .before .before .before .before .before .before .before .before .before .before .before .before .before .pre .0))
-    (used-names (c .before .before .before .before .before .before .before .before .before .before .before .before .before .before .before .before .before .before .before .before .before .before .before .before .before .before .pre .0)) (c .before .before .before .before .before .before .before .before .before .token-at .result) (c .before .before .before .before .before .before .before .before .before .token-at .ensures) _ _ _ _ (c .refused .ensures) (c .before .before .before .before .before .before .before .before .before .before .before .before .before .before .put-message .ensures) (c .before .before .before .before .before .before .before .clear .ensures)
-    (c .before .before .before .clear2 .ensures)
+    let back8 = c .before .before .before .before .before .before .before .before in
+    let back15 = back8 .before .before .before .before .before .before .before in
+    let back27 = back15 .before .before .before .before .before .before .before .before .before .before .before .before in
+    let a = back27 .args in
+    let lexed = back27 .pre .0 in
+    let token-at = back8 .before .before .token-at in
+    refuses-by-cells (now (a .text)) (now (a .message)) (now (a .tokens)) (now (a .names)) (a .e) _ _ (used-tokens lexed)
+    (used-names lexed) (token-at .result) (token-at .ensures) _ _ _ _ (c .refused .ensures)
+    (back15 .put-message .ensures) (back8 .clear .ensures) (c .before .before .before .before .clear2 .ensures)
 
 pub refuse-spec : {M : Type 1} → statement M
 refuse-spec =

@@ -8,7 +8,6 @@ use lib.ListN.{length}
 use denote.Ref.{now}
 use Rattle.lexer.specs.Steps.{pushed}
 use Rattle.utils.specs.Bytes.{pick}
-use Rattle.lexer.specs.declared.Row.{Row}
 use Rattle.lexer.proofs.Turns.{Lexing, start, taken, turn, finish}
 use Rattle.lexer.proofs.lex_all.Statement.{statement}
 use Rattle.lexer.proofs.lex_all.Tie as tie
@@ -98,8 +97,8 @@ loop-again c =
     (next-token .ensures .1)) in
     after .0
 
-enum-known-row : tie.Need-enum-known-row Inv-loop μ-loop
-enum-known-row c = search needs
+enum-known-token : tie.Need-enum-known-token Inv-loop μ-loop
+enum-known-token c = search needs
 
 push-token-requires : tie.Need-push-token-requires Inv-loop μ-loop
 push-token-requires c κs =
@@ -108,17 +107,16 @@ push-token-requires c κs =
     let clear = back8 .before .before .before .before .before .before .before .clear in
     let pre = back16 .before .before .before .before .pre in
     let clear2 = back8 .before .before .before .clear2 in
-    let row = c .before .before .row in
+    let token = c .before .before .token in
     let loop = c .before .before .before .before .before .before .before .before .loop in
     let next-token = c .before .before .before .before .before .before .next-token in
     let ts : 16384 ≤ length (clear .last .0) = omega (arith, clear .kept .0, pre) in
     let ns : 2048 ≤ length (clear2 .last .0) = omega (arith, clear2 .kept .0, pre) in
     let after =
-    rw (row .given .1) at
+    rw (token .given .1) at
     (turn ts ns (loop .inv) (next-token .result) (next-token .last .1 .0) (next-token .ensures .0)
     (next-token .ensures .1)) in
-    let place = ap (λ (r : Row). r .place) (after .1) in
-    omega (arith, loop .inv .long, ts, after .2 .place, place, pre)
+    omega (arith, loop .inv .long, ts, after .place, pre)
 
 too-many-requires : tie.Need-too-many-requires Inv-loop μ-loop
 too-many-requires c κs = search needs
@@ -149,7 +147,7 @@ returns c =
     let clear = back16 .before .before .before .before .clear in
     let pre = back24 .before .pre in
     let clear2 = back16 .clear2 in
-    let row = c .before .before .before .before .before .before .before .row in
+    let token = c .before .before .before .before .before .before .before .token in
     let loop = back8 .before .before .before .before .before .loop in
     let next-token = back8 .before .before .before .next-token in
     let push-token = c .before .before .before .before .push-token in
@@ -158,11 +156,11 @@ returns c =
     let ts : 16384 ≤ length (clear .last .0) = omega (arith, clear .kept .0, pre) in
     let ns : 2048 ≤ length (clear2 .last .0) = omega (arith, clear2 .kept .0, pre) in
     let after =
-    rw (row .given .1) at
+    rw (token .given .1) at
     (turn ts ns (loop .inv) (next-token .result) (next-token .last .1 .0) (next-token .ensures .0)
     (next-token .ensures .1)) in
     let full : 4096 ≤ loop .count = ltb-false _ _ (sym (push-token .ensures .0) ∙ not-true _ (if1 .taken)) in
-    rw (after .2 .full full, too-many .ensures, after .1) (refl, tt)
+    rw (after .full full, too-many .ensures) (refl, tt)
 
 add-count : tie.Need-add-count Inv-loop μ-loop
 add-count c =
@@ -178,16 +176,16 @@ loop-less-2 c =
     let clear = back16 .before .before .before .clear in
     let pre = back24 .pre in
     let clear2 = back8 .before .before .before .before .before .before .before .clear2 in
-    let row = c .before .before .before .before .before .before .row in
+    let token = c .before .before .before .before .before .before .token in
     let loop = back8 .before .before .before .before .loop in
     let next-token = back8 .before .before .next-token in
     let ts : 16384 ≤ length (clear .last .0) = omega (arith, clear .kept .0, pre) in
     let ns : 2048 ≤ length (clear2 .last .0) = omega (arith, clear2 .kept .0, pre) in
     let after =
-    rw (row .given .1) at
+    rw (token .given .1) at
     (turn ts ns (loop .inv) (next-token .result) (next-token .last .1 .0) (next-token .ensures .0)
     (next-token .ensures .1)) in
-    omega (arith, after .2 .later, after .2 .inside)
+    omega (arith, after .later, after .inside)
 
 loop-again-2 : tie.Need-loop-again-2 Inv-loop μ-loop
 unfolding pushed pick
@@ -198,7 +196,7 @@ loop-again-2 c =
     let clear = back16 .before .before .before .clear in
     let pre = back24 .pre in
     let clear2 = back8 .before .before .before .before .before .before .before .clear2 in
-    let row = c .before .before .before .before .before .before .row in
+    let token = c .before .before .before .before .before .before .token in
     let loop = back8 .before .before .before .before .loop in
     let next-token = back8 .before .before .next-token in
     let push-token = c .before .before .before .push-token in
@@ -206,15 +204,15 @@ loop-again-2 c =
     let ts : 16384 ≤ length (clear .last .0) = omega (arith, clear .kept .0, pre) in
     let ns : 2048 ≤ length (clear2 .last .0) = omega (arith, clear2 .kept .0, pre) in
     let after =
-    rw (row .given .1) at
+    rw (token .given .1) at
     (turn ts ns (loop .inv) (next-token .result) (next-token .last .1 .0) (next-token .ensures .0)
     (next-token .ensures .1)) in
     let room : loop .count < 4096 = ltb-true _ _ (sym (push-token .ensures .0) ∙ not-false _ (if1 .left)) in
-    let put = rw (sym (push-token .ensures .0) ∙ not-false _ (if1 .left), after .1) at (push-token .ensures .1) in
-    after .2 .more room _ put
+    let put = rw (sym (push-token .ensures .0) ∙ not-false _ (if1 .left)) at (push-token .ensures .1) in
+    after .more room _ put
 
-enum-known-row-2 : tie.Need-enum-known-row-2 Inv-loop μ-loop
-enum-known-row-2 c = search needs
+enum-known-token-2 : tie.Need-enum-known-token-2 Inv-loop μ-loop
+enum-known-token-2 c = search needs
 
 push-token-requires-2 : tie.Need-push-token-requires-2 Inv-loop μ-loop
 push-token-requires-2 c κs =
@@ -223,17 +221,16 @@ push-token-requires-2 c κs =
     let clear = back8 .before .before .before .before .before .before .before .clear in
     let pre = back16 .before .before .before .before .pre in
     let clear2 = back8 .before .before .before .clear2 in
-    let row2 = c .before .before .row2 in
+    let token2 = c .before .before .token2 in
     let loop = c .before .before .before .before .before .before .before .before .loop in
     let next-token = c .before .before .before .before .before .before .next-token in
     let ts : 16384 ≤ length (clear .last .0) = omega (arith, clear .kept .0, pre) in
     let ns : 2048 ≤ length (clear2 .last .0) = omega (arith, clear2 .kept .0, pre) in
     let after =
-    rw (row2 .given .1) at
+    rw (token2 .given .1) at
     (turn ts ns (loop .inv) (next-token .result) (next-token .last .1 .0) (next-token .ensures .0)
     (next-token .ensures .1)) in
-    let place = ap (λ (r : Row). r .place) (after .1) in
-    omega (arith, loop .inv .long, ts, after .2 .place, place, pre)
+    omega (arith, loop .inv .long, ts, after .place, pre)
 
 too-many-requires-2 : tie.Need-too-many-requires-2 Inv-loop μ-loop
 too-many-requires-2 c κs = search needs
@@ -264,7 +261,7 @@ returns-2 c =
     let clear = back16 .before .before .before .before .clear in
     let pre = back24 .before .pre in
     let clear2 = back16 .clear2 in
-    let row2 = c .before .before .before .before .before .before .before .row2 in
+    let token2 = c .before .before .before .before .before .before .before .token2 in
     let loop = back8 .before .before .before .before .before .loop in
     let next-token = back8 .before .before .before .next-token in
     let push-token2 = c .before .before .before .before .push-token2 in
@@ -273,11 +270,11 @@ returns-2 c =
     let ts : 16384 ≤ length (clear .last .0) = omega (arith, clear .kept .0, pre) in
     let ns : 2048 ≤ length (clear2 .last .0) = omega (arith, clear2 .kept .0, pre) in
     let after =
-    rw (row2 .given .1) at
+    rw (token2 .given .1) at
     (turn ts ns (loop .inv) (next-token .result) (next-token .last .1 .0) (next-token .ensures .0)
     (next-token .ensures .1)) in
     let full : 4096 ≤ loop .count = ltb-false _ _ (sym (push-token2 .ensures .0) ∙ not-true _ (if2 .taken)) in
-    rw (after .2 .full full, too-many2 .ensures, after .1) (refl, tt)
+    rw (after .full full, too-many2 .ensures) (refl, tt)
 
 cast-t32 : tie.Need-cast-t32 Inv-loop μ-loop
 cast-t32 c =
@@ -323,7 +320,7 @@ returns-3 c =
     let clear = back16 .before .before .before .clear in
     let pre = back24 .pre in
     let clear2 = back8 .before .before .before .before .before .before .before .clear2 in
-    let row2 = c .before .before .before .before .before .before .row2 in
+    let token2 = c .before .before .before .before .before .before .token2 in
     let loop = back8 .before .before .before .before .loop in
     let next-token = back8 .before .before .next-token in
     let push-token2 = c .before .before .before .push-token2 in
@@ -332,13 +329,13 @@ returns-3 c =
     let ts : 16384 ≤ length (clear .last .0) = omega (arith, clear .kept .0, pre) in
     let ns : 2048 ≤ length (clear2 .last .0) = omega (arith, clear2 .kept .0, pre) in
     let after =
-    rw (row2 .given .1) at
+    rw (token2 .given .1) at
     (turn ts ns (loop .inv) (next-token .result) (next-token .last .1 .0) (next-token .ensures .0)
     (next-token .ensures .1)) in
     let room : loop .count < 4096 = ltb-true _ _ (sym (push-token2 .ensures .0) ∙ not-false _ (if2 .left)) in
-    let put = rw (sym (push-token2 .ensures .0) ∙ not-false _ (if2 .left), after .1) at (push-token2 .ensures .1) in
+    let put = rw (sym (push-token2 .ensures .0) ∙ not-false _ (if2 .left)) at (push-token2 .ensures .1) in
     let end =
-    finish (after .2 .done room _ put) (now (a .tokens)) (now (a .names)) (clear .kept .0) (clear2 .kept .0) in
+    finish (after .done room _ put) (now (a .tokens)) (now (a .names)) (clear .kept .0) (clear2 .kept .0) in
     (end .0, end .1)
 
 enum-known-refusal : tie.Need-enum-known-refusal Inv-loop μ-loop
@@ -390,7 +387,7 @@ lex-all-spec =
     enum-known-next
     loop-less
     loop-again
-    enum-known-row
+    enum-known-token
     push-token-requires
     too-many-requires
     same-length
@@ -399,7 +396,7 @@ lex-all-spec =
     add-count
     loop-less-2
     loop-again-2
-    enum-known-row-2
+    enum-known-token-2
     push-token-requires-2
     too-many-requires-2
     same-length-3

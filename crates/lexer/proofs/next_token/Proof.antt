@@ -8,8 +8,8 @@ use Rattle.lexer.specs.Steps.{nextOf, addedBy}
 use Rattle.lexer.proofs.next_token.Statement.{statement}
 use Rattle.lexer.proofs.next_token.Tie as tie
 
-lex-requires : tie.Need-lex-requires
-lex-requires c κs = search needs
+lex-at-requires : tie.Need-lex-at-requires
+lex-at-requires c κs = search needs
 
 enum-known-next : tie.Need-enum-known-next
 enum-known-next c = search needs
@@ -17,21 +17,18 @@ enum-known-next c = search needs
 enum-known-token : tie.Need-enum-known-token
 enum-known-token c = search needs
 
-row-of-requires : tie.Need-row-of-requires
-row-of-requires c κs = search needs
-
 enum-known-name : tie.Need-enum-known-name
 enum-known-name c = search needs
 
 number-name-requires : tie.Need-number-name-requires
 number-name-requires c κs =
-    let lex = c .before .before .before .before .lex in
+    let lex-at = c .before .before .before .before .lex-at in
     let name = c .before .before .name in
     let a = c .before .before .before .before .before .before .before .args in
     let pre = c .before .before .before .before .before .before .before .pre in
     let past =
-    rw (← lex .ensures, name .given .1) at (piece-past (now (a .text)) (a .at .place) (a .at .line) (pre .1)) in
-    (pre .0, omega (arith, past .name-end, past .within), past .kind-from, past .kind-to)
+    rw (← lex-at .ensures, name .given .1) at (piece-past (now (a .text)) (a .at .place) (a .at .line) (pre .1)) in
+    (pre .0, omega (arith, past .name-end, past .within))
 
 enum-known-end : tie.Need-enum-known-end
 enum-known-end c = search needs
@@ -42,17 +39,16 @@ enum-known-refusal c = search needs
 returns : tie.Need-returns
 unfolding nextOf addedBy
 returns c =
-    let lex = c .before .before .before .lex in
+    let lex-at = c .before .before .before .lex-at in
     let next = c .before .next in
-    rw (← lex .ensures, next .given .1) (refl, refl)
+    rw (← lex-at .ensures, next .given .1) (refl, refl)
 
 returns-2 : tie.Need-returns-2
 unfolding nextOf addedBy
 returns-2 c =
-    let lex = c .before .before .before .before .lex in
-    let token = c .before .before .token in
-    let row-of = c .row-of in
-    rw (← lex .ensures, token .given .1, row-of .ensures) (refl, refl)
+    let lex-at = c .before .before .before .lex-at in
+    let token = c .before .token in
+    rw (← lex-at .ensures, token .given .1) (refl, refl)
 
 same-length : tie.Need-same-length
 same-length c = search needs
@@ -60,33 +56,32 @@ same-length c = search needs
 returns-3 : tie.Need-returns-3
 unfolding nextOf addedBy
 returns-3 c =
-    let lex = c .before .before .before .before .before .before .before .lex in
+    let lex-at = c .before .before .before .before .before .before .before .lex-at in
     let name = c .before .before .before .before .before .name in
     let number-name = c .before .before .number-name in
-    rw (← lex .ensures, name .given .1) (number-name .ensures .0, number-name .ensures .1)
+    rw (← lex-at .ensures, name .given .1) (number-name .ensures .0, number-name .ensures .1)
 
 returns-4 : tie.Need-returns-4
 unfolding nextOf addedBy
 returns-4 c =
-    let lex = c .before .before .before .lex in
+    let lex-at = c .before .before .before .lex-at in
     let end = c .before .end in
-    rw (← lex .ensures, end .given .1) (refl, refl)
+    rw (← lex-at .ensures, end .given .1) (refl, refl)
 
 returns-5 : tie.Need-returns-5
 unfolding nextOf addedBy
 returns-5 c =
-    let lex = c .before .before .before .lex in
+    let lex-at = c .before .before .before .lex-at in
     let refusal = c .before .refusal in
-    rw (← lex .ensures, refusal .given .1) (refl, refl)
+    rw (← lex-at .ensures, refusal .given .1) (refl, refl)
 
 pub next-token-spec : {M : Type 1} → statement M
 next-token-spec =
     tie.close
     (tie.spec
-    lex-requires
+    lex-at-requires
     enum-known-next
     enum-known-token
-    row-of-requires
     enum-known-name
     number-name-requires
     enum-known-end

@@ -7,8 +7,8 @@ use Rattle.utils.specs.Bytes.{pick}
 use Rattle.lexer.proofs.push_token.Statement.{statement}
 use Rattle.lexer.proofs.push_token.Tie as tie
 
-put-row-requires : tie.Need-put-row-requires
-put-row-requires c κs = search needs
+put-token-requires : tie.Need-put-token-requires
+put-token-requires c κs = search needs
 
 same-length : tie.Need-same-length
 same-length c = search needs
@@ -17,8 +17,8 @@ returns : tie.Need-returns
 unfolding pushed pick
 returns c =
     let if1 = c .before .before .before .before .if1 in
-    let put-row = c .before .before .put-row in
-    rw (lt-ltb _ _ (if1 .taken)) (refl, put-row .ensures)
+    let put-token = c .before .before .put-token in
+    rw (lt-ltb _ _ (if1 .taken)) (refl, put-token .ensures)
 
 returns-2 : tie.Need-returns-2
 unfolding pushed pick
@@ -27,4 +27,4 @@ returns-2 c =
     rw (le-ltb _ _ (if1 .left)) (refl, refl)
 
 pub push-token-spec : {M : Type 1} → statement M
-push-token-spec = tie.close (tie.spec put-row-requires same-length returns returns-2)
+push-token-spec = tie.close (tie.spec put-token-requires same-length returns returns-2)

@@ -12,8 +12,8 @@ token-at-requires c κs = search needs
 returns : tie.Need-returns
 unfolding namedD opened
 returns c =
-    let token-at = c .before .before .token-at in
-    let if1 = c .if1 in
+    let token-at = c .before .before .before .token-at in
+    let if1 = c .before .if1 in
     rw (← token-at .ensures, eq-eqb _ _ (if1 .taken))
 
 refuse-requires : tie.Need-refuse-requires

@@ -22,7 +22,7 @@ use Rattle.functions.proofs.known.expected_type.Lts as lts
 
 abbrev Inv-loop : tie.InvT-loop
 Inv-loop rows n name ty i₀ i =
-    (i ≤ n) × (expectedType (knownFrom rows i (n - i)) name ty ≡ expectedType (knownFrom rows 0 n) name ty)
+    (i ≤ n) × (expectedType (knownFrom rows i (n - i)) (name .0) ty ≡ expectedType (knownFrom rows 0 n) (name .0) ty)
 
 abbrev μ-loop : tie.MeasureT-loop
 μ-loop rows n name ty i₀ i = n - i
@@ -67,9 +67,9 @@ shared-slice-read-result c = search needs
 returns : tie.Need-returns Inv-loop μ-loop
 unfolding expectedType pick
 returns c =
-    let a = c .before .before .before .before .before .args in
-    let loop = c .before .before .before .before .loop in
-    let loop-test = c .before .before .before .loop-test in
+    let a = c .before .before .before .before .before .before .args in
+    let loop = c .before .before .before .before .before .loop in
+    let loop-test = c .before .before .before .before .loop-test in
     let if1 = c .before .if1 in
     rw (← loop .inv .1, known-more (now (a .rows)) (loop .i) (a .n) (loop-test .taken), eq-eqb _ _ (if1 .taken))
 
@@ -85,9 +85,9 @@ loop-less c = search needs
 loop-again : tie.Need-loop-again Inv-loop μ-loop
 unfolding expectedType pick
 loop-again c =
-    let a = c .before .before .before .before .args in
-    let loop = c .before .before .before .loop in
-    let loop-test = c .before .before .loop-test in
+    let a = c .before .before .before .before .before .args in
+    let loop = c .before .before .before .before .loop in
+    let loop-test = c .before .before .before .loop-test in
     let if1 = c .if1 in
     (omega arith, rw (← loop .inv .1, known-more (now (a .rows)) (loop .i) (a .n) (loop-test .taken), ne-eqb _ _ (if1 .left)))
 

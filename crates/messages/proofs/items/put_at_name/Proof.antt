@@ -27,7 +27,7 @@ returns c =
     let p1 = c .before .before .before .before .before .before .put in
     let p2 = c .before .before .put-quoted-name in
     then (now (a .buf)) (p1 .last .0) (p2 .last .0) (bytes "at ") (quoted (nameOf (now (a .text)) (now (a .names))
-    (a .name))) (a .at) (p1 .result) (p2 .result) 3 66 (one (now (a .buf)) (a .at) (bytes "at ") (p1 .last .0) (p1
+    (a .name .0))) (a .at) (p1 .result) (p2 .result) 3 66 (one (now (a .buf)) (a .at) (bytes "at ") (p1 .last .0) (p1
     .result) (p1 .ensures)) (p2 .ensures)
 
 pub put-at-name-spec : {M : Type 1} → statement M

@@ -21,7 +21,7 @@ returns c =
     let a = c .before .before .before .before .before .before .before .before .args in
     let p = c .before .before .put-at-token in
     rw (lt-ltb _ _ (c .before .before .before .before .if1 .taken)) (wider (now (a .buf)) (a .at) (atToken (a .kind)
-    (a .value)) (p .last .0) (p .result) 26 69 (omega arith) (p .ensures))
+    (a .own) (a .integer)) (p .last .0) (p .result) 26 69 (omega arith) (p .ensures))
 
 put-at-name-requires : tie.Need-put-at-name-requires
 put-at-name-requires c κs = search needs
@@ -88,7 +88,7 @@ returns-5 c =
       le-ltb _ _ (c .before .before .before .before .before .if4 .left),
       lt-ltb _
           _ (c .before .before .before .before .if5 .taken),
-    ) (wider (now (a .buf)) (a .at) (atToken (a .kind) (a .value))
+    ) (wider (now (a .buf)) (a .at) (atToken (a .kind) (a .own) (a .integer))
     (p .last .0) (p .result) 26 69 (omega arith) (p .ensures))
 
 returns-6 : tie.Need-returns-6

@@ -35,9 +35,9 @@ returns c =
     let p2 = c .before .before .before .before .before .before .before .put-quoted-name in
     let p3 = c .before .before .put2 in
     let w2 = then (p1 .last .0) (p2 .last .0) (p3 .last .0) (quoted (nameOf (now (a .text)) (now (a .names)) (a
-    .name))) (bytes " is missing") (p1 .result) (p2 .result) (p3 .result) 66 11 (p2 .ensures) (one (p2 .last .0) (p2
+    .name .0))) (bytes " is missing") (p1 .result) (p2 .result) (p3 .result) 66 11 (p2 .ensures) (one (p2 .last .0) (p2
     .result) (bytes " is missing") (p3 .last .0) (p3 .result) (p3 .ensures)) in
-    let s2 = quoted (nameOf (now (a .text)) (now (a .names)) (a .name)) ++ (bytes " is missing") in
+    let s2 = quoted (nameOf (now (a .text)) (now (a .names)) (a .name .0)) ++ (bytes " is missing") in
     then (now (a .buf)) (p1 .last .0) (p3 .last .0) (bytes "Branch target ") s2 (a .at) (p1 .result) (p3 .result) 14
     77 (one (now (a .buf)) (a .at) (bytes "Branch target ") (p1 .last .0) (p1 .result) (p1 .ensures)) w2
 

@@ -15,7 +15,7 @@ put-requires : tie.Need-put-requires
 put-requires c κs =
     let pre = c .before .before .before .before .before .pre in
     let a = c .before .before .before .before .before .args in
-    rw (c .before .get-name .ensures) (omega (arith, pre .0, pre .1 (a .name)))
+    rw (c .before .get-name .ensures) (omega (arith, pre .0, pre .1 (a .name .0)))
 
 same-length : tie.Need-same-length
 same-length c = search needs
@@ -27,7 +27,7 @@ returns c =
     let p = c .before .before .put in
     let part = now (name .result) in
     let h : length part ≤ 64 = rw (name .ensures) (c .before .before .before .before .before .before .before .before
-    .pre .1 (a .name)) in
+    .pre .1 (a .name .0)) in
     rw (← name .ensures) (wider (now (a .buf)) (a .at) part (p .last .0) (p .result) (length part) 64 h (one (now (a
     .buf)) (a .at) part (p .last .0) (p .result) (p .ensures)))
 

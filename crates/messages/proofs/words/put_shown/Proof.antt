@@ -39,7 +39,7 @@ returns-2 c =
       le-ltb _ _ (c .before .before .before .before .before .if1 .left),
       eq-eqb _ _ (c .before .before .before
           .before .if2 .taken),
-    ) (wider (now (a .buf)) (a .at) (signed (a .value)) (p .last .0) (p .result) 11 21 (omega
+    ) (wider (now (a .buf)) (a .at) (signed (a .integer)) (p .last .0) (p .result) 11 21 (omega
     arith) (p .ensures))
 
 put-word-requires-2 : tie.Need-put-word-requires-2
@@ -62,7 +62,7 @@ returns-3 c =
       ne-eqb _
           _ (c .before .before .before .before .before .before .before .before .if2 .left),
     ) (then (now (a .buf)) (p1 .last
-    .0) (p2 .last .0) (wordOf (a .kind)) (decimal (a .value)) (a .at) (p1 .result) (p2 .result) 11 10 (p1 .ensures)
+    .0) (p2 .last .0) (wordOf (a .kind)) (decimal (a .name .0)) (a .at) (p1 .result) (p2 .result) 11 10 (p1 .ensures)
     (p2 .ensures))
 
 pub put-shown-spec : {M : Type 1} → statement M

@@ -14,7 +14,7 @@ use Rattle.parser.proofs.labels.has_label.Statement.{statement}
 use Rattle.parser.proofs.labels.has_label.Tie as tie
 
 abbrev Inv-loop : tie.InvT-loop
-Inv-loop labels count name i₀ i = (i ≤ count) × (has (drop i (take count labels)) name ≡ has (take count labels) name)
+Inv-loop labels count name i₀ i = (i ≤ count) × (has (drop i (take count labels)) (name .0) ≡ has (take count labels) (name .0))
 
 abbrev μ-loop : tie.MeasureT-loop
 μ-loop labels count name i₀ i = count - i
@@ -31,10 +31,10 @@ shared-slice-read-if1 c = search needs
 returns : tie.Need-returns Inv-loop μ-loop
 unfolding has pick
 returns c =
-    let a = c .before .before .before .before .args in
-    let pre = c .before .before .before .before .pre in
-    let loop = c .before .before .before .loop in
-    let loop-test = c .before .before .loop-test in
+    let a = c .before .before .before .before .before .args in
+    let pre = c .before .before .before .before .before .pre in
+    let loop = c .before .before .before .before .loop in
+    let loop-test = c .before .before .before .loop-test in
     let if1 = c .if1 in
     let s = now (a .labels) in
     let t = take (a .count) s in
@@ -52,10 +52,10 @@ loop-less c = omega arith
 loop-again : tie.Need-loop-again Inv-loop μ-loop
 unfolding has pick
 loop-again c =
-    let a = c .before .before .before .before .args in
-    let pre = c .before .before .before .before .pre in
-    let loop = c .before .before .before .loop in
-    let loop-test = c .before .before .loop-test in
+    let a = c .before .before .before .before .before .args in
+    let pre = c .before .before .before .before .before .pre in
+    let loop = c .before .before .before .before .loop in
+    let loop-test = c .before .before .before .loop-test in
     let if1 = c .if1 in
     let s = now (a .labels) in
     let t = take (a .count) s in

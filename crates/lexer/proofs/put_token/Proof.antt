@@ -3,8 +3,11 @@ use native.Mathlib.Omega.{arith}
 use native.Mathlib.Numerals.{towards-suc}
 use lib.ListN.{length-set}
 use borrow.Author.Needs.{needs}
-use Rattle.lexer.proofs.put_row.Statement.{statement}
-use Rattle.lexer.proofs.put_row.Tie as tie
+use Rattle.lexer.proofs.put_token.Statement.{statement}
+use Rattle.lexer.proofs.put_token.Tie as tie
+
+kinded-requires : tie.Need-kinded-requires
+kinded-requires c κs = search needs
 
 mul-at : tie.Need-mul-at
 mul-at c = search needs
@@ -49,12 +52,13 @@ same-length : tie.Need-same-length
 same-length c = search needs
 
 returns : tie.Need-returns
-returns c = simp towards-suc
+returns c = simp (towards-suc, c .before .kinded .ensures)
 
-pub put-row-spec : {M : Type 1} → statement M
-put-row-spec =
+pub put-token-spec : {M : Type 1} → statement M
+put-token-spec =
     tie.close
     (tie.spec
+    kinded-requires
     mul-at
     add-a1
     add-a2
