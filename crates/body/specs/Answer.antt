@@ -31,8 +31,8 @@ bodyRead void r =
       labels = length (labelsOf (r .items));
     }))
 
--- The items stand from the record `first` on, the arguments from `used` on, the labels at the front; every other cell is
--- as it was. A refusal says nothing of them: the caller clears them.
+-- The items stand from the record `first` on, the arguments from `used` on, the labels at the front; every other cell
+-- is as it was. A refusal says nothing of them: the caller clears them.
 pub record Stored (ts : List Tok) (void : Bool) (is : List Item) (at first used next : ℕ)
     (items₀ items arguments₀ arguments labels₀ labels : List ℕ) : Type 0 where
   pub items-are : items ≡ sets items₀ (first * 8) (itemsCells used (closedItems void is))

@@ -22,9 +22,9 @@ use Rattle.checker.specs.Check.{Checking, checkOf}
 -- To unfold this is to unfold the whole definition.
 unfoldable pub opened : ℕ
 unfolding
-    typing.opened messages.opened operationRecord recordOf blockCells predecessorCells countsFrom isCall typedLast typedRecord
-    unitD tablesOf calleeIn typedItemsCells typedVariables typedArgumentsCells rowsCells allItems allArguments allBlocks
-    allPredecessors checkOf
+    typing.opened messages.opened operationRecord recordOf blockCells predecessorCells countsFrom isCall typedLast
+    typedRecord unitD tablesOf calleeIn typedItemsCells typedVariables typedArgumentsCells rowsCells allItems
+    allArguments allBlocks allPredecessors checkOf
 opened = 0
 
 -- Records of eight cells (docs/INTERFACE.md), as a row of the table gives them. --------------------------------------

@@ -5,7 +5,8 @@ use mathlib.Core.List.{List, [], _∷_, _++_, append-assoc}
 use native.Mathlib.Omega.{arith}
 use borrow.Author.Tests.{ne-eqb}
 use native.Mathlib.Nat.{add-zero, sub-zero}
-use lib.ListN.{length, take, drop, getD}
+use lib.ListN.{length, take, drop, getD, length-append, length-drop, take-append-drop}
+use lib.Seq.{length-take-le, drop-at}
 use Rattle.utils.specs.Bytes.{pick}
 use Rattle.parser.specs.Runs.{typeCell, variablesCells}
 use Rattle.parser.specs.Body.{Item, label, plain, call, callInto, argumentsIn}
@@ -15,7 +16,7 @@ use Rattle.parser.specs.declared.Variable.{Variable}
 use Rattle.parser.specs.declared.Operation.{Operation}
 use Rattle.parser.specs.declared.Operation.the-variants as O
 use Rattle.body.specs.Records.{operationRecord, recordOf, recordCells, recordAt, itemsCells, argumentsCells}
-use Rattle.body.proofs.Decode.{last-back}
+use Rattle.body.proofs.Decode.{record-there}
 use Rattle.sema.specs.Items.{tyOf, variablesAt, operationOf, itemBy, itemOf, itemAt}
 use Rattle.sema.specs.Blocks.{itemsAt, formalsFrom}
 
@@ -83,20 +84,17 @@ record-back : (i : Item) (items : List ℕ) (first used : ℕ) (rest : List ℕ)
     → drop (first * 8) items ≡ recordCells (recordOf used i) ++ rest
     → (recordAt items first ≡ recordOf used i) × (drop ((first + 1) * 8) items ≡ rest)
 record-back i items first used rest h =
-    let k = first * 8 in
-    let e1 = cell-back k items h in
-    let e2 = cell-back (k + 1) items (e1 .1) in
-    let e3 = cell-back (k + 2) items (next 1 (e2 .1)) in
-    let e4 = cell-back (k + 3) items (next 2 (e3 .1)) in
-    let e5 = cell-back (k + 4) items (next 3 (e4 .1)) in
-    let e6 = cell-back (k + 5) items (next 4 (e5 .1)) in
-    let e7 = cell-back (k + 6) items (next 5 (e6 .1)) in
-    let e8 = cell-back (k + 7) items (next 6 (e7 .1)) in
-    let m : (first + 1) * 8 ≡ k + 7 + 1 = omega arith in
-    (rw (e1 .0, e2 .0, e3 .0, e4 .0, e5 .0, e6 .0, e7 .0, e8 .0, last-back used i), rw m (e8 .1))
-  where
-    next : {l : List ℕ} (j : ℕ) → drop (first * 8 + j + 1) items ≡ l → drop (first * 8 + (j + 1)) items ≡ l
-    next j g = let m : first * 8 + (j + 1) ≡ first * 8 + j + 1 = omega arith in rw m g
+    let cells : List ℕ = recordCells (recordOf used i) in
+    let front : List ℕ = take (first * 8) items in
+    let some : length items - first * 8 ≡ 8 + length rest =
+    sym (length-drop (first * 8) items) ∙ ap length h ∙ omega arith in
+    let e : length front ≡ first * 8 = length-take-le (first * 8) items (omega (arith, some)) in
+    let cut : items ≡ front ++ (cells ++ rest) =
+    sym (take-append-drop (first * 8) items) ∙ ap (λ (l : List ℕ). front ++ l) h in (
+      ap (λ (l : List ℕ). recordAt l first) cut ∙ record-there front used i rest first e,
+      ap (drop ((first + 1) * 8)) (cut ∙ sym (append-assoc front cells rest))
+          ∙ drop-at (front ++ cells) rest ((first + 1) * 8) (omega (arith, e, length-append front cells)),
+    )
 
 pub items-back : (is : List Item) (items args : List ℕ) (first used : ℕ) (rest more : List ℕ)
     → drop (first * 8) items ≡ itemsCells used is ++ rest → drop (used * 2) args ≡ argumentsCells is ++ more

@@ -156,7 +156,8 @@ module _ (t : List ℕ) (r : ItemRecord) (args : List ℕ) (from : FromCells r) 
 
       by : (b5 b6 : Bool) → stop t (refusal 21 (r .token) 0) ≡ endD t
           (itemBy r args
-          (pick b5 (L.Run (from .0) (from .1)) (pick b6 (L.Run (from .0) (from .1)) (L.Name (named (from .0)) (from .1))))
+          (pick b5 (L.Run (from .0) (from .1))
+          (pick b6 (L.Run (from .0) (from .1)) (L.Name (named (from .0)) (from .1))))
           ∷ [])
       by true b6 = called (eqb (r .kind) 6) (variablesAt args (from .0) (from .1))
       by false true = called (eqb (r .kind) 6) (variablesAt args (from .0) (from .1))

@@ -64,7 +64,8 @@ module _ (ts : List Tok) (globals : ℕ → Global) (ret : ℕ) (t₀ : List ℕ
 
 -- the formals
 formals-more : (rows : List ℕ) (at n : ℕ) → 0 < n
-    → formalsFrom rows at n ≡ variable (named (getD rows at 0)) (getD rows (at + 1) 0) ∷ formalsFrom rows (at + 2) (n - 1)
+    → formalsFrom rows at n
+    ≡ variable (named (getD rows at 0)) (getD rows (at + 1) 0) ∷ formalsFrom rows (at + 2) (n - 1)
 unfolding formalsFrom
 formals-more rows at zero h = absurd (omega arith)
 formals-more rows at (suc n) h = let m : suc n - 1 ≡ n = omega arith in rw m

@@ -14,7 +14,8 @@ returns c =
     let token-at = c .before .before .before .before .before .before .before .token-at in
     let match = c .before .before .before .before .match in
     let analyze-bin-op = c .before .before .analyze-bin-op in
-    analyze-bin-op .ensures ∙ plain-binary (tokensOf (now (a .tokens))) (a .ret) (now (a .table)) (a .r) (a .x) (token-at .ensures) (match .keys1)
+    analyze-bin-op .ensures
+    ∙ plain-binary (tokensOf (now (a .tokens))) (a .ret) (now (a .table)) (a .r) (a .x) (token-at .ensures) (match .keys1)
 
 returns-2 : tie.Need-returns-2
 returns-2 c =
@@ -23,7 +24,8 @@ returns-2 c =
     let token-at = c .before .before .before .before .before .before .before .token-at in
     let match = c .before .before .before .before .match in
     let analyze-unary-op = c .before .before .analyze-unary-op in
-    analyze-unary-op .ensures ∙ plain-unary (tokensOf (now (a .tokens))) (a .ret) (now (a .table)) (a .r) (a .x) (token-at .ensures) (match .keys2)
+    analyze-unary-op .ensures
+    ∙ plain-unary (tokensOf (now (a .tokens))) (a .ret) (now (a .table)) (a .r) (a .x) (token-at .ensures) (match .keys2)
 
 returns-3 : tie.Need-returns-3
 returns-3 c =
@@ -32,14 +34,16 @@ returns-3 c =
     let token-at = c .before .before .before .before .before .before .before .token-at in
     let match = c .before .before .before .before .match in
     let analyze-const = c .before .before .analyze-const in
-    analyze-const .ensures ∙ plain-const (tokensOf (now (a .tokens))) (a .ret) (now (a .table)) (a .r) (a .x) (token-at .ensures) (match .keys3)
+    analyze-const .ensures
+    ∙ plain-const (tokensOf (now (a .tokens))) (a .ret) (now (a .table)) (a .r) (a .x) (token-at .ensures) (match .keys3)
 
 returns-4 : tie.Need-returns-4
 returns-4 c =
     let a = c .before .before .before .before .before .before .before .before .args in
     let match = c .before .match in
     let analyze-ret = c .analyze-ret in
-    analyze-ret .ensures (now (a .table)) ∙ plain-ret (tokensOf (now (a .tokens))) (a .ret) (now (a .table)) (a .r) (a .x) (match .keys4)
+    analyze-ret .ensures (now (a .table))
+    ∙ plain-ret (tokensOf (now (a .tokens))) (a .ret) (now (a .table)) (a .r) (a .x) (match .keys4)
 
 returns-5 : tie.Need-returns-5
 returns-5 c =
@@ -47,14 +51,16 @@ returns-5 c =
     let a = back8 .before .args in
     let match = c .before .before .match in
     let analyze-ret-value = c .analyze-ret-value in
-    analyze-ret-value .ensures ∙ plain-value (tokensOf (now (a .tokens))) (a .ret) (now (a .table)) (a .r) (a .x) (match .keys5)
+    analyze-ret-value .ensures
+    ∙ plain-value (tokensOf (now (a .tokens))) (a .ret) (now (a .table)) (a .r) (a .x) (match .keys5)
 
 returns-6 : tie.Need-returns-6
 returns-6 c =
     let a = c .before .before .before .before .before .before .before .args in
     let match = c .match in
     let r = match .rest in
-    plain-other (tokensOf (now (a .tokens))) (a .ret) (now (a .table)) (a .r) (a .x) (r .0 .0 .0 .0 .1) (r .0 .0 .0 .1) (r .0 .0 .1) (r .0 .1) (r .1)
+    plain-other (tokensOf (now (a .tokens))) (a .ret) (now (a .table)) (a .r) (a .x)
+    (r .0 .0 .0 .0 .1) (r .0 .0 .0 .1) (r .0 .0 .1) (r .0 .1) (r .1)
 
 pub analyze-plain-spec : {M : Type 1} → statement M
 analyze-plain-spec =
