@@ -98,7 +98,8 @@ abbrev pub atName : List ℕ → List ℕ
 atName name = bytes "at " ++ quoted name
 
 -- The token for 5 to 12 and 17 to 21; a name for 13, its token's own, and for 15 and 16; nothing for 14, where the Rust
--- has none, and for the numbers that are not the Rust's. (The token's kind, name and integer, the refusal's number and name.)
+-- has none, and for the numbers that are not the Rust's. (The token's kind, name and integer, the refusal's number and
+-- name.)
 unfoldable pub itemOf : List ℕ → List ℕ → ℕ → Identifier → ℕ → ℕ → Identifier → List ℕ
 itemOf text names kind own integer n name =
     pick (ltb n 13) (atToken kind own integer)

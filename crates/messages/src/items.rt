@@ -23,7 +23,8 @@ fn put_at_token(buf: &mut [u8], at: usize, kind: u32, name: Identifier, integer:
 fn put_at_name(buf: &mut [u8], at: usize, text: &[u8], names: &[u32], name: Identifier) -> usize
     requires { ⌜ (at + 69 ≤ length (now buf)) × ShortNames (now text) (now names) ⌝ }
     ensures { λ r. ⌜ (r ≡ at + length (atName (nameOf (now (text .entry)) (now (names .entry)) (name .0))))
-        × (now (buf .exit) ≡ sets (now (buf .entry)) at (atName (nameOf (now (text .entry)) (now (names .entry)) (name .0))))
+        × (now (buf .exit) ≡ sets (now (buf .entry)) at
+        (atName (nameOf (now (text .entry)) (now (names .entry)) (name .0))))
         × (r ≤ at + 69) ⌝ }
 {
     let p1 = utils::put(buf, at, b"at ");

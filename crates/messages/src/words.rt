@@ -164,7 +164,8 @@ pub(crate) fn put_quoted_name(
 ) -> usize
     requires { ⌜ (at + 66 ≤ length (now buf)) × ShortNames (now text) (now names) ⌝ }
     ensures { λ r. ⌜ (r ≡ at + length (quoted (nameOf (now (text .entry)) (now (names .entry)) (name .0))))
-        × (now (buf .exit) ≡ sets (now (buf .entry)) at (quoted (nameOf (now (text .entry)) (now (names .entry)) (name .0))))
+        × (now (buf .exit) ≡ sets (now (buf .entry)) at
+        (quoted (nameOf (now (text .entry)) (now (names .entry)) (name .0))))
         × (r ≤ at + 66) ⌝ }
 {
     let p1 = utils::put(buf, at, b"'");

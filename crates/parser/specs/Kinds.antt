@@ -1,6 +1,7 @@
 -- The kinds of tokens by name, for the definitions that ask for one: words as texts spell them (`trueWord`, `falseWord`
--- and `notWord` where the word has a meaning here already), all else by the Rust's name. The table at the end holds each
--- against its variant in the Rust's enum. Other modules write `T.semicolon` for the kind of the Rust's `T.Semicolon`.
+-- and `notWord` where the word has a meaning here already), all else by the Rust's name. The table at the end holds
+-- each against its variant in the Rust's enum. Other modules write `T.semicolon` for the kind of the Rust's
+-- `T.Semicolon`.
 use Prim.Native.Nat.{ℕ}
 use mathlib.Core.Path.{_≡_, refl}
 use mathlib.Core.List.{List, [], _∷_}

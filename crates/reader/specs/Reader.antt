@@ -1,4 +1,5 @@
--- The thin reader (document 01: it "keeps the source slice beside its position, as the Rust does"): its step, and going on with it.
+-- The thin reader (document 01: it "keeps the source slice beside its position, as the Rust does"): its step, and going
+-- on with it.
 use Prim.Native.Nat.{ℕ, zero, suc, _-_}
 use mathlib.Core.List.{List}
 use lib.ListN.{length}
