@@ -22,20 +22,26 @@ formalsFit rows i k (suc n) =
     let more = formalsFit rows i (k + 1) n in
     pick (between 1 2 (getD rows (formalTypeAt i k) 0)) more false
 
--- row i, in the order of its cells
-unfoldable pub rowFits : List ℕ → List ℕ → ℕ → Bool
-rowFits old rows i =
+-- the name of row i lies in the old text, and its line is one that a text of that size has
+unfoldable pub nameFits : List ℕ → List ℕ → ℕ → Bool
+nameFits old rows i =
     let place = getD rows (placeAt i) 0 in
     let len = getD rows (lengthAt i) 0 in
-    let formals = getD rows (countAt i) 0 in
     pick (leb place 16384)
     (pick (between 2 64 len)
-    (pick (leb (place + len) (length old))
-    (pick (between 1 16385 (getD rows (lineAt i) 0))
-    (pick (between 1 3 (getD rows (retAt i) 0))
-    (pick (ltb (getD rows (typeAt i) 0) 64)
-    (pick (between 1 256 (getD rows (blockCountAt i) 0))
-    (pick (leb formals 16) (formalsFit rows i 0 formals) false) false) false) false) false) false) false) false
+    (pick (leb (place + len) (length old)) (between 1 16385 (getD rows (lineAt i) 0)) false) false) false
+
+-- its result type, its function type's number, how many blocks it has
+unfoldable pub typeFits : List ℕ → ℕ → Bool
+typeFits rows i =
+    pick (between 1 3 (getD rows (retAt i) 0))
+    (pick (ltb (getD rows (typeAt i) 0) 64) (between 1 256 (getD rows (blockCountAt i) 0)) false) false
+
+unfoldable pub rowFits : List ℕ → List ℕ → ℕ → Bool
+rowFits old rows i =
+    let formals = getD rows (countAt i) 0 in
+    pick (nameFits old rows i)
+    (pick (typeFits rows i) (pick (leb formals 16) (formalsFit rows i 0 formals) false) false) false
 
 -- n rows, from row i on
 unfoldable pub rowsFit : List ℕ → List ℕ → ℕ → ℕ → Bool
