@@ -154,7 +154,10 @@ fixed n =
     (pick (eqb n 36) (bytes "too many formals.")
     (pick (eqb n 37) (bytes "too many arguments.")
     (pick (eqb n 38) (bytes "too many labels.")
-    []))))))))))))))))
+    (pick (eqb n 40) (bytes "not one function.")
+    (pick (eqb n 41) (bytes "header changed.")
+    (pick (eqb n 42) (bytes "bad header table.")
+    [])))))))))))))))))))
 
 -- (The refusal's number, what was wanted, what was found, its name.)
 unfoldable pub textOf : List ℕ → List ℕ → ℕ → ℕ → ℕ → Identifier → List ℕ

@@ -90,6 +90,9 @@ fn put_fixed(buf: &mut [u8], at: usize, number: u32) -> usize
         36 => utils::put(buf, at, b"too many formals."),
         37 => utils::put(buf, at, b"too many arguments."),
         38 => utils::put(buf, at, b"too many labels."),
+        40 => utils::put(buf, at, b"not one function."),
+        41 => utils::put(buf, at, b"header changed."),
+        42 => utils::put(buf, at, b"bad header table."),
         _ => at,
     }
 }

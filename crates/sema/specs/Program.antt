@@ -37,11 +37,13 @@ orderedBlocks is =
     let bs = blocksIn is in
     numbered is bs (blockOrder (λ v. getD (successors bs bs) v []) (length bs))
 
+-- a function as it was parsed, in the table of names t
+abbrev pub functionTyped : List Tok → (ℕ → Global) → Function → List ℕ → Typed
+functionTyped ts globals f t =
+    typeFunctionD ts globals (typeCell (f .head .ret)) (f .token) (f .head .formals) (orderedBlocks (f .items)) t
+
 -- "Functions are taken in text order": these, of all. "One table of names per function": each begins with `blank`.
 unfoldable pub programD : List Tok → List Function → List Function → List ℕ → Typed
 programD ts all [] blank = on blank
 programD ts all (f ∷ fs) blank =
-    thenTyped
-    (typeFunctionD ts (globalsOf all) (typeCell (f .head .ret)) (f .token) (f .head .formals) (orderedBlocks (f .items))
-    blank)
-    (λ t. programD ts all fs blank)
+    thenTyped (functionTyped ts (globalsOf all) f blank) (λ t. programD ts all fs blank)

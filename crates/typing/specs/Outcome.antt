@@ -6,7 +6,6 @@ use mathlib.Core.List.{List, [], _∷_, _++_}
 use lib.ListN.{length}
 use Rattle.utils.specs.Bytes.{padTo}
 use Rattle.lexer.specs.Decoded.{Tok}
-use Rattle.parser.specs.Runs.{typeCell}
 use Rattle.parser.specs.declared.Refusal.{Refusal}
 use Rattle.parser.specs.declared.Consumed.{Consumed}
 use Rattle.parser.specs.declared.Consumed.the-variants as C
@@ -16,8 +15,7 @@ use Rattle.functions.specs.Laid.{rowsCells, allBlocks, allPredecessors}
 use Rattle.functions.specs.declared.Counts.{Counts}
 use Rattle.functions.specs.declared.ProgramRead.{ProgramRead}
 use Rattle.functions.specs.declared.ProgramRead.the-variants as U
-use Rattle.sema.specs.Blocks.{typeFunctionD}
-use Rattle.sema.specs.Program.{globalsOf, orderedBlocks, programD as typedD}
+use Rattle.sema.specs.Program.{globalsOf, functionTyped, programD as typedD}
 use Rattle.sema.specs.declared.Checked.{Checked}
 use Rattle.sema.specs.declared.Checked.the-variants as K
 use Rattle.elaborate.specs.Types.{calleeIn, typedItemsCells, typedArgumentsCells}
@@ -49,9 +47,7 @@ unitD ts = afterParsing ts (programD ts .functions) (programD ts .end)
 unfoldable pub tablesOf : List Tok → List Function → List Function → List (List ℕ)
 tablesOf ts all [] = []
 tablesOf ts all (f ∷ fs) =
-    typeFunctionD ts (globalsOf all) (typeCell (f .head .ret)) (f .token) (f .head .formals) (orderedBlocks (f .items))
-    untyped .table
-    ∷ tablesOf ts all fs
+    functionTyped ts (globalsOf all) f untyped .table ∷ tablesOf ts all fs
 
 -- Items and arguments with the types of operands, function by function, each behind those that are counted.
 unfoldable pub allItems : (ℕ → ℕ) → Counts → List Function → List (List ℕ) → List ℕ
@@ -68,14 +64,18 @@ allArguments (f ∷ fs) (t ∷ ts) = typedArgumentsCells t (f .items) ++ allArgu
 abbrev pub none : Counts
 none = counts 0 0 0 0 0
 
-abbrev pub unitSlices : List Tok → List ℕ → Outcome → Slices
-unitSlices ts names (checked fs) =
+-- of functions that are typed with these tables; `callees` gives a callee's type
+abbrev pub slicesOf : List Tok → List ℕ → (ℕ → ℕ) → List Function → List (List ℕ) → Slices
+slicesOf ts names callees fs tables =
     slices
     (length fs ∷ rowsCells ts names none fs)
-    (allItems (calleeIn fs) none fs (tablesOf ts fs fs))
-    (allArguments fs (tablesOf ts fs fs))
+    (allItems callees none fs tables)
+    (allArguments fs tables)
     (allBlocks none fs)
     (allPredecessors fs)
+
+abbrev pub unitSlices : List Tok → List ℕ → Outcome → Slices
+unitSlices ts names (checked fs) = slicesOf ts names (calleeIn fs) fs (tablesOf ts fs fs)
 unitSlices ts names (refused e) = slices [] [] [] [] []
 
 -- slices as long as those at entry, s₀: zeros follow

@@ -1,0 +1,7 @@
+-- What rechecking a function means, in reading order. The parts of an answer are those of crates/checker.
+-- 42: the header table
+pub mod Table
+-- names by spelling
+pub mod Spelled
+-- the whole answer
+pub mod Recheck

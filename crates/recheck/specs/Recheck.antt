@@ -1,0 +1,121 @@
+-- Recheck (document 01): one new function against the headers of an accepted text. "Given: old text, its header table as
+-- check wrote it, a function number, new text." The parts of an answer are those of check.
+use Prim.Native.Nat.{ℕ, _+_, _-_}
+use mathlib.Core.List.{List, [], _∷_}
+use mathlib.Core.Bool.{Bool, true, false}
+use lib.Dec.{eqb}
+use lib.ListN.{length, getD}
+use Rattle.utils.specs.Bytes.{pick, sameBytes}
+use Rattle.utils.specs.Message.{reported}
+use Rattle.lexer.specs.Read.{Reading, lexedFrom, readingOf}
+use Rattle.lexer.specs.Decoded.{Tok, tokensOf, tokenAt, nameOf}
+use Rattle.parser.specs.Kinds as T
+use Rattle.parser.specs.Step.{refusal, look, thenNamed, thenType}
+use Rattle.parser.specs.Grammar.{globalD}
+use Rattle.parser.specs.declared.Refusal.{Refusal}
+use Rattle.functions.specs.Known.{signature}
+use Rattle.functions.specs.Functions.{Header, Function, thenFunction, functionD, thenFormals, optionalFormals, optionalType}
+use Rattle.functions.specs.Rows.{typeAt, signedAt}
+use Rattle.functions.specs.Answer.{countsFrom}
+use Rattle.messages.specs.Messages.{fixed}
+use Rattle.sema.specs.Symbols.{Typed}
+use Rattle.sema.specs.Typing.{Global}
+use Rattle.sema.specs.Program.{functionTyped}
+use Rattle.sema.specs.declared.Checked.{Checked}
+use Rattle.sema.specs.declared.Checked.the-variants as K
+use Rattle.typing.specs.Outcome.{untyped, none, slicesOf}
+use Rattle.checker.specs.Check.{Checking, accepted, refusing, refusedAt}
+use Rattle.checker.specs.Header.{lineAt}
+use Rattle.recheck.specs.Table.{isTable}
+use Rattle.recheck.specs.Spelled.{rowName, globalsSpelled, calleesSpelled}
+
+-- a refusal at no token, with the text that its number has
+abbrev pub refusedWith : ℕ → ℕ → ℕ → Checking
+refusedWith number line place = refusing number line place (reported line [] (fixed number))
+
+-- "40 if its first byte doesn't begin a global or its last byte isn't a `}` token": the first token, and the last before
+-- the end token.
+unfoldable pub isWhole : List ℕ → List Tok → Bool
+isWhole new ts =
+    let first = tokenAt ts 0 in
+    let last = tokenAt ts (length ts - 2) in
+    pick (eqb (first .kind) T.global)
+    (pick (eqb (first .place) 0)
+    (pick (eqb (last .kind) T.rightBrace) (eqb (last .place + 1) (length new)) false) false) false
+
+-- "with 41 where the name would be entered, if name or type differ": whether it is kept. What is refused before the name
+-- would be entered is no matter here.
+unfoldable pub keeps : (List ℕ → Bool) → List ℕ → List ℕ → List ℕ → List Tok → Bool
+keeps named signed new names ts =
+    thenNamed (λ e. true) (globalD ts 0) (λ g at1.
+    thenFormals (λ e. true) (optionalFormals ts at1) (λ formals at2.
+    thenType (λ e. true) (optionalType ts at2) (λ ret at3.
+    pick (named (nameOf new names (g .0))) (sameBytes (signature ret formals) signed) false)))
+
+-- What the new text is, as tokens.
+pub data Verdict : Type 0 where
+  refuses : Refusal → Verdict
+  -- the function, and the table of names that its typing left
+  accepts : Function → List ℕ → Verdict
+
+abbrev pub afterTyping : Function → List ℕ → Checked → Verdict
+afterTyping f table K.Fine = accepts f table
+afterTyping f table (K.Refused e) = refuses e
+
+abbrev pub typedAs : Function → Typed → Verdict
+typedAs f t = afterTyping f (t .table) (t .end)
+
+-- "then parsing ..; after the closing brace, once this function's blocks and labels are resolved (22, 14), another global
+-- is 40, any other token but the end 7; then typing against the old headers."
+unfoldable pub functionAlone : List Tok → (ℕ → Global) → Verdict
+functionAlone ts globals =
+    thenFunction refuses (functionD ts false [] 0 0) (λ f.
+    look (tokenAt ts (f .next)) (λ kind next.
+    pick (eqb kind T.endOfFile) (typedAs f (functionTyped ts globals f untyped))
+    (pick (eqb kind T.global) (refuses (refusal 40 (f .next) 0)) (refuses (refusal 7 (f .next) 0)))))
+
+-- its function type has the replaced function's number
+abbrev pub retyped : ℕ → Function → Function
+retyped type f =
+    record {
+      token = f .token;
+      head = record { name = f .head .name; formals = f .head .formals; ret = f .head .ret; type = type };
+      items = f .items;
+      next = f .next;
+    }
+
+-- Accepted: all that check writes for a text with this one function.
+abbrev pub verdictAs : List ℕ → Reading → List Tok → (ℕ → ℕ) → ℕ → Verdict → Checking
+verdictAs new r ts callees type (accepts f table) =
+    let fs : List Function = retyped type f ∷ [] in
+    record {
+      answer = accepted (r .answer .tokens) (r .answer .names) (countsFrom none fs);
+      message = [];
+      tokens = r .tokens;
+      names = r .names;
+      unit = slicesOf ts (r .names) callees fs (table ∷ []);
+    }
+verdictAs new r ts callees type (refuses e) = refusedAt new (r .names) ts e
+
+-- A new text that is lexed.
+abbrev pub parsedAs : List ℕ → List ℕ → ℕ → List ℕ → Reading → List Tok → Checking
+parsedAs old rows number new r ts =
+    pick (isWhole new ts)
+    (pick (keeps (sameBytes (rowName old rows number)) (signedAt rows number) new (r .names) ts)
+    (verdictAs new r ts (calleesSpelled old rows new (r .names)) (getD rows (typeAt number) 0)
+    (functionAlone ts (globalsSpelled old rows new (r .names))))
+    (refusedAt new (r .names) ts (refusal 41 0 0)))
+    (refusedWith 40 (getD rows (lineAt number) 0) 0)
+
+-- "lexing of the new text alone, numbers 31, 1 to 4 and 32 to 34"
+abbrev pub lexedAs : List ℕ → List ℕ → ℕ → List ℕ → Reading → Checking
+lexedAs old rows number new r =
+    pick (eqb (r .answer .number) 0) (parsedAs old rows number new r (tokensOf (r .tokens)))
+    (refusing (r .answer .number) (r .answer .line) (r .answer .place) (r .message))
+
+-- THE DEFINITION. "Lines start at the replaced function's, also for 1; places count from the new text's first byte."
+unfoldable pub recheckOf : List ℕ → List ℕ → ℕ → List ℕ → Checking
+recheckOf old table number new =
+    pick (isTable old table number)
+    (lexedAs old table number new (readingOf (lexedFrom (getD table (lineAt number) 0) new)))
+    (refusedWith 42 0 0)

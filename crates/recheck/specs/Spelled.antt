@@ -1,0 +1,41 @@
+-- Names by spelling: "A looked-up name is a part of the old text or of the new." The headers' names are parts of the old
+-- text, the new function's names parts of the new one.
+use Prim.Native.Nat.{ℕ, zero, suc, _+_}
+use mathlib.Core.List.{List}
+use lib.ListN.{getD}
+use lib.Seq.{slice}
+use Rattle.utils.specs.Bytes.{pick, sameBytes}
+use Rattle.lexer.specs.Decoded.{nameOf}
+use Rattle.functions.specs.Rows.{typeAt}
+use Rattle.sema.specs.Typing.{Global}
+use Rattle.sema.specs.Globals.{globalOf}
+use Rattle.sema.specs.declared.FoundRow.{FoundRow}
+use Rattle.sema.specs.declared.FoundRow.the-variants as W
+use Rattle.checker.specs.Header.{placeAt, lengthAt}
+
+-- the name of row i of the header table
+abbrev pub rowName : List ℕ → List ℕ → ℕ → List ℕ
+rowName old rows i = slice (getD rows (placeAt i) 0) (getD rows (placeAt i) 0 + getD rows (lengthAt i) 0) old
+
+-- the first of n rows, from row i on, whose name is spelled so
+unfoldable pub rowSpelled : List ℕ → List ℕ → ℕ → ℕ → List ℕ → FoundRow
+rowSpelled old rows i zero name = W.Absent
+rowSpelled old rows i (suc n) name =
+    let more = rowSpelled old rows (i + 1) n name in
+    pick (sameBytes (rowName old rows i) name) (W.At i) more
+
+-- the row of a callee, by its number among the new text's names
+abbrev pub calleeRow : List ℕ → List ℕ → List ℕ → List ℕ → ℕ → FoundRow
+calleeRow old rows new names x = rowSpelled old rows 0 (getD rows 0 0) (nameOf new names x)
+
+-- its function type, for typing
+abbrev pub globalsSpelled : List ℕ → List ℕ → List ℕ → List ℕ → ℕ → Global
+globalsSpelled old rows new names x = globalOf rows (calleeRow old rows new names x)
+
+-- and the cell of that type: its number and 4
+abbrev pub typeCellOf : List ℕ → FoundRow → ℕ
+typeCellOf rows (W.At i) = getD rows (typeAt i) 0 + 4
+typeCellOf rows W.Absent = 0
+
+abbrev pub calleesSpelled : List ℕ → List ℕ → List ℕ → List ℕ → ℕ → ℕ
+calleesSpelled old rows new names x = typeCellOf rows (calleeRow old rows new names x)

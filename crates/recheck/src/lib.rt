@@ -1,0 +1,2 @@
+// One new function against the headers of an accepted text.
+mod table;
