@@ -7,5 +7,3 @@ pub mod Promise
 pub mod Header
 -- document 01's numbers
 pub mod Numbers
--- document 01's cases: one table, one claim
-pub mod Cases

@@ -5,3 +5,5 @@ pub mod Table
 pub mod Spelled
 -- the whole answer
 pub mod Recheck
+-- document 01's cases, of check and of recheck: one table, one claim
+pub mod Cases

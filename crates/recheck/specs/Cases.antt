@@ -1,5 +1,5 @@
--- Document 01's cases marked * for check: one table with one claim, shown by computation. A row is a text and what it
--- gives: a refusal's number, line, place and message; or how many tokens and functions it has, its items (with the
+-- Document 01's cases marked *, of check and of recheck: one table with one claim, shown by computation. A row is what a
+-- text gives: a refusal's number, line, place and message; or how many tokens and functions it has, its items (with the
 -- `ret`s that are added) and its blocks with their edges.
 use Prim.Native.Nat.{ℕ, zero, suc, _*_}
 use Prim.Native.String.{String}
@@ -7,24 +7,30 @@ use mathlib.Core.Path.{_≡_, refl}
 use mathlib.Core.List.{List, [], _∷_, _++_}
 use mathlib.Core.Bool.{Bool, true, false}
 use lib.ListN.{length, getD, take, drop}
-use Rattle.utils.specs.Bytes.{pick, bytes, sameBytes}
+use Rattle.utils.specs.Bytes.{pick, padTo, bytes, sameBytes}
+use Rattle.parser.specs.Runs.{variablesCells}
 use Rattle.body.specs.Records.{operationRecord, recordOf}
 use Rattle.link.specs.Cells.{blockCells, predecessorCells}
 use Rattle.functions.specs.Answer.{countsFrom}
 use Rattle.messages.specs.Opened as messages
 use Rattle.sema.specs.Opened as typing
+use Rattle.functions.specs.Rows.{typesAt}
 use Rattle.functions.specs.Laid.{rowsCells, allBlocks, allPredecessors}
 use Rattle.elaborate.specs.Types.{calleeIn, isCall, typedLast, typedRecord, typedItemsCells, typedVariables}
 use Rattle.elaborate.specs.Types.{typedArgumentsCells}
 use Rattle.typing.specs.Outcome.{unitD, tablesOf, allItems, allArguments}
 use Rattle.checker.specs.Check.{Checking, checkOf}
+use Rattle.recheck.specs.Table.{between, formalsFit, nameFits, typeFits, rowFits, rowsFit, isTable}
+use Rattle.recheck.specs.Spelled.{rowSpelled}
+use Rattle.recheck.specs.Recheck.{isWhole, keeps, functionAlone, recheckOf}
 
 -- To unfold this is to unfold the whole definition.
 unfoldable pub opened : ℕ
 unfolding
     typing.opened messages.opened operationRecord recordOf blockCells predecessorCells countsFrom isCall typedLast
     typedRecord unitD tablesOf calleeIn typedItemsCells typedVariables typedArgumentsCells rowsCells allItems
-    allArguments allBlocks allPredecessors checkOf
+    allArguments allBlocks allPredecessors checkOf variablesCells typesAt between formalsFit nameFits typeFits rowFits
+    rowsFit isTable rowSpelled isWhole keeps functionAlone recheckOf
 opened = 0
 
 -- Records of eight cells (docs/INTERFACE.md), as a row of the table gives them. --------------------------------------
@@ -78,7 +84,7 @@ numbers k =
     ∷ (itemsIn (eights (a .items) (u .items)) ++ blocksIn (u .predecessors) (eights (a .blocks) (u .blocks)))
 
 pub record Case : Type 0 where
-  pub text : String
+  pub given : Checking
   pub gives : List ℕ
   pub says : String
 
@@ -86,21 +92,32 @@ joined : List (List ℕ) → List ℕ
 joined [] = []
 joined (r ∷ rs) = r ++ joined rs
 
--- a text that is refused with this number, line, place and message
-abbrev refuses : String → ℕ → ℕ → ℕ → String → Case
-refuses s number line place m =
-    record { text = s; gives = number ∷ line ∷ place ∷ 0 ∷ 0 ∷ 0 ∷ 0 ∷ 0 ∷ 0 ∷ []; says = m }
+-- refused with this number, line, place and message
+abbrev refused : Checking → ℕ → ℕ → ℕ → String → Case
+refused k number line place m =
+    record { given = k; gives = number ∷ line ∷ place ∷ 0 ∷ 0 ∷ 0 ∷ 0 ∷ 0 ∷ 0 ∷ []; says = m }
 
--- a text that has so many tokens and functions, these items and these blocks
-abbrev accepts : String → ℕ → ℕ → List (List ℕ) → List (List ℕ) → Case
-accepts s tokens functions items blocks =
+-- accepted, with so many tokens and functions, these items and these blocks
+abbrev accepted : Checking → ℕ → ℕ → List (List ℕ) → List (List ℕ) → Case
+accepted k tokens functions items blocks =
     let is = length items in
     let bs = length blocks in
     record {
-      text = s;
+      given = k;
       gives = 0 ∷ 0 ∷ 0 ∷ tokens ∷ functions ∷ is ∷ is * 8 ∷ bs ∷ bs * 8 ∷ (joined items ++ joined blocks);
       says = "";
     }
+
+-- The rows of a check, and of a recheck of a text's first function.
+abbrev refuses : String → ℕ → ℕ → ℕ → String → Case
+refuses s number line place m = refused (checkOf (bytes s)) number line place m
+
+abbrev accepts : String → ℕ → ℕ → List (List ℕ) → List (List ℕ) → Case
+accepts s tokens functions items blocks = accepted (checkOf (bytes s)) tokens functions items blocks
+
+rechecked : String → String → Checking
+rechecked old new =
+    recheckOf (bytes old) (padTo 2881 (checkOf (bytes old) .unit .functions)) 0 (bytes new)
 
 unfoldable cases : List Case
 cases =
@@ -120,6 +137,8 @@ cases =
     ∷ refuses "@f { x: int = const 2147483648; }" 10 1 14
     "[line 1] Error at 'const': Integer or boolean constant expected."
     ∷ accepts "@f { nop 2147483648; }" 6 1 (nop ∷ ret ∷ []) (block 2 [] [] 0 ∷ [])
+    ∷ accepted (rechecked "@f { nop; }" "@f { ret; }") 6 1 (ret ∷ []) (block 1 [] [] 0 ∷ [])
+    ∷ refused (rechecked "@f { nop; }" "@f: int { nop; }") 41 1 0 "[line 1] Error : header changed."
     ∷ []
 
 -- a message ends with a newline
@@ -131,10 +150,10 @@ right : List Case → Bool
 right [] = true
 right (c ∷ cs) =
     let more = right cs in
-    let k = checkOf (bytes (c .text)) in
+    let k = c .given in
     pick (sameBytes (numbers k) (c .gives)) (pick (sameBytes (k .message) (line (bytes (c .says)))) more false) false
 
 -- THE CLAIM
 all-right : right cases ≡ true
-unfolding opened eights itemsIn blocksIn numbers joined cases right
+unfolding opened eights itemsIn blocksIn numbers joined rechecked cases right
 all-right = refl
