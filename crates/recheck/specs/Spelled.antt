@@ -1,21 +1,46 @@
 -- Names by spelling: "A looked-up name is a part of the old text or of the new." The headers' names are parts of the old
 -- text, the new function's names parts of the new one.
-use Prim.Native.Nat.{ℕ, zero, suc, _+_}
-use mathlib.Core.List.{List}
-use lib.ListN.{getD}
+use Prim.Native.Nat.{ℕ, zero, suc, _+_, _≤_}
+use mathlib.Core.List.{List, []}
+use lib.Dec.{leb}
+use lib.ListN.{length, getD}
 use lib.Seq.{slice}
 use Rattle.utils.specs.Bytes.{pick, sameBytes}
 use Rattle.lexer.specs.Decoded.{nameOf}
+use Rattle.lexer.specs.declared.Found.{Found}
+use Rattle.lexer.specs.declared.Found.the-variants as F
 use Rattle.functions.specs.Rows.{typeAt}
 use Rattle.sema.specs.Typing.{Global}
 use Rattle.sema.specs.Globals.{globalOf}
 use Rattle.sema.specs.declared.FoundRow.{FoundRow}
 use Rattle.sema.specs.declared.FoundRow.the-variants as W
 use Rattle.checker.specs.Header.{placeAt, lengthAt}
+use Rattle.recheck.specs.declared.Looked.{Looked}
+use Rattle.recheck.specs.declared.Looked.the-variants as L
 
--- the name of row i of the header table
-abbrev pub rowName : List ℕ → List ℕ → ℕ → List ℕ
-rowName old rows i = slice (getD rows (placeAt i) 0) (getD rows (placeAt i) 0 + getD rows (lengthAt i) 0) old
+-- the name of row i of the header table; nothing where it lies outside the old text
+unfoldable pub rowName : List ℕ → List ℕ → ℕ → List ℕ
+rowName old rows i =
+    let place = getD rows (placeAt i) 0 in
+    let len = getD rows (lengthAt i) 0 in
+    pick (leb (place + len) (length old)) (slice place (place + len) old) []
+
+-- whose name is looked up: a row's, a part of the old text, or one of the new text's own
+abbrev pub spelledAs : List ℕ → List ℕ → List ℕ → List ℕ → Looked → List ℕ
+spelledAs old new rows names (L.Header i) = rowName old rows i
+spelledAs old new rows names (L.Name x) = nameOf new names (x .0)
+
+-- a row's number is at most the table's size
+abbrev pub InTable : Looked → Type 0
+InTable (L.Header i) = i ≤ 64
+InTable (L.Name x) = Unit
+
+-- the first of the new text's n names, from name x on, that is spelled so
+unfoldable pub nameSpelled : List ℕ → List ℕ → ℕ → ℕ → List ℕ → Found
+nameSpelled new names x zero name = F.Nothing
+nameSpelled new names x (suc n) name =
+    let more = nameSpelled new names (x + 1) n name in
+    pick (sameBytes name (nameOf new names x)) (F.At record { 0 = x }) more
 
 -- the first of n rows, from row i on, whose name is spelled so
 unfoldable pub rowSpelled : List ℕ → List ℕ → ℕ → ℕ → List ℕ → FoundRow
