@@ -3,6 +3,8 @@
 pub mod Table
 -- names by spelling
 pub mod Spelled
+-- the old headers in the new text's numbers
+pub mod Brought
 -- the whole answer
 pub mod Recheck
 -- document 01's cases, of check and of recheck: one table, one claim

@@ -1,4 +1,5 @@
 // One new function against the headers of an accepted text.
+mod bring;
 mod names;
 mod table;
 
@@ -8,4 +9,10 @@ use pieces::Identifier;
 pub enum Looked {
     Header(usize),
     Name(Identifier),
+}
+
+// How many of the old headers the new text names, and where among them is the one of the replaced function.
+pub struct Placed {
+    pub place: usize,
+    pub count: usize,
 }
