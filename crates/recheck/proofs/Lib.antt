@@ -2,3 +2,7 @@
 pub mod Turns
 -- the tests of a header table are its ranges
 pub mod Ranges
+-- the new text's names, found by spelling
+pub mod Named
+-- the old headers in the new text's numbers: the two laws
+pub mod Brought

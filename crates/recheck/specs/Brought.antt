@@ -1,5 +1,6 @@
 -- The old headers in the new text's numbers: a table of the rows whose names the new text has, in their order, each with
--- that name's number in it.
+-- that name's number in it. What looks a callee up by its number among these rows finds what the spelling finds among
+-- all of them (`globals-brought`, `callees-brought`, proofs/Brought.antt).
 use Prim.Native.Nat.{ℕ, zero, suc, _+_, _≤_}
 use mathlib.Core.Path.{_≡_}
 use mathlib.Core.List.{List, [], _∷_}

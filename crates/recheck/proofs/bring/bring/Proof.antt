@@ -1,9 +1,8 @@
 -- The rows before the given one and the rows from it on are brought one after the other: together, the whole table.
-use mathlib.Core.Path.{_≡_}
 use native.Mathlib.Omega.{arith}
 use borrow.Author.Needs.{needs}
 use denote.Ref.{now}
-use Rattle.recheck.specs.Brought.{brought, broughtFrom}
+use Rattle.recheck.specs.Brought.{brought}
 use Rattle.recheck.proofs.Turns.{brought-whole}
 use Rattle.recheck.proofs.bring.bring.Statement.{statement}
 use Rattle.recheck.proofs.bring.bring.Tie as tie

@@ -2,7 +2,6 @@
 use mathlib.Core.Path.{refl}
 use native.Mathlib.Omega.{arith}
 use borrow.Author.Needs.{needs}
-use Rattle.recheck.specs.Brought.{broughtAs}
 use Rattle.recheck.proofs.bring.bring_row.Statement.{statement}
 use Rattle.recheck.proofs.bring.bring_row.Tie as tie
 

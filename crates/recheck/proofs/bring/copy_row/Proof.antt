@@ -1,7 +1,7 @@
 -- Storing the cells that are left from here on gives what storing all of them gives.
 use borrow.Author.Needs.{needs}
 use Prim.Native.Nat.{_-_, _≤_, _+_}
-use mathlib.Core.Path.{_≡_, refl, sym, _∙_}
+use mathlib.Core.Path.{_≡_, refl}
 use native.Mathlib.Omega.{arith}
 use native.Mathlib.Nat.{add-zero}
 use lib.ListN.{length, length-set}

@@ -3,7 +3,6 @@ use Prim.Native.Nat.{_+_, _-_}
 use mathlib.Core.Path.{_≡_, refl}
 use native.Mathlib.Omega.{arith}
 use borrow.Author.Needs.{needs}
-use borrow.Author.Tests.{not-true}
 use denote.Ref.{now}
 use Rattle.utils.specs.Bytes.{pick}
 use Rattle.recheck.specs.Spelled.{rowName, nameSpelled}

@@ -1,6 +1,5 @@
 -- Each case looks in its own text.
 use borrow.Author.Needs.{needs}
-use Rattle.recheck.specs.Spelled.{spelledAs, InTable}
 use Rattle.recheck.proofs.names.spelled.Statement.{statement}
 use Rattle.recheck.proofs.names.spelled.Tie as tie
 
