@@ -5,12 +5,14 @@ use mathlib.Core.Path.{_≡_, refl, sym, ap, subst, _∙_}
 use mathlib.Core.List.{List}
 use mathlib.Core.Bool.{Bool, true, false}
 use native.Mathlib.Omega.{arith}
+use native.Mathlib.Nat.{zero-add}
 use borrow.Author.Tests.{le-leb, leb-true}
 use lib.Dec.{leb, eqb}
 use lib.ListN.{length, getD, length-set}
 use lib.Seq.{slice, sets, length-sets, length-slice, getD-set-same, getD-set-other}
 use Rattle.utils.specs.Bytes.{pick, sameBytes}
 use Rattle.pieces.proofs.Progress.{pick-either}
+use Rattle.pieces.specs.declared.Identifier.{Identifier}
 use Rattle.lexer.specs.Decoded.{nameOf}
 use Rattle.lexer.specs.declared.Found.{Found}
 use Rattle.lexer.specs.declared.Found.the-variants as F
@@ -26,6 +28,7 @@ use Rattle.recheck.specs.Spelled.{rowName, nameSpelled, rowSpelled, call
 use Rattle.recheck.specs.Brought.{cellsFrom, rowPut, Brought, brought, broughtAs, broughtFrom, headersBrought, Brings}
 use Rattle.recheck.specs.declared.Placed.{Placed}
 use Rattle.recheck.proofs.Ranges.{Tabled}
+use Rattle.recheck.proofs.Turns.{brought-both, brought-more}
 use Rattle.recheck.proofs.Named.{Named, Decides, found-decides}
 
 -- A row's cells. -----------------------------------------------------------------------------------------------------
@@ -170,12 +173,22 @@ module _ (old rows new names : List ℕ) (known : ℕ) where
   abbrev one : ℕ → Brought → Brought
   one i b = broughtAs b rows i (nameSpelled new names 0 known (rowName old rows i))
 
-  grows : (n i : ℕ) (b : Brought) → b .count ≤ broughtFrom old rows new names known i n b .count
+  grows : (n i : ℕ) (b : Brought)
+      → (b .count ≤ broughtFrom old rows new names known i n b .count)
+      × (broughtFrom old rows new names known i n b .count ≤ b .count + n)
   unfolding broughtFrom
-  grows zero i b = omega arith
+  grows zero i b = (omega arith, omega arith)
   grows (suc n) i b =
       let s = step-grows b rows i (nameSpelled new names 0 known (rowName old rows i)) in
-      omega (arith, s .0, grows n (i + 1) (one i b))
+      let g = grows n (i + 1) (one i b) in
+      (omega arith, omega arith)
+
+  length-brought : (n i : ℕ) (b : Brought)
+      → length (broughtFrom old rows new names known i n b .cells) ≡ length (b .cells)
+  unfolding broughtFrom
+  length-brought zero i b = refl
+  length-brought (suc n) i b =
+      length-brought n (i + 1) (one i b) ∙ step-length b rows i (nameSpelled new names 0 known (rowName old rows i))
 
   kept : (n i : ℕ) (b : Brought) (j : ℕ) → j < rowAt (b .count)
       → getD (broughtFrom old rows new names known i n b .cells) j 0 ≡ getD (b .cells) j 0
@@ -253,7 +266,7 @@ module _ (old rows new names : List ℕ) (known : ℕ) (v : Named new names know
       turn old rows new names x i n b (broughtFrom old rows new names known (i + 1) n b′) f
       (found-decides new names known v (rowName old rows i) (some i (omega arith) (omega arith)))
       (omega arith)
-      (grows old rows new names known n (i + 1) b′)
+      (grows old rows new names known n (i + 1) b′ .0)
       (kept old rows new names known n (i + 1) b′)
       (brought-same n (i + 1) b′ (omega arith) (λ j p q. some j (omega arith) (omega arith)))
 
@@ -299,3 +312,62 @@ module _ (old rows new names : List ℕ) (known number : ℕ) (out₀ : List ℕ
     callees-brought =
         callee-row out (r .count) 0 x
         ∙ type-same out rows (rowFrom out 0 (r .count) x) (calleeRow old rows new names x) found-same
+
+-- Where the row of the given number stands. --------------------------------------------------------------------------
+
+pub record Stands (rows : List ℕ) (number y : ℕ) (r : Placed) (out : List ℕ) : Type 0 where
+  pub below : r .place < r .count
+  pub name : getD out (nameAt (r .place)) 0 ≡ y
+  pub cells : RowSame out rows (r .place) number
+
+module _ (old rows new names : List ℕ) (known number : ℕ) (out₀ : List ℕ) (y : Identifier)
+    (t : Tabled old rows number) (found : nameSpelled new names 0 known (rowName old rows number) ≡ F.At y)
+  where
+    -- the rows before it
+    abbrev before : Brought
+    before = broughtFrom old rows new names known 0 number (brought out₀ 0)
+
+    -- with it
+    abbrev with-it : Brought
+    with-it = brought (rowPut (before .cells) (before .count) rows number (y .0)) (before .count + 1)
+
+    -- and with those behind it
+    abbrev all : Brought
+    all = broughtFrom old rows new names known (number + 1) (getD rows 0 0 - number - 1) with-it
+
+    all-brought : headersBrought old rows new names known out₀ ≡ all
+    all-brought =
+        let there = t .there in
+        let m : getD rows 0 0 ≡ number + (getD rows 0 0 - number) = omega arith in
+        ap (λ (n : ℕ). broughtFrom old rows new names known 0 n (brought out₀ 0)) m
+        ∙ brought-both old rows new names known 0 number (getD rows 0 0 - number) (brought out₀ 0)
+        ∙ ap (λ (i : ℕ). broughtFrom old rows new names known i (getD rows 0 0 - number) before) (zero-add number)
+        ∙ brought-more old rows new names known number (getD rows 0 0 - number) before (omega arith)
+        ∙ rw found
+
+    -- If the new text has its name, the row stands at its place, with the name's number.
+    pub place-brought : (r : Placed) (out : List ℕ) → 2881 ≤ length out₀
+        → Brings old rows new names known number out₀ r out → Stands rows number (y .0) r out
+    place-brought r out room b =
+        let few = t .in-range .count in
+        let there = t .there in
+        let s : brought out (r .count) ≡ all = b .table ∙ all-brought in
+        let cells : out ≡ all .cells = ap (λ (h : Brought). h .cells) s in
+        let count : r .count ≡ all .count = ap (λ (h : Brought). h .count) s in
+        let place : r .place ≡ before .count = b .place in
+        let up = grows old rows new names known number 0 (brought out₀ 0) in
+        let l : length (before .cells) ≡ length out₀ = length-brought old rows new names known number 0 (brought out₀ 0) in
+        let fits : rowAt (before .count + 1) ≤ length (before .cells) = omega arith in
+        let more = grows old rows new names known (getD rows 0 0 - number - 1) (number + 1) with-it in
+        let keeps = kept old rows new names known (getD rows 0 0 - number - 1) (number + 1) with-it in
+        record {
+          below = omega arith;
+          name =
+              rw (place, cells)
+              (keeps (nameAt (before .count)) (omega arith)
+              ∙ put-name (before .cells) rows (before .count) number (y .0) fits);
+          cells = λ j h other.
+              rw (place, cells)
+              (keeps (rowAt (before .count) + j) (omega arith)
+              ∙ put-cell (before .cells) rows (before .count) number (y .0) fits j h other);
+        }

@@ -81,7 +81,7 @@ brought-none old rows new names known i zero b h = refl
 brought-none old rows new names known i (suc n) b h = absurd (omega arith)
 
 -- the first a rows, and then b more
-brought-both : (old rows new names : List ℕ) (known i a b : ℕ) (x : Brought)
+pub brought-both : (old rows new names : List ℕ) (known i a b : ℕ) (x : Brought)
     → broughtFrom old rows new names known i (a + b) x
     ≡ broughtFrom old rows new names known (i + a) b (broughtFrom old rows new names known i a x)
 unfolding broughtFrom
