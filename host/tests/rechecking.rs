@@ -9,7 +9,7 @@ mod support;
 use std::io::Write;
 
 use support::against_fresh::{Premise, compare_with_fresh};
-use support::compare_edits::compare_all;
+use support::compare_edits::EditComparison;
 use support::edits::{self, Edit, table_of};
 use support::model::{self, BYTES, ROW, TABLE};
 use support::said::{Said, Ty};
@@ -32,7 +32,9 @@ fn from_environment(name: &str, default: u64) -> u64 {
 #[test]
 fn generated_edits() {
     let (seed, count) = (from_environment("PITCHSLEET_SEED", SEED), from_environment("PITCHSLEET_EDITS", EDITS));
-    let report = compare_all(edits::generated(seed, 0..count));
+    let mut comparison = EditComparison::new();
+    comparison.all(edits::generated(seed, 0..count));
+    let report = comparison.report;
     // Not by `println!`, whose output a passing test keeps to itself.
     writeln!(std::io::stderr(), "rechecking: generated, seed {seed}: {report}").expect("standard error");
     assert!(report.is_clean(), "{report}");

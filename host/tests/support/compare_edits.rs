@@ -7,7 +7,7 @@ use pitchsleet::Printable;
 use super::against_fresh::{Premise, Rechecked, compare_with_fresh};
 use super::against_rust::compare_with_rust;
 use super::edits::Edit;
-use super::oracle::{Depth, Oracle, RustSaid};
+use super::oracle::{Depth, Oracle};
 
 /// How many texts the oracle is asked at once.
 const BATCH: usize = 512;
@@ -88,23 +88,32 @@ impl Display for Listed<'_> {
     }
 }
 
-/// Compares all edits of a run.
-pub fn compare_all(edits: impl IntoIterator<Item = Edit>) -> EditReport {
-    let mut report = EditReport::default();
-    let mut oracle = Oracle::start(Depth::Check);
-    let mut edits = edits.into_iter();
-    loop {
-        let batch: Vec<Edit> = edits.by_ref().take(BATCH).collect();
-        if batch.is_empty() {
-            return report;
-        }
-        compare_batch(&batch, oracle.as_mut(), &mut report);
-    }
+/// Compares edits as they come.
+pub struct EditComparison {
+    oracle: Option<Oracle>,
+    pub report: EditReport,
 }
 
-fn compare_batch(edits: &[Edit], oracle: Option<&mut Oracle>, report: &mut EditReport) {
-    let mut owed: Vec<(&Edit, Rechecked)> = Vec::new();
-    for edit in edits {
+impl EditComparison {
+    pub fn new() -> Self {
+        Self { oracle: Oracle::start(Depth::Check), report: EditReport::default() }
+    }
+
+    pub fn all(&mut self, edits: impl IntoIterator<Item = Edit>) {
+        let mut edits = edits.into_iter();
+        loop {
+            let batch: Vec<Edit> = edits.by_ref().take(BATCH).collect();
+            if batch.is_empty() {
+                return;
+            }
+            let owed = batch.iter().filter_map(|edit| Some((edit, self.one(edit)?))).collect();
+            self.hold_to_rust(owed);
+        }
+    }
+
+    /// An edit whose answer is owed a comparison with the Rust.
+    fn one(&mut self, edit: &Edit) -> Option<Rechecked> {
+        let report = &mut self.report;
         report.edits += 1;
         match compare_with_fresh(edit) {
             Err(why) => report.differs(edit, &why),
@@ -116,17 +125,22 @@ fn compare_batch(edits: &[Edit], oracle: Option<&mut Oracle>, report: &mut EditR
                 if rechecked.fresh.order_is_open {
                     report.unreachable += 1;
                 } else if !is_by_a_limit(rechecked.number) {
-                    owed.push((edit, rechecked));
+                    return Some(rechecked);
                 }
             }
         }
+        None
     }
-    let Some(oracle) = oracle else { return };
-    let texts: Vec<Vec<u8>> = owed.iter().map(|(_, rechecked)| rechecked.edited.clone()).collect();
-    for ((edit, rechecked), rust) in owed.iter().zip(oracle.ask(&texts)) {
-        match held_to_rust(rechecked, &rust) {
-            Ok(()) => report.held_to_rust += 1,
-            Err(why) => report.differs(edit, &why),
+
+    /// Recheck says the same as a check of the edited text, which must be what the Rust says.
+    fn hold_to_rust(&mut self, owed: Vec<(&Edit, Rechecked)>) {
+        let Some(oracle) = &mut self.oracle else { return };
+        let texts: Vec<Vec<u8>> = owed.iter().map(|(_, rechecked)| rechecked.edited.clone()).collect();
+        for ((edit, rechecked), rust) in owed.iter().zip(oracle.ask(&texts)) {
+            match compare_with_rust(&rechecked.edited, &rechecked.fresh.said, &rust) {
+                Ok(()) => self.report.held_to_rust += 1,
+                Err(why) => self.report.differs(edit, &why),
+            }
         }
     }
 }
@@ -134,9 +148,4 @@ fn compare_batch(edits: &[Edit], oracle: Option<&mut Oracle>, report: &mut EditR
 /// The Rust knows no limits.
 fn is_by_a_limit(number: u32) -> bool {
     (31..=38).contains(&number)
-}
-
-/// Recheck says the same as a check of the edited text, which must be what the Rust says.
-fn held_to_rust(rechecked: &Rechecked, rust: &RustSaid) -> Result<(), String> {
-    compare_with_rust(&rechecked.edited, &rechecked.fresh.said, rust)
 }
