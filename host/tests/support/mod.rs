@@ -2,12 +2,15 @@
 //! the comparison of all three.
 #![allow(dead_code, reason = "each test uses a part")]
 
+pub mod against_fresh;
 pub mod against_model;
 pub mod against_rust;
 pub mod by_crate;
 pub mod compare;
+pub mod compare_edits;
 pub mod dice;
 pub mod edges;
+pub mod edits;
 pub mod fixed;
 pub mod grammar;
 pub mod json;

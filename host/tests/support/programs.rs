@@ -58,24 +58,53 @@ pub fn large(dice: &mut Dice, room: usize) -> Vec<String> {
 }
 
 fn of_functions(dice: &mut Dice, count: usize, blocks: usize) -> Vec<String> {
-    let manner =
-        Manner { reads_elsewhere: dice.once_in(3), mixes_types: dice.once_in(12), leaves_blocks: dice.once_in(9) };
-    let mut signatures: Vec<Signature> = (0..count).map(|number| signature(dice, number)).collect();
-    // The same function twice, which may be, and the same name with two types, which may not.
-    if count > 1 && dice.once_in(12) {
-        signatures[count - 1] = signatures[0].clone();
+    let functions = Functions::new(dice, count, blocks);
+    (0..count).flat_map(|number| functions.one(dice, number)).collect()
+}
+
+/// Functions that may call each other and themselves. Each can be written anew, with another body.
+pub struct Functions {
+    signatures: Vec<Signature>,
+    manner: Manner,
+    blocks: usize,
+}
+
+impl Functions {
+    /// So many functions, each of about so many blocks.
+    pub fn new(dice: &mut Dice, count: usize, blocks: usize) -> Self {
+        let manner =
+            Manner { reads_elsewhere: dice.once_in(3), mixes_types: dice.once_in(12), leaves_blocks: dice.once_in(9) };
+        let mut signatures: Vec<Signature> = (0..count).map(|number| signature(dice, number)).collect();
+        // The same function twice, which may be, and the same name with two types, which may not.
+        if count > 1 && dice.once_in(12) {
+            signatures[count - 1] = signatures[0].clone();
+        }
+        if count > 1 && dice.once_in(40) {
+            signatures[count - 1].name = signatures[0].name.clone();
+        }
+        Self { signatures, manner, blocks }
     }
-    if count > 1 && dice.once_in(40) {
-        signatures[count - 1].name = signatures[0].name.clone();
+
+    /// The tokens of a function, with a new body each time.
+    pub fn one(&self, dice: &mut Dice, number: usize) -> Vec<String> {
+        self.written(dice, &self.signatures[number])
     }
-    let mut tokens = Vec::new();
-    for own in &signatures {
+
+    /// The same with other names for its formals, of the same types.
+    pub fn one_with_other_formals(&self, dice: &mut Dice, number: usize) -> Vec<String> {
+        let mut own = self.signatures[number].clone();
+        own.formals.iter_mut().for_each(|(name, ty)| *name = dice.one(names(*ty)));
+        self.written(dice, &own)
+    }
+
+    fn written(&self, dice: &mut Dice, own: &Signature) -> Vec<String> {
+        let (manner, all, known) = (self.manner, &self.signatures[..], own.formals.clone());
+        let mut tokens = Vec::new();
         header(dice, &mut tokens, own);
-        let graph = Graph::new(dice, blocks, manner.leaves_blocks);
-        let known = own.formals.clone();
-        Body { dice, tokens: &mut tokens, own, all: &signatures, manner, known, elsewhere: Vec::new() }.write(&graph);
+        let graph = Graph::new(dice, self.blocks, manner.leaves_blocks);
+        Body { dice, tokens: &mut tokens, own, all, manner, known, elsewhere: Vec::new() }.write(&graph);
+        tokens
     }
-    tokens
 }
 
 fn signature(dice: &mut Dice, number: usize) -> Signature {
@@ -527,7 +556,7 @@ fn formals_and_arguments(tokens: &mut Vec<String>, formals: usize, arguments: us
 }
 
 /// As many blocks as there may be, each with a way to the next, and some with a way back.
-fn chain(dice: &mut Dice, tokens: &mut Vec<String>) {
+pub fn chain(dice: &mut Dice, tokens: &mut Vec<String>) {
     push(tokens, &["@g", "{", "q", ":", "bool", "=", "const", "true", ";", "jmp", ".l0", ";"]);
     let count = dice.between(253, 258);
     for number in 0..count {

@@ -100,7 +100,7 @@ const ODD_PIECES: [&str; 34] = [
 ];
 
 /// A copy with some bytes lost, added, changed, or moved about.
-fn damaged(dice: &mut Dice, mut text: Vec<u8>) -> Vec<u8> {
+pub fn damaged(dice: &mut Dice, mut text: Vec<u8>) -> Vec<u8> {
     for _ in 0..dice.between(1, 4) {
         let (from, to) = span(dice, &text);
         match dice.below(7) {

@@ -1,12 +1,14 @@
-//! Document 01's reading and checking, written from its sentences. It has no code in common with the proved crates or with
+//! Document 01's reading, checking and rechecking, written from its sentences. It has no code in common with the proved crates or with
 //! the Rust, and it alone decides what the limits do and what an empty block is, which the Rust doesn't have.
 mod parsing;
 mod reading;
+mod rechecking;
 mod typing;
 
-use super::said::Said;
+use super::said::{Said, SaidFunction, SaidName, SaidToken};
 
 pub use reading::read;
+pub use rechecking::recheck;
 
 pub const BYTES: usize = 16_384;
 pub const TOKENS: usize = 4_096;
@@ -16,6 +18,10 @@ pub const FUNCTIONS: usize = 64;
 pub const FORMALS: usize = 16;
 pub const ARGUMENTS: usize = 16;
 pub const LABELS: usize = 255;
+
+/// A header table's size: the count, and 64 rows of 45 cells.
+pub const TABLE: usize = 1 + FUNCTIONS * ROW;
+pub const ROW: usize = 45;
 
 /// The model's answer to a text, and what a comparison with the Rust must know of it.
 pub struct Checked {
@@ -35,22 +41,35 @@ struct Stop {
 
 /// The answer to a text that is checked.
 pub fn check(text: &[u8]) -> Checked {
-    let said = read(text);
+    of_tokens(read(text), |tokens, names, order_is_open| {
+        let functions = parsing::functions(tokens, names)?;
+        let heads = typing::heads_of(&functions);
+        typing::all(functions, &heads, tokens, names, order_is_open)
+    })
+}
+
+/// What comes of the tokens of a text, if it has been read: its functions or one refusal at a token.
+fn of_tokens(
+    said: Said,
+    functions: impl FnOnce(&[SaidToken], &[SaidName], &mut bool) -> Result<Vec<SaidFunction>, Stop>,
+) -> Checked {
     let Said::Accepted { tokens, names, .. } = said else {
         return Checked { said, order_is_open: false };
     };
     let mut order_is_open = false;
-    let functions = parsing::functions(&tokens, &names)
-        .and_then(|functions| typing::all(functions, &tokens, &names, &mut order_is_open));
-    let said = match functions {
+    let said = match functions(&tokens, &names, &mut order_is_open) {
         Ok(functions) => Said::Accepted { tokens, names, functions },
         Err(Stop { number, token, item, words }) => {
-            let token = &tokens[token];
-            let message = format!("[line {}] Error {item}: {words}\n", token.line).into_bytes();
-            Said::Refused { number, line: token.line, place: token.place, message }
+            let SaidToken { line, place, .. } = tokens[token];
+            refused(number, line, place, &item, &words)
         }
     };
     Checked { said, order_is_open }
+}
+
+fn refused(number: u32, line: u32, place: usize, item: &str, words: &str) -> Said {
+    let message = format!("[line {line}] Error {item}: {words}\n").into_bytes();
+    Said::Refused { number, line, place, message }
 }
 
 /// `at 'x'`, with a name's own spelling.

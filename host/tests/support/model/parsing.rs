@@ -1,6 +1,7 @@
 //! "Functions, labels, edges".
 use std::collections::HashMap;
 
+use super::typing::Head;
 use super::{ARGUMENTS, FORMALS, FUNCTIONS, LABELS, Stop, at};
 use crate::support::said::{SaidBlock, SaidFunction, SaidLabel, SaidName, SaidOperation, SaidToken, SaidVariable, Ty};
 
@@ -10,7 +11,7 @@ const CONSTANTS: [&str; 3] = ["true", "false", "integer"];
 
 /// "A text is any number of functions." Operands have no types yet, and no `ret` is added.
 pub fn functions(tokens: &[SaidToken], names: &[SaidName]) -> Result<Vec<SaidFunction>, Stop> {
-    let mut parsing = Parsing { tokens, names, next: 0, types: Vec::new(), entered: HashMap::new() };
+    let mut parsing = Parsing { tokens, names, next: 0, headers: Headers::Entered(Entered::default()) };
     let mut functions = Vec::new();
     while !parsing.is("END_OF_FILE") {
         functions.push(parsing.function(functions.len())?);
@@ -18,14 +19,57 @@ pub fn functions(tokens: &[SaidToken], names: &[SaidName]) -> Result<Vec<SaidFun
     Ok(functions)
 }
 
+/// Recheck: one function, whose header is to be kept. "After the closing brace, once this function's blocks and labels are
+/// resolved, another global is 40, any other token but the end 7."
+pub fn one_function(tokens: &[SaidToken], names: &[SaidName], kept: &Kept<'_>) -> Result<Vec<SaidFunction>, Stop> {
+    let mut parsing = Parsing { tokens, names, next: 0, headers: Headers::Kept(kept) };
+    let function = parsing.function(0)?;
+    if parsing.is("END_OF_FILE") {
+        return Ok(vec![function]);
+    }
+    let (second, _) = parsing.global()?;
+    parsing.stop_bare(second, 40, NOT_ONE_FUNCTION)
+}
+
+/// What 40 says, wherever it is found.
+pub const NOT_ONE_FUNCTION: &str = "not one function.";
+
+/// The header that recheck holds a function's to.
+pub struct Kept<'t> {
+    pub spelling: &'t [u8],
+    pub head: &'t Head,
+}
+
+/// What a function's name is held to where it is entered.
+enum Headers<'t> {
+    Entered(Entered),
+    Kept(&'t Kept<'t>),
+}
+
+/// The headers of a text, as far as it is read.
+#[derive(Default)]
+struct Entered {
+    /// The function types, by their numbers: formals and result.
+    types: Vec<(Vec<Ty>, Ty)>,
+    /// The functions' names, with the numbers of their types.
+    names: HashMap<usize, usize>,
+}
+
+impl Entered {
+    /// A function type's number: equal types share one.
+    fn type_number(&mut self, ty: (Vec<Ty>, Ty)) -> usize {
+        self.types.iter().position(|known| *known == ty).unwrap_or_else(|| {
+            self.types.push(ty);
+            self.types.len() - 1
+        })
+    }
+}
+
 struct Parsing<'t> {
     tokens: &'t [SaidToken],
     names: &'t [SaidName],
     next: usize,
-    /// The function types, by their numbers: formals and result.
-    types: Vec<(Vec<Ty>, Ty)>,
-    /// The functions' names, with the numbers of their types.
-    entered: HashMap<usize, usize>,
+    headers: Headers<'t>,
 }
 
 impl Parsing<'_> {
@@ -146,18 +190,27 @@ impl Parsing<'_> {
         Ok(formals)
     }
 
-    /// "The same name again with an equal type passes, with another is 15."
+    /// "The same name again with an equal type passes, with another is 15"; in recheck "41 where the name would be entered,
+    /// if name or type differ". The function type's number.
     fn enter(&mut self, token: usize, name: usize, formals: &[SaidVariable], result: Ty) -> Result<usize, Stop> {
-        let ty = (formals.iter().map(|formal| formal.ty).collect(), result);
-        let number = self.types.iter().position(|known| *known == ty).unwrap_or_else(|| {
-            self.types.push(ty);
-            self.types.len() - 1
-        });
-        if *self.entered.entry(name).or_insert(number) != number {
-            let words = "Unexpected type 'fn'. Expected 'fn'.".to_owned();
-            return Err(Stop { number: 15, token, item: at(&self.names[name].spelling), words });
+        let types: Vec<Ty> = formals.iter().map(|formal| formal.ty).collect();
+        let spelling = &self.names[name].spelling;
+        match &mut self.headers {
+            Headers::Entered(entered) => {
+                let number = entered.type_number((types, result));
+                if *entered.names.entry(name).or_insert(number) == number {
+                    return Ok(number);
+                }
+                let words = "Unexpected type 'fn'. Expected 'fn'.".to_owned();
+                Err(Stop { number: 15, token, item: at(spelling), words })
+            }
+            Headers::Kept(Kept { spelling: kept, head }) => {
+                if *kept == spelling.as_bytes() && head.formals == types && head.result == result {
+                    return Ok(head.type_number);
+                }
+                self.stop_bare(token, 41, "header changed.")
+            }
         }
-        Ok(number)
     }
 
     // ---- bodies ------------------------------------------------------------------------------------------------------

@@ -44,8 +44,12 @@ impl Stop {
 
 /// The answer to a text.
 pub fn read(text: &[u8]) -> Said {
-    let mut reading =
-        Reading { text, line: 1, place: 0, tokens: Vec::new(), names: Vec::new(), numbers: HashMap::new() };
+    read_from(1, text)
+}
+
+/// The answer to a text whose first line has a number.
+pub fn read_from(line: u32, text: &[u8]) -> Said {
+    let mut reading = Reading { text, line, place: 0, tokens: Vec::new(), names: Vec::new(), numbers: HashMap::new() };
     match reading.whole() {
         Err(stop) => stop.said(),
         Ok(()) => Said::Accepted { tokens: reading.tokens, names: reading.names, functions: Vec::new() },

@@ -5,28 +5,36 @@ use super::{Stop, at};
 use crate::support::said::{SaidBlock, SaidFunction, SaidName, SaidOperation, SaidToken, SaidVariable, Ty};
 
 /// A function as a call sees it.
-struct Head {
-    type_number: usize,
-    formals: Vec<Ty>,
-    result: Ty,
+#[derive(Clone)]
+pub struct Head {
+    pub type_number: usize,
+    pub formals: Vec<Ty>,
+    pub result: Ty,
+}
+
+/// What each global may be called as, by its number.
+pub type Heads = HashMap<usize, Head>;
+
+/// The heads of a text's own functions.
+pub fn heads_of(functions: &[SaidFunction]) -> Heads {
+    let head = |function: &SaidFunction| {
+        let formals = function.formals.iter().map(|formal| formal.ty).collect();
+        Head { type_number: function.type_number, formals, result: function.result }
+    };
+    // Of several functions of one name all have the same type.
+    functions.iter().map(|function| (function.name, head(function))).collect()
 }
 
 /// "Functions are taken in text order." Says on the way whether it came to blocks whose order the Rust leaves open.
 pub fn all(
     mut functions: Vec<SaidFunction>,
+    heads: &Heads,
     tokens: &[SaidToken],
     names: &[SaidName],
     order_is_open: &mut bool,
 ) -> Result<Vec<SaidFunction>, Stop> {
-    let mut heads = HashMap::new();
-    for function in &functions {
-        let formals = function.formals.iter().map(|formal| formal.ty).collect();
-        let head = Head { type_number: function.type_number, formals, result: function.result };
-        // Of several functions of one name all have the same type.
-        heads.insert(function.name, head);
-    }
     for function in &mut functions {
-        let mut typing = Typing { tokens, names, heads: &heads, result: function.result, known: HashMap::new() };
+        let mut typing = Typing { tokens, names, heads, result: function.result, known: HashMap::new() };
         for formal in &function.formals {
             typing.enter(function.token, *formal)?;
         }
@@ -66,7 +74,7 @@ fn order(met: Vec<usize>, count: usize) -> Vec<usize> {
 struct Typing<'t> {
     tokens: &'t [SaidToken],
     names: &'t [SaidName],
-    heads: &'t HashMap<usize, Head>,
+    heads: &'t Heads,
     result: Ty,
     known: HashMap<usize, Ty>,
 }
