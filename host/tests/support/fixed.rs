@@ -11,7 +11,17 @@ pub type Titled = (String, Vec<u8>);
 /// All of them, each once.
 pub fn all() -> Vec<Titled> {
     let lists = [
-        documents(), rules(), reading(), changed(), typed(), calls(), orders(), graphs(), written(), limits(), generated(),
+        documents(),
+        rules(),
+        reading(),
+        changed(),
+        typed(),
+        calls(),
+        orders(),
+        graphs(),
+        written(),
+        limits(),
+        generated(),
     ];
     let mut seen = HashSet::new();
     lists.into_iter().flatten().filter(|(_, text)| seen.insert(text.clone())).collect()

@@ -7,11 +7,8 @@ pub const RULES: [(&str, &[&str]); 16] = [
     (
         "blocks are taken in order, and a terminator's labels first then second",
         &[
-            "@f { br x .a .b; }",
-            "@f { .a: br x .a .b; }",
-            "@f { jmp .z; .a: .b: nop; }",
-            "@f { nop; .a: .b: jmp .z; }",
-            "\n@f { }",
+            "@f { br x .a .b; }", "@f { .a: br x .a .b; }", "@f { jmp .z; .a: .b: nop; }",
+            "@f { nop; .a: .b: jmp .z; }", "\n@f { }",
         ],
     ),
     (
@@ -22,9 +19,10 @@ pub const RULES: [(&str, &[&str]); 16] = [
     (
         "what is missing is reported with the token that stands there",
         &[
-            "@f { nop; .a: }", "@f { nop }", "@f\nnop", "@f { .a nop; }", "@f { x int = id y; }", "@f { x: int id y; }",
-            "@f(x: int { nop; }", "@f { x: y = id z; }", "@f { x: int = x; }", "@f { x: int = ; }", "@f { jmp x; }",
-            "@f { call f; }", "@f { nop;", "@f { nop;\n\n", "@f { call", "@f(a", "@f { call @f a", "@f { .a:",
+            "@f { nop; .a: }", "@f { nop }", "@f\nnop", "@f { .a nop; }", "@f { x int = id y; }",
+            "@f { x: int id y; }", "@f(x: int { nop; }", "@f { x: y = id z; }", "@f { x: int = x; }",
+            "@f { x: int = ; }", "@f { jmp x; }", "@f { call f; }", "@f { nop;", "@f { nop;\n\n", "@f { call", "@f(a",
+            "@f { call @f a", "@f { .a:",
         ],
     ),
     (
@@ -38,11 +36,8 @@ pub const RULES: [(&str, &[&str]); 16] = [
     (
         "names as the text spells them",
         &[
-            "@f { .a: nop; .ab: nop;\n.ab: nop; }",
-            "@f { .a: br x .a .bc; }",
-            "@f { xy: int = const 1;\nxy: bool = const true; }",
-            "@f { x: int = id yz; }",
-            "@f { call @g_1; }",
+            "@f { .a: nop; .ab: nop;\n.ab: nop; }", "@f { .a: br x .a .bc; }",
+            "@f { xy: int = const 1;\nxy: bool = const true; }", "@f { x: int = id yz; }", "@f { call @g_1; }",
         ],
     ),
     (
@@ -94,10 +89,8 @@ pub const RULES: [(&str, &[&str]); 16] = [
     (
         "unary: operand looked up, result entered, then compared",
         &[
-            "@f(a: bool) { c: int = id a; }",
-            "@f(c: bool, a: bool) { c: int = id a; }",
-            "@f(a: int) { c: bool = not a; }",
-            "@f(a: bool) { c: int = not a; }",
+            "@f(a: bool) { c: int = id a; }", "@f(c: bool, a: bool) { c: int = id a; }",
+            "@f(a: int) { c: bool = not a; }", "@f(a: bool) { c: int = not a; }",
             "@f { x: int = const 1;\n\nx: int = not x; }",
         ],
     ),
@@ -123,19 +116,15 @@ pub const RULES: [(&str, &[&str]); 16] = [
     (
         "ret; print and br are never looked up",
         &[
-            "@f(x: int) { ret x; }",
-            "@f: int { ret; }",
-            "@f(a: bool): int { ret a; }",
+            "@f(x: int) { ret x; }", "@f: int { ret; }", "@f(a: bool): int { ret a; }",
             "@f { print q; br q .a .a; .a: nop; }",
         ],
     ),
     (
         "formals are entered first, and one table serves a function",
         &[
-            "@f(x: int, x: bool) { ret; }",
-            "@f(x: int) { x: int = const 1; y: int = id x; }",
-            "@f { x: int = const 1; jmp .a; .a: y: int = id x; }",
-            "@f(x: int) { ret; } @g { y: int = id x; }",
+            "@f(x: int, x: bool) { ret; }", "@f(x: int) { x: int = const 1; y: int = id x; }",
+            "@f { x: int = const 1; jmp .a; .a: y: int = id x; }", "@f(x: int) { ret; } @g { y: int = id x; }",
         ],
     ),
     (
