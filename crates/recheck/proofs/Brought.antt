@@ -111,14 +111,14 @@ module _ (cells rows : List ℕ) where
   at-most : (n : ℕ) → atMost16 n ≤ 16
   at-most n = pick-either (λ (m : ℕ). m ≤ 16) (leb n 16) n 16 (leb-true n 16) (λ e. omega arith)
 
-  cell-same : (k i j : ℕ) → RowSame k i → j < 45 → (j ≡ 1 → ⊥)
+  pub cell-same : (k i j : ℕ) → RowSame k i → j < 45 → (j ≡ 1 → ⊥)
       → getD cells (1 + j + k * 45) 0 ≡ getD rows (1 + j + i * 45) 0
   cell-same k i j s l other =
       let a : 1 + j + k * 45 ≡ rowAt k + j = omega arith in
       let b : 1 + j + i * 45 ≡ rowAt i + j = omega arith in
       rw (a, b) (s j l other)
 
-  global-same : (f g : FoundRow) → Same f g → globalOf cells f ≡ globalOf rows g
+  pub global-same : (f g : FoundRow) → Same f g → globalOf cells f ≡ globalOf rows g
   global-same (W.At k) (W.At i) s =
       let ret : getD cells (retAt k) 0 ≡ getD rows (retAt i) 0 = cell-same k i 6 s (omega arith) (λ q. omega (arith, q)) in
       let count : getD cells (countAt k) 0 ≡ getD rows (countAt i) 0 =
@@ -270,14 +270,18 @@ module _ (old rows new names : List ℕ) (known : ℕ) (v : Named new names know
       (kept old rows new names known n (i + 1) b′)
       (brought-same n (i + 1) b′ (omega arith) (λ j p q. some j (omega arith) (omega arith)))
 
--- a row in range has a name
-row-named : (old rows : List ℕ) (i : ℕ) → RowInRange old rows i → 1 ≤ length (rowName old rows i)
+-- the name of a row in range is a part of the old text, of 2 bytes at least
+pub row-name-part : (old rows : List ℕ) (i : ℕ) → RowInRange old rows i
+    → rowName old rows i ≡ slice (getD rows (placeAt i) 0) (getD rows (placeAt i) 0 + getD rows (lengthAt i) 0) old
 unfolding rowName pick
+row-name-part old rows i r = rw (le-leb _ _ (r .name))
+
+pub row-named : (old rows : List ℕ) (i : ℕ) → RowInRange old rows i → 1 ≤ length (rowName old rows i)
 row-named old rows i r =
     let place = getD rows (placeAt i) 0 in
     let len = getD rows (lengthAt i) 0 in
     let l : length (slice place (place + len) old) ≡ place + len - place = length-slice place (place + len) old (r .name) in
-    rw (le-leb _ _ (r .name)) (omega (arith, r .name-length .0))
+    rw (row-name-part old rows i r) (omega (arith, r .name-length .0))
 
 module _ (old rows new names : List ℕ) (known number : ℕ) (out₀ : List ℕ) (r : Placed) (out : List ℕ)
     (t : Tabled old rows number) (v : Named new names known) (room : 2881 ≤ length out₀)

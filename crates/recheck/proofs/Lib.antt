@@ -4,5 +4,7 @@ pub mod Turns
 pub mod Ranges
 -- the new text's names, found by spelling
 pub mod Named
--- the old headers in the new text's numbers: the two laws
+-- the old headers in the new text's numbers: what is found among them, and where the replaced function's row stands
 pub mod Brought
+-- tables that answer alike
+pub mod Alike

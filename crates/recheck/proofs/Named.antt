@@ -5,13 +5,14 @@ use mathlib.Core.Path.{_≡_, refl, sym, ap, _∙_}
 use mathlib.Core.List.{List, [], _∷_, _++_}
 use mathlib.Core.Bool.{Bool, true, false}
 use native.Mathlib.Omega.{arith}
-use borrow.Author.Tests.{ltb-true, ltb-false, le-leb, eq-eqb, ne-eqb}
+use borrow.Author.Tests.{ltb-true, ltb-false, le-leb, eqb-true, eq-eqb, ne-eqb}
 use lib.Dec.{ltb, eqb}
 use lib.ListN.{length, getD, replicate, List·getD-eq-default}
 use lib.Seq.{slice-empty}
 use Rattle.utils.specs.Bytes.{pick, padTo, sameBytes}
 use Rattle.pieces.proofs.Compare.{other-length}
 use Rattle.pieces.proofs.Progress.{pick-either}
+use Rattle.pieces.specs.declared.Identifier.{Identifier}
 use Rattle.pieces.specs.declared.Token.{Token}
 use Rattle.lexer.specs.Decoded.{nameOf}
 use Rattle.lexer.specs.Numbered.{Part, namesCells}
@@ -104,6 +105,17 @@ module _ (new names : List ℕ) (known : ℕ) (v : Named new names known) (w : L
 
   pub found-decides : Decides new names w (nameSpelled new names 0 known w)
   found-decides = decides (nameSpelled new names 0 known w) (found-name new names w known 0)
+
+  -- a name that is spelled so is the one that is found
+  pub spelled-found : (y : Identifier) → sameBytes w (nameOf new names (y .0)) ≡ true
+      → nameSpelled new names 0 known w ≡ F.At y
+  spelled-found y e = from (nameSpelled new names 0 known w) found-decides
+    where
+      from : (f : Found) → Decides new names w f → f ≡ F.At y
+      from (F.At z) d = ap (λ (k : ℕ). F.At record { 0 = k }) (eqb-true (z .0) (y .0) (sym (d (y .0)) ∙ e))
+      from F.Nothing d =
+          let q : _≡_ {A = Bool} false true = sym (d (y .0)) ∙ e in
+          absurd (let z : _≡_ {A = ℕ} 0 1 = cc in omega arith)
 
 -- Names of an accepted reading. --------------------------------------------------------------------------------------
 

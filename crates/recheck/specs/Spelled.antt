@@ -30,7 +30,7 @@ abbrev pub spelledAs : List ℕ → List ℕ → List ℕ → List ℕ → Looke
 spelledAs old new rows names (L.Header i) = rowName old rows i
 spelledAs old new rows names (L.Name x) = nameOf new names (x .0)
 
--- a row's number is at most the table's size
+-- a table has 64 rows at most
 abbrev pub InTable : Looked → Type 0
 InTable (L.Header i) = i ≤ 64
 InTable (L.Name x) = Unit

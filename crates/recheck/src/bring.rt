@@ -38,8 +38,8 @@ fn put_row(out: &mut [u32], n: usize, rows: &[u32], i: usize, x: u32)
 }
 
 // Brings row i to row n, if the new text has its name; how many rows there are then.
-fn bring_row<'o, 't, 'c>(
-    out: &'o mut [u32],
+fn bring_row<'t, 'c>(
+    out: &mut [u32],
     n: usize,
     old: &'t [u8],
     rows: &'c [u32],
@@ -65,8 +65,8 @@ fn bring_row<'o, 't, 'c>(
 }
 
 // Brings `left` rows from row i on, to row n and behind it; how many rows there are then.
-fn bring_rows<'o, 't, 'c>(
-    out: &'o mut [u32],
+fn bring_rows<'t, 'c>(
+    out: &mut [u32],
     n: usize,
     old: &'t [u8],
     rows: &'c [u32],
@@ -94,8 +94,8 @@ fn bring_rows<'o, 't, 'c>(
 }
 
 // Brings the whole table, and says where the row of this number went.
-pub(crate) fn bring<'o, 't, 'c>(
-    out: &'o mut [u32],
+pub(crate) fn bring<'t, 'c>(
+    out: &mut [u32],
     old: &'t [u8],
     rows: &'c [u32],
     number: usize,
