@@ -9,6 +9,7 @@ ghost use Rattle.recheck.specs.Brought.{cellsFrom, rowPut, brought, brou
 use crate::Placed;
 use crate::names;
 use lexer::Found;
+use pieces::Identifier;
 use utils::cell_at;
 
 // Row n as row i of the old table.
@@ -28,13 +29,13 @@ fn copy_row(out: &mut [u32], n: usize, rows: &[u32], i: usize)
 }
 
 // Row n as row i of the old table, but with the name x.
-fn put_row(out: &mut [u32], n: usize, rows: &[u32], i: usize, x: u32)
+fn put_row(out: &mut [u32], n: usize, rows: &[u32], i: usize, x: Identifier)
     requires { ⌜ (n < 64) × (i < 64) × (2881 ≤ length (now out)) ⌝ }
-    ensures { λ r. ⌜ now (out .exit) ≡ rowPut (now (out .entry)) n (now (rows .entry)) i x ⌝ }
+    ensures { λ r. ⌜ now (out .exit) ≡ rowPut (now (out .entry)) n (now (rows .entry)) i (x .0) ⌝ }
 {
     copy_row(out, n, rows, i);
     let at = 2 + n * 45;
-    out[at] = x;
+    out[at] = x.0;
 }
 
 // Brings row i to row n, if the new text has its name; how many rows there are then.
@@ -57,7 +58,7 @@ fn bring_row<'t, 'c>(
 {
     match names::find_name(old, rows, i, new, names, known) {
         Found::At(x) => {
-            put_row(out, n, rows, i, x.0);
+            put_row(out, n, rows, i, x);
             n + 1
         }
         Found::Nothing => n,
