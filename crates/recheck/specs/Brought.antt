@@ -1,6 +1,6 @@
--- The old headers in the new text's numbers: a table of the rows whose names the new text has, in their order, each with
--- that name's number in it. What looks a callee up by its number among these rows finds what the spelling finds among
--- all of them (`globals-brought`, `callees-brought`, proofs/Brought.antt).
+-- The old headers in the new text's numbers: a table of the rows whose names the new text has, in their order, each
+-- with that name's number in it. What looks a callee up by its number among these rows finds what the spelling finds
+-- among all of them (`globals-brought`, `callees-brought`, proofs/Brought.antt).
 use Prim.Native.Nat.{ℕ, zero, suc, _+_, _≤_}
 use mathlib.Core.Path.{_≡_}
 use mathlib.Core.List.{List, [], _∷_}
@@ -46,8 +46,8 @@ abbrev pub headersBrought : List ℕ → List ℕ → List ℕ → List ℕ → 
 headersBrought old rows new names known out =
     broughtFrom old rows new names known 0 (getD rows 0 0) (brought out 0)
 
--- What `bring` leaves, by parts with names: the table; and where the row of the given number stands if the new text names
--- it, behind the rows that were brought before it.
+-- What `bring` leaves, by parts with names: the table; and where the row of the given number stands if the new text
+-- names it, behind the rows that were brought before it.
 pub record Brings (old rows new names : List ℕ) (known number : ℕ) (out₀ : List ℕ) (r : Placed) (out : List ℕ) : Type 0
   where
     pub table : brought out (r .count) ≡ headersBrought old rows new names known out₀

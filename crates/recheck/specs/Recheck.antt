@@ -1,5 +1,5 @@
--- Recheck (document 01): one new function against the headers of an accepted text. "Given: old text, its header table as
--- check wrote it, a function number, new text." The parts of an answer are those of check.
+-- Recheck (document 01): one new function against the headers of an accepted text. "Given: old text, its header table
+-- as check wrote it, a function number, new text." The parts of an answer are those of check.
 use Prim.Native.Nat.{ℕ, _+_, _-_}
 use mathlib.Core.List.{List, [], _∷_}
 use mathlib.Core.Bool.{Bool, true, false}
@@ -33,8 +33,8 @@ use Rattle.recheck.specs.Spelled.{rowName, globalsSpelled, calleesSpelle
 abbrev pub refusedWith : ℕ → ℕ → ℕ → Checking
 refusedWith number line place = refusing number line place (reported line [] (fixed number))
 
--- "40 if its first byte doesn't begin a global or its last byte isn't a `}` token": the first token, and the last before
--- the end token.
+-- "40 if its first byte doesn't begin a global or its last byte isn't a `}` token": the first token, and the last
+-- before the end token.
 unfoldable pub isWhole : List ℕ → List Tok → Bool
 isWhole new ts =
     let first = tokenAt ts 0 in
@@ -43,8 +43,8 @@ isWhole new ts =
     (pick (eqb (first .place) 0)
     (pick (eqb (last .kind) T.rightBrace) (eqb (last .place + 1) (length new)) false) false) false
 
--- "with 41 where the name would be entered, if name or type differ": whether it is kept. What is refused before the name
--- would be entered is no matter here.
+-- "with 41 where the name would be entered, if name or type differ": whether it is kept. What is refused before the
+-- name would be entered is no matter here.
 unfoldable pub keeps : (List ℕ → Bool) → List ℕ → List ℕ → List ℕ → List Tok → Bool
 keeps named signed new names ts =
     thenNamed (λ e. true) (globalD ts 0) (λ g at1.
@@ -65,8 +65,8 @@ afterTyping f table (K.Refused e) = refuses e
 abbrev pub typedAs : Function → Typed → Verdict
 typedAs f t = afterTyping f (t .table) (t .end)
 
--- "then parsing ..; after the closing brace, once this function's blocks and labels are resolved (22, 14), another global
--- is 40, any other token but the end 7; then typing against the old headers."
+-- "then parsing ..; after the closing brace, once this function's blocks and labels are resolved (22, 14), another
+-- global is 40, any other token but the end 7; then typing against the old headers."
 unfoldable pub functionAlone : List Tok → (ℕ → Global) → Verdict
 functionAlone ts globals =
     thenFunction refuses (functionD ts false [] 0 0) (λ f.

@@ -1,5 +1,5 @@
--- Names by spelling: "A looked-up name is a part of the old text or of the new." The headers' names are parts of the old
--- text, the new function's names parts of the new one.
+-- Names by spelling: "A looked-up name is a part of the old text or of the new." The headers' names are parts of the
+-- old text, the new function's names parts of the new one.
 use Prim.Native.Nat.{ℕ, zero, suc, _+_, _≤_}
 use mathlib.Core.List.{List, []}
 use lib.Dec.{leb}
