@@ -6,7 +6,7 @@ use lib.ListN.{length, getD}
 use Rattle.functions.specs.Rows.{retAt, typeAt, countAt}
 use Rattle.sema.specs.Blocks.{blockCountAt}
 
--- the cells of row i that no other definition reads: the name's place, its length, its line
+-- the cells of row i that parsing and typing don't read: the name's place, its length, its line
 abbrev pub placeAt : ℕ → ℕ
 placeAt i = 4 + i * 45
 

@@ -1,5 +1,5 @@
--- Document 01, "Numbers the reader answers with", for the refusals of parsing and typing, 5 to 22 and 35 to 38: the
--- message of each, `[line N] Error ITEM: TEXT` and a newline. 5 to 21 are the Rust's bytes; the others' TEXT is the
+-- Document 01, "Numbers the reader answers with", for the refusals of parsing and typing, 5 to 22, 35 to 38 and 40 to
+-- 42: the message of each, `[line N] Error ITEM: TEXT` and a newline. 5 to 21 are the Rust's bytes; the others' TEXT is the
 -- table's WORD and a full stop.
 use Prim.Native.Nat.{ℕ, _-_, _≤_}
 use mathlib.Core.List.{List, [], _∷_, _++_}

@@ -9,17 +9,13 @@ use borrow.Author.Tests.{ltb-true, ltb-false, leb-true, leb-false, lt-ltb, le-lt
 use lib.Dec.{ltb, leb}
 use lib.ListN.{length, getD}
 use Rattle.utils.specs.Bytes.{pick}
+use Rattle.pieces.proofs.Digits.{pick-both}
 use Rattle.functions.specs.Rows.{retAt, typeAt, countAt}
 use Rattle.sema.specs.Blocks.{blockCountAt}
 use Rattle.checker.specs.Header.{placeAt, lengthAt, lineAt, formalTypeAt, Between, RowInRange, TableInRange}
 use Rattle.recheck.specs.Table.{between, formalsFit, nameFits, typeFits, rowFits, rowsFit, isTable}
 
 -- Both of two tests, one after the other. ----------------------------------------------------------------------------
-
-both : (a b : Bool) → pick a b false ≡ true → (a ≡ true) × (b ≡ true)
-unfolding pick
-both true b h = (refl, h)
-both false b h = absurd (let z : _≡_ {A = ℕ} 0 1 = cc in omega arith)
 
 neither : (a b : Bool) → pick a false b ≡ true → (a ≡ false) × (b ≡ true)
 unfolding pick
@@ -53,10 +49,10 @@ module _ (rows : List ℕ) (i : ℕ) where
   formals-in zero k h j l = absurd (omega arith)
   formals-in (suc n) k h zero l =
       let m : k + zero ≡ k = omega arith in
-      rw m (between-in _ _ _ (both _ _ h .0))
+      rw m (between-in _ _ _ (pick-both _ _ h .0))
   formals-in (suc n) k h (suc j) l =
       let m : k + suc j ≡ k + 1 + j = omega arith in
-      rw m (formals-in n (k + 1) (both _ _ h .1) j (omega arith))
+      rw m (formals-in n (k + 1) (pick-both _ _ h .1) j (omega arith))
 
   in-formals : (n k : ℕ) → ((j : ℕ) → j < n → Between 1 2 (getD rows (formalTypeAt i (k + j)) 0))
       → formalsFit rows i k n ≡ true
@@ -75,14 +71,14 @@ module _ (old rows : List ℕ) where
   row-in : (i : ℕ) → rowFits old rows i ≡ true → RowInRange old rows i
   unfolding rowFits nameFits typeFits
   row-in i h =
-      let p = both _ _ h in
-      let n1 = both _ _ (p .0) in
-      let n2 = both _ _ (n1 .1) in
-      let n3 = both _ _ (n2 .1) in
-      let q = both _ _ (p .1) in
-      let t1 = both _ _ (q .0) in
-      let t2 = both _ _ (t1 .1) in
-      let f = both _ _ (q .1) in
+      let p = pick-both _ _ h in
+      let n1 = pick-both _ _ (p .0) in
+      let n2 = pick-both _ _ (n1 .1) in
+      let n3 = pick-both _ _ (n2 .1) in
+      let q = pick-both _ _ (p .1) in
+      let t1 = pick-both _ _ (q .0) in
+      let t2 = pick-both _ _ (t1 .1) in
+      let f = pick-both _ _ (q .1) in
       record {
         name = leb-true _ _ (n3 .0);
         place = leb-true _ _ (n1 .0);
@@ -111,10 +107,10 @@ module _ (old rows : List ℕ) where
   rows-in zero i h j l = absurd (omega arith)
   rows-in (suc n) i h zero l =
       let m : i + zero ≡ i = omega arith in
-      rw m (row-in i (both _ _ h .0))
+      rw m (row-in i (pick-both _ _ h .0))
   rows-in (suc n) i h (suc j) l =
       let m : i + suc j ≡ i + 1 + j = omega arith in
-      rw m (rows-in n (i + 1) (both _ _ h .1) j (omega arith))
+      rw m (rows-in n (i + 1) (pick-both _ _ h .1) j (omega arith))
 
   in-rows : (n i : ℕ) → ((j : ℕ) → j < n → RowInRange old rows (i + j)) → rowsFit old rows i n ≡ true
   unfolding rowsFit
@@ -142,8 +138,8 @@ module _ (old table : List ℕ) (number : ℕ) where
   table-in-range h =
       let p = neither _ _ h in
       let q = neither _ _ (p .1) in
-      let r = both _ _ (q .1) in
-      let s = both _ _ (r .1) in
+      let r = pick-both _ _ (q .1) in
+      let s = pick-both _ _ (r .1) in
       record {
         short = ltb-false _ _ (p .0);
         sized = ltb-false _ _ (q .0);

@@ -3,9 +3,9 @@
 pub mod Table
 -- names by spelling
 pub mod Spelled
--- the old headers in the new text's numbers
-pub mod Brought
 -- the whole answer
 pub mod Recheck
 -- document 01's cases, of check and of recheck: one table, one claim
 pub mod Cases
+-- the old headers in the new text's numbers: the code's step, which a reader of document 01 may pass over
+pub mod Brought

@@ -18,10 +18,10 @@ fn copy_row(out: &mut [u32], n: usize, rows: &[u32], i: usize)
     ensures { λ r. ⌜ now (out .exit)
         ≡ sets (now (out .entry)) (rowAt n) (cellsFrom (now (rows .entry)) (rowAt i) 45) ⌝ }
 {
-    let to = 1 + n * 45;
-    let from = 1 + i * 45;
+    let to = super::FIRST + n * super::ROW;
+    let from = super::FIRST + i * super::ROW;
     let mut k: usize = 0;
-    while k < 45 {
+    while k < super::ROW {
         let cell = cell_at(rows, from + k);
         out[to + k] = cell;
         k += 1;
@@ -34,7 +34,7 @@ fn put_row(out: &mut [u32], n: usize, rows: &[u32], i: usize, x: Identifier)
     ensures { λ r. ⌜ now (out .exit) ≡ rowPut (now (out .entry)) n (now (rows .entry)) i (x .0) ⌝ }
 {
     copy_row(out, n, rows, i);
-    let at = 2 + n * 45;
+    let at = super::NAME + n * super::ROW;
     out[at] = x.0;
 }
 

@@ -15,8 +15,8 @@ fn row_name<'t, 'c>(old: &'t [u8], rows: &'c [u32], i: usize) -> &'t [u8]
     requires { ⌜ i ≤ 64 ⌝ }
     ensures { λ r. ⌜ now r ≡ rowName (now (old .entry)) (now (rows .entry)) i ⌝ }
 {
-    let place = cell_at(rows, 4 + i * 45) as usize;
-    let end = place + cell_at(rows, 5 + i * 45) as usize;
+    let place = cell_at(rows, super::PLACE + i * super::ROW) as usize;
+    let end = place + cell_at(rows, super::LENGTH + i * super::ROW) as usize;
     if end <= old.len() {
         return &old[place..end];
     }

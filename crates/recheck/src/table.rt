@@ -22,7 +22,11 @@ fn formals_fit(rows: &[u32], i: usize, n: u32) -> bool
     let mut k: usize = 0;
     let mut left = n;
     while 0 < left {
-        if !is_between(1, 2, cell_at(rows, 15 + i * 45 + k * 2)) {
+        if !is_between(
+            1,
+            2,
+            cell_at(rows, super::FORMAL_TYPE + i * super::ROW + k * 2),
+        ) {
             return false;
         }
         k += 1;
@@ -35,8 +39,8 @@ fn name_fits(old: &[u8], rows: &[u32], i: usize) -> bool
     requires { ⌜ i ≤ 64 ⌝ }
     ensures { λ r. ⌜ r ≡ nameFits (now (old .entry)) (now (rows .entry)) i ⌝ }
 {
-    let place = cell_at(rows, 4 + i * 45);
-    let len = cell_at(rows, 5 + i * 45);
+    let place = cell_at(rows, super::PLACE + i * super::ROW);
+    let len = cell_at(rows, super::LENGTH + i * super::ROW);
     if 16384 < place {
         return false;
     }
@@ -46,20 +50,24 @@ fn name_fits(old: &[u8], rows: &[u32], i: usize) -> bool
     if old.len() < place as usize + len as usize {
         return false;
     }
-    is_between(1, 16385, cell_at(rows, 6 + i * 45))
+    is_between(
+        1,
+        super::MOST_LINES,
+        cell_at(rows, super::LINE + i * super::ROW),
+    )
 }
 
 fn type_fits(rows: &[u32], i: usize) -> bool
     requires { ⌜ i ≤ 64 ⌝ }
     ensures { λ r. ⌜ r ≡ typeFits (now (rows .entry)) i ⌝ }
 {
-    if !is_between(1, 3, cell_at(rows, 7 + i * 45)) {
+    if !is_between(1, 3, cell_at(rows, super::RESULT + i * super::ROW)) {
         return false;
     }
-    if 64 <= cell_at(rows, 8 + i * 45) {
+    if 64 <= cell_at(rows, super::TYPE + i * super::ROW) {
         return false;
     }
-    is_between(1, 256, cell_at(rows, 12 + i * 45))
+    is_between(1, 256, cell_at(rows, super::BLOCKS + i * super::ROW))
 }
 
 fn row_fits(old: &[u8], rows: &[u32], i: usize) -> bool
@@ -72,8 +80,8 @@ fn row_fits(old: &[u8], rows: &[u32], i: usize) -> bool
     if !type_fits(rows, i) {
         return false;
     }
-    let formals = cell_at(rows, 13 + i * 45);
-    if 16 < formals {
+    let formals = cell_at(rows, super::FORMALS + i * super::ROW);
+    if super::MOST_FORMALS < formals {
         return false;
     }
     formals_fit(rows, i, formals)
@@ -100,17 +108,17 @@ fn rows_fit(old: &[u8], rows: &[u32], n: u32) -> bool
 pub(crate) fn is_table(old: &[u8], table: &[u32], number: u32) -> bool
     ensures { λ r. ⌜ r ≡ isTable (now (old .entry)) (now (table .entry)) number ⌝ }
 {
-    if 16384 < old.len() {
+    if super::MOST_BYTES < old.len() {
         return false;
     }
-    if table.len() < 2881 {
+    if table.len() < super::TABLE {
         return false;
     }
     let count = cell_at(table, 0);
     if count <= number {
         return false;
     }
-    if 64 < count {
+    if super::MOST_FUNCTIONS < count {
         return false;
     }
     rows_fit(old, table, count)

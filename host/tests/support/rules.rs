@@ -123,8 +123,11 @@ pub const RULES: [(&str, &[&str]); 16] = [
     (
         "formals are entered first, and one table serves a function",
         &[
-            "@f(x: int, x: bool) { ret; }", "@f(x: int) { x: int = const 1; y: int = id x; }",
-            "@f { x: int = const 1; jmp .a; .a: y: int = id x; }", "@f(x: int) { ret; } @g { y: int = id x; }",
+            "@f(x: int, x: bool) { ret; }",
+            "@f(x: int) { x: int = const 1; y: int = id x; }",
+            "@f { x: int = const 1; jmp .a; .a: y: int = id x; }",
+            "@f { br c .a .b; .a: x: int = const 1; ret; .b: x: bool = const true; ret; }",
+            "@f(x: int) { ret; } @g { y: int = id x; }",
         ],
     ),
     (

@@ -19,8 +19,8 @@ pub fn functions(tokens: &[SaidToken], names: &[SaidName]) -> Result<Vec<SaidFun
     Ok(functions)
 }
 
-/// Recheck: one function, whose header is to be kept. "After the closing brace, once this function's blocks and labels are
-/// resolved, another global is 40, any other token but the end 7."
+/// Recheck: one function, whose header is to be kept. "after the closing brace, once this function's blocks and labels are
+/// resolved (22, 14), another global is 40, any other token but the end 7"
 pub fn one_function(tokens: &[SaidToken], names: &[SaidName], kept: &Kept<'_>) -> Result<Vec<SaidFunction>, Stop> {
     let mut parsing = Parsing { tokens, names, next: 0, headers: Headers::Kept(kept) };
     let function = parsing.function(0)?;

@@ -8,9 +8,9 @@ use super::typing::{self, Head, Heads};
 use super::{BYTES, Checked, FORMALS, FUNCTIONS, NAME, ROW, TABLE, of_tokens, refused};
 use crate::support::said::{Said, SaidName, SaidToken, Ty};
 
-/// The answer to a new text in the place of a function, by its number, of an old text with its header table. "Order: 42;
-/// lexing of the new text alone; 40 if its first byte doesn't begin a global or its last byte isn't a `}` token; then
-/// parsing; then typing against the old headers."
+/// The answer to a new text in the place of a function, by its number, of an old text with its header table. "Order: 30; 42 ..;
+/// lexing of the new text alone, ..; 40 if its first byte doesn't begin a global or its last byte isn't a `}` token; then
+/// parsing, ..; then typing against the old headers."
 pub fn recheck(old: &[u8], table: &[u32], number: u32, new: &[u8]) -> Checked {
     let Some((rows, number)) = in_range(old, table, number) else {
         return Checked { said: refused(42, 0, 0, "", "bad header table."), order_is_open: false };
@@ -59,8 +59,8 @@ const LINES: RangeInclusive<u32> = 1..=BYTES as u32 + 1;
 const BLOCKS: RangeInclusive<u32> = 1..=256;
 const NAME_LENGTHS: RangeInclusive<usize> = 2..=NAME;
 
-/// All rows of a header table, and the replaced one's number; none where the answer is 42. "Old text over 16,384 bytes,
-/// number not below the count, a table shorter than its size, or a stored place, line, count or type outside the ranges."
+/// All rows of a header table, and the replaced one's number; none where the answer is 42. "old text over 16,384 bytes,
+/// number not below the count, a table shorter than its size, or a stored place, line, count or type outside the ranges .."
 fn in_range<'t>(old: &'t [u8], table: &[u32], number: u32) -> Option<(Vec<Row<'t>>, usize)> {
     let cells = table.get(..TABLE)?;
     let (count, cells) = (cells[0] as usize, &cells[1..]);
