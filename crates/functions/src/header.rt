@@ -23,7 +23,7 @@ use parser::TypeRead;
 use pieces::Identifier;
 
 // Formals in parentheses, or none.
-fn parse_optional_formals(tokens: &[u32], at: usize, rows: &mut [u32], used: usize) -> Run
+pub fn parse_optional_formals(tokens: &[u32], at: usize, rows: &mut [u32], used: usize) -> Run
     requires { ⌜ used + 32 ≤ length (now rows) ⌝ }
     ensures { λ r. ⌜ r ≡ runOf (optionalFormals (tokensOf (now (tokens .entry))) at) ⌝ }
     ensures { λ _. ⌜ now (rows .exit) ≡ sets (now (rows .entry)) used
@@ -37,7 +37,7 @@ fn parse_optional_formals(tokens: &[u32], at: usize, rows: &mut [u32], used: usi
 }
 
 // A colon and a type, or void.
-fn parse_optional_type(tokens: &[u32], at: usize) -> TypeRead
+pub fn parse_optional_type(tokens: &[u32], at: usize) -> TypeRead
     ensures { λ r. ⌜ r ≡ optionalType (tokensOf (now (tokens .entry))) at ⌝ }
 {
     let t = lexer::token_at(tokens, at);

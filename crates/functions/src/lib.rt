@@ -1,6 +1,6 @@
 // The functions of a text: parse and parse_function of bril-lib/src/parser.rs, with Unit of ir.rs.
 mod build;
-mod header;
+pub mod header;
 mod known;
 mod rows;
 
@@ -84,7 +84,7 @@ fn types_after(types: u32, ty: u32) -> u32
     types
 }
 // A function from its name on, stored behind the n that are there.
-fn parse_function(
+pub fn parse_function(
     tokens: &[u32],
     names: &[u32],
     at: usize,

@@ -8,7 +8,7 @@ use native.Mathlib.Omega.{arith}
 use lib.ListN.{length}
 use Rattle.utils.specs.Bytes.{pick, padTo}
 use Rattle.lexer.specs.Numbered.{Outcome, tokensCells, namesCells}
-use Rattle.lexer.specs.Read.{Reading, reading, accepted, answered, resultOf, tokensIn, namesIn, readingOf, readOf}
+use Rattle.lexer.specs.Read.{Reading, reading, accepted, answered, resultOf, tokensIn, namesIn, readingOf, readFrom}
 use Rattle.lexer.specs.Read.{Held, sized, readDef, Reads}
 use Rattle.lexer.specs.declared.LexResult.the-variants as X
 use Rattle.lexer.specs.declared.ReadAnswer.{ReadAnswer}
@@ -59,7 +59,6 @@ held-done (Outcome.refused r) count known t₀ n₀ t n never e h = absurd (let 
 held-done Outcome.cut count known t₀ n₀ t n never e h = absurd (never refl)
 
 -- what an accepted text reads as, by the counts that were answered
-pub done-reading : {s : List ℕ} {count known : ℕ} (d : Done s 1 count known)
-    → readOf s ≡ reading (accepted count known) (tokensCells (d .ts)) (namesCells (d .ns)) []
-unfolding readOf
+pub done-reading : {s : List ℕ} {line count known : ℕ} (d : Done s line count known)
+    → readFrom line s ≡ reading (accepted count known) (tokensCells (d .ts)) (namesCells (d .ns)) []
 done-reading d = rw (d .lexed, d .counted, d .counted-names)

@@ -51,9 +51,13 @@ readingOf (Outcome.refused r) = refused r
 -- no text gives this (`never-cut`)
 readingOf Outcome.cut = reading (refusal 0 0 0) [] [] []
 
+-- what a text reads as, if its first line has this number
+abbrev pub readFrom : ℕ → List ℕ → Reading
+readFrom line text = readingOf (lexedFrom line text)
+
 -- THE DEFINITION: what a text reads as; `readDef` adds the zeros that follow each slice's contents.
 unfoldable pub readOf : List ℕ → Reading
-readOf text = readingOf (lexedFrom 1 text)
+readOf text = readFrom 1 text
 
 -- 4,096 token records of 4 cells, 1,024 name records of 2 cells, 512 message bytes
 unfoldable pub sized : ℕ → ℕ → ℕ → Bool

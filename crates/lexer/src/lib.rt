@@ -14,7 +14,7 @@ ghost use Rattle.pieces.specs.Tokens.{tokenCells};
 ghost use Rattle.lexer.specs.Numbered.{atToken, identified, named, numbered};
 ghost use Rattle.lexer.specs.Steps.{firstNames, Table, newCells};
 ghost use Rattle.lexer.specs.Steps.{nextName, nextOf, addedBy, pushed};
-ghost use Rattle.lexer.specs.Read.{lexedFrom, resultOf, tokensIn, namesIn, Held, reading, padded, readOf};
+ghost use Rattle.lexer.specs.Read.{lexedFrom, resultOf, tokensIn, namesIn, Held, reading, padded, readFrom};
 ghost use Rattle.lexer.specs.Read.{sized, IfSized, Reads};
 ghost use Rattle.lexer.specs.Decoded.{tokensOf, nameIn, integerIn, indexBehind, tokenAt, nameOf};
 use pieces::Cursor;
@@ -256,14 +256,21 @@ fn fits(tokens: usize, names: usize, message: usize) -> bool
     true
 }
 
-// Slices that have their sizes.
-fn read_sized(text: &[u8], tokens: &mut [u32], names: &mut [u32], message: &mut [u8]) -> ReadAnswer
-    requires { ⌜ (16384 ≤ length (now tokens)) × (2048 ≤ length (now names))
+// The reading of a text whose first line has this number, into slices that have their sizes.
+pub fn read_from(
+    text: &[u8],
+    line: u32,
+    tokens: &mut [u32],
+    names: &mut [u32],
+    message: &mut [u8],
+) -> ReadAnswer
+    requires { ⌜ (line ≤ 2147483648) × (16384 ≤ length (now tokens)) × (2048 ≤ length (now names))
         × (512 ≤ length (now message)) ⌝ }
     ensures { λ r. ⌜ reading r (now (tokens .exit)) (now (names .exit)) (now (message .exit))
-        ≡ padded (now (tokens .entry)) (now (names .entry)) (now (message .entry)) (readOf (now (text .entry))) ⌝ }
+        ≡ padded (now (tokens .entry)) (now (names .entry)) (now (message .entry))
+        (readFrom line (now (text .entry))) ⌝ }
 {
-    match lex_from(text, 1, tokens, names) {
+    match lex_from(text, line, tokens, names) {
         LexResult::Refused(refusal) => {
             report::report(message, refusal);
             report::answer_of(refusal)
@@ -287,7 +294,7 @@ pub fn read(text: &[u8], tokens: &mut [u32], names: &mut [u32], message: &mut [u
         r (now (tokens .exit)) (now (names .exit)) (now (message .exit)) ⌝ }
 {
     if fits(tokens.len(), names.len(), message.len()) {
-        return read_sized(text, tokens, names, message);
+        return read_from(text, 1, tokens, names, message);
     }
     report::refuse_at(30, Location(0), 0)
 }

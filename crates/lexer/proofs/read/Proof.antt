@@ -1,8 +1,9 @@
 -- The gate's test is `sized`; behind it the reading is padded to each slice's length.
 use mathlib.Core.Path.{sym, _∙_}
+use native.Mathlib.Omega.{arith}
 use borrow.Author.Needs.{needs}
 use Rattle.lexer.proofs.Promise.{by-parts}
-use Rattle.lexer.specs.Read.{readDef}
+use Rattle.lexer.specs.Read.{readDef, readOf}
 use Rattle.utils.specs.Bytes.{pick}
 use Rattle.lexer.proofs.read.Statement.{statement}
 use Rattle.lexer.proofs.read.Tie as tie
@@ -10,11 +11,12 @@ use Rattle.lexer.proofs.read.Tie as tie
 fits-requires : tie.Need-fits-requires
 fits-requires c κs = search needs
 
-read-sized-requires : tie.Need-read-sized-requires
-read-sized-requires c κs =
+read-from-requires : tie.Need-read-from-requires
+read-from-requires c κs =
     let if1 = c .before .before .before .if1 in
     let fits2 = c .before .before .before .before .fits2 in
-    rw (if1 .taken) at (fits2 .ensures .1)
+    let sizes = rw (if1 .taken) at (fits2 .ensures .1) in
+    (omega arith, sizes .0, sizes .1, sizes .2)
 
 same-length : tie.Need-same-length
 same-length c = search needs
@@ -26,12 +28,12 @@ same-length-3 : tie.Need-same-length-3
 same-length-3 c = search needs
 
 returns : tie.Need-returns
-unfolding readDef pick
+unfolding readDef readOf pick
 returns c =
     let fits2 = c .before .before .before .before .before .before .before .before .before .before .before .fits2 in
     let if1 = c .before .before .before .before .before .before .before .before .before .before .if1 in
-    let read-sized = c .before .before .before .before .before .before .read-sized in
-    by-parts (rw (sym (fits2 .ensures .0) ∙ if1 .taken) (read-sized .ensures))
+    let read-from = c .before .before .before .before .before .before .read-from in
+    by-parts (rw (sym (fits2 .ensures .0) ∙ if1 .taken) (read-from .ensures))
 
 refuse-at-requires : tie.Need-refuse-at-requires
 refuse-at-requires c κs = search needs
@@ -49,7 +51,7 @@ read-spec =
     tie.close
     (tie.spec
     fits-requires
-    read-sized-requires
+    read-from-requires
     same-length
     same-length-2
     same-length-3

@@ -6,9 +6,8 @@ use borrow.Author.Needs.{needs}
 use Rattle.lexer.proofs.Promise.{done-reading}
 use Rattle.lexer.proofs.Sound.{refused-sound}
 use Rattle.lexer.proofs.Accepted.{result-done, result-refused}
-use Rattle.lexer.specs.Read.{readOf}
-use Rattle.lexer.proofs.read_sized.Statement.{statement}
-use Rattle.lexer.proofs.read_sized.Tie as tie
+use Rattle.lexer.proofs.read_from.Statement.{statement}
+use Rattle.lexer.proofs.read_from.Tie as tie
 
 lex-from-requires : tie.Need-lex-from-requires
 lex-from-requires c κs = search needs
@@ -27,8 +26,8 @@ answer-of-requires c κs =
     let refusal = c .before .before .before .before .before .refusal in
     let lex-from = back8 .before .before .before .lex-from in
     let s = now (a .text) in
-    let o = result-refused 1 s _ (sym (refusal .given .1) ∙ lex-from .ensures .0) in
-    omega (arith, refused-sound 1 s _ o .place-small)
+    let o = result-refused (a .line) s _ (sym (refusal .given .1) ∙ lex-from .ensures .0) in
+    omega (arith, refused-sound (a .line) s _ o .place-small)
 
 enum-known-count : tie.Need-enum-known-count
 enum-known-count c = search needs
@@ -46,7 +45,6 @@ same-length-3 : tie.Need-same-length-3
 same-length-3 c = search needs
 
 returns : tie.Need-returns
-unfolding readOf
 returns c =
     let back8 = c .before .before .before .before .before .before .before .before in
     let back16 = back8 .before .before .before .before .before .before .before .before in
@@ -56,7 +54,7 @@ returns c =
     let answer-of = c .answer-of in
     let report = c .before .before .before .report in
     let s = now (a .text) in
-    let o = result-refused 1 s _ (sym (refusal .given .1) ∙ lex-from .ensures .0) in
+    let o = result-refused (a .line) s _ (sym (refusal .given .1) ∙ lex-from .ensures .0) in
     let tokens = rw o at (lex-from .ensures .1 .0) in
     let names = rw o at (lex-from .ensures .1 .1) in
     rw (o, tokens, names, answer-of .ensures, report .ensures)
@@ -79,13 +77,13 @@ returns-2 c =
     let lex-from = back8 .before .before .before .lex-from in
     let clear-bytes = c .before .before .clear-bytes in
     let s = now (a .text) in
-    let d = result-done 1 s _ _ (sym (count .given .1) ∙ lex-from .ensures .0) in
+    let d = result-done (a .line) s _ _ (sym (count .given .1) ∙ lex-from .ensures .0) in
     let tokens = rw (d .lexed) at (lex-from .ensures .1 .0) in
     let names = rw (d .lexed) at (lex-from .ensures .1 .1) in
     rw (done-reading d, tokens, names, clear-bytes .ensures)
 
-pub read-sized-spec : {M : Type 1} → statement M
-read-sized-spec =
+pub read-from-spec : {M : Type 1} → statement M
+read-from-spec =
     tie.close
     (tie.spec
     lex-from-requires
