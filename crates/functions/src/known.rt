@@ -29,7 +29,7 @@ fn same_formals(rows: &[u32], a: usize, b: usize, count: usize) -> bool
 }
 
 // Whether row a has the function type of a function with this result and `count` formals, which stand in row b.
-fn same_type(rows: &[u32], a: usize, ret: u32, count: usize, b: usize) -> bool
+pub fn same_type(rows: &[u32], a: usize, ret: u32, count: usize, b: usize) -> bool
     requires { ⌜ (a < 64) × (b < 64) × (count ≤ 16) × (2881 ≤ length (now rows)) ⌝ }
     ensures { λ r. ⌜ r ≡ sameBytes (signedAt (now (rows .entry)) a)
         (ret ∷ count ∷ typesAt (now (rows .entry)) (formalsAt b) count) ⌝ }

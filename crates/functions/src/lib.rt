@@ -1,7 +1,7 @@
 // The functions of a text: parse and parse_function of bril-lib/src/parser.rs, with Unit of ir.rs.
 mod build;
 pub mod header;
-mod known;
+pub mod known;
 mod rows;
 
 ghost use mathlib.Core.Path.{_≡_};
