@@ -25,11 +25,12 @@ use Rattle.sema.specs.declared.FoundRow.the-variants as W
 use Rattle.elaborate.specs.Types.{calleeFrom, calleeOf}
 use Rattle.checker.specs.Header.{placeAt, lengthAt, RowInRange}
 use Rattle.recheck.specs.Spelled.{rowName, nameSpelled, rowSpelled, calleeRow, typeCellOf, globalsSpelled, calleesSpelled}
+use Rattle.recheck.specs.Spelled.{Named}
 use Rattle.recheck.specs.Brought.{cellsFrom, rowPut, Brought, brought, broughtAs, broughtFrom, headersBrought, Brings}
 use Rattle.recheck.specs.declared.Placed.{Placed}
 use Rattle.recheck.proofs.Ranges.{Tabled}
 use Rattle.recheck.proofs.Turns.{brought-both, brought-more}
-use Rattle.recheck.proofs.Named.{Named, Decides, found-decides}
+use Rattle.recheck.proofs.Named.{Decides, found-decides}
 
 -- A row's cells. -----------------------------------------------------------------------------------------------------
 

@@ -21,12 +21,7 @@ use Rattle.lexer.specs.declared.Found.{Found}
 use Rattle.lexer.specs.declared.Found.the-variants as F
 use Rattle.lexer.proofs.Same.{same-bytes-true, same-bytes-false}
 use Rattle.lexer.proofs.Cells.{length-names-cells, cells-name}
-use Rattle.recheck.specs.Spelled.{nameSpelled}
-
--- the names of a text, as their cells spell them
-pub record Named (new names : List ℕ) (known : ℕ) : Type 0 where
-  pub past : (x : ℕ) → known ≤ x → nameOf new names x ≡ []
-  pub distinct : (x y : ℕ) → x < y → y < known → nameOf new names x ≡ nameOf new names y → ⊥
+use Rattle.recheck.specs.Spelled.{nameSpelled, Named}
 
 -- The search. --------------------------------------------------------------------------------------------------------
 

@@ -5,7 +5,11 @@ pub mod Table
 pub mod Spelled
 -- the whole answer
 pub mod Recheck
+-- the gate, the padding, and the promise
+pub mod Promise
 -- document 01's cases, of check and of recheck: one table, one claim
 pub mod Cases
 -- the old headers in the new text's numbers: the code's step, which a reader of document 01 may pass over
 pub mod Brought
+-- the new function alone: what the inner functions say
+pub mod Alone

@@ -7,16 +7,18 @@ use lib.Dec.{eqb}
 use lib.ListN.{length, getD}
 use Rattle.utils.specs.Bytes.{pick, sameBytes}
 use Rattle.utils.specs.Message.{reported}
-use Rattle.lexer.specs.Read.{Reading, lexedFrom, readingOf}
+use Rattle.lexer.specs.Read.{Reading, readFrom}
 use Rattle.lexer.specs.Decoded.{Tok, tokensOf, tokenAt, nameOf}
 use Rattle.parser.specs.Kinds as T
 use Rattle.parser.specs.Step.{refusal, look, thenNamed, thenType}
 use Rattle.parser.specs.Grammar.{globalD}
+use Rattle.pieces.specs.declared.Identifier.{Identifier}
 use Rattle.parser.specs.declared.Refusal.{Refusal}
 use Rattle.functions.specs.Known.{signature}
-use Rattle.functions.specs.Functions.{Header, Function, thenFunction, functionD, thenFormals, optionalFormals, optionalType}
+use Rattle.functions.specs.Functions.{Header, Function, FunctionAt, function, noFunction, thenFunction, functionD}
+use Rattle.functions.specs.Functions.{thenFormals, optionalFormals, optionalType}
 use Rattle.functions.specs.Rows.{typeAt, signedAt}
-use Rattle.functions.specs.Answer.{countsFrom}
+use Rattle.functions.specs.Answer.{Slices, slices, countsFrom}
 use Rattle.messages.specs.Messages.{fixed}
 use Rattle.sema.specs.Symbols.{Typed}
 use Rattle.sema.specs.Typing.{Global}
@@ -45,12 +47,15 @@ isWhole new ts =
 
 -- "with 41 where the name would be entered, if name or type differ": whether it is kept. What is refused before the
 -- name would be entered is no matter here.
+unfoldable pub keepsBehind : (List ℕ → Bool) → List ℕ → List ℕ → List ℕ → List Tok → Identifier → ℕ → Bool
+keepsBehind named signed new names ts g at =
+    thenFormals (λ e. true) (optionalFormals ts at) (λ formals at1.
+    thenType (λ e. true) (optionalType ts at1) (λ ret at2.
+    pick (named (nameOf new names (g .0))) (sameBytes signed (signature ret formals)) false))
+
 unfoldable pub keeps : (List ℕ → Bool) → List ℕ → List ℕ → List ℕ → List Tok → Bool
 keeps named signed new names ts =
-    thenNamed (λ e. true) (globalD ts 0) (λ g at1.
-    thenFormals (λ e. true) (optionalFormals ts at1) (λ formals at2.
-    thenType (λ e. true) (optionalType ts at2) (λ ret at3.
-    pick (named (nameOf new names (g .0))) (sameBytes (signature ret formals) signed) false)))
+    thenNamed (λ e. true) (globalD ts 0) (λ g at. keepsBehind named signed new names ts g at)
 
 -- What the new text is, as tokens.
 pub data Verdict : Type 0 where
@@ -66,13 +71,25 @@ abbrev pub typedAs : Function → Typed → Verdict
 typedAs f t = afterTyping f (t .table) (t .end)
 
 -- "then parsing ..; after the closing brace, once this function's blocks and labels are resolved (22, 14), another
--- global is 40, any other token but the end 7; then typing against the old headers."
+-- global is 40, any other token but the end 7"
+unfoldable pub aloneD : List Tok → FunctionAt
+aloneD ts =
+    thenFunction noFunction (functionD ts false [] 0 0) (λ f.
+    look (tokenAt ts (f .next)) (λ kind next.
+    pick (eqb kind T.endOfFile) (function f)
+    (pick (eqb kind T.global) (noFunction (refusal 40 (f .next) 0)) (noFunction (refusal 7 (f .next) 0)))))
+
+-- "then typing against the old headers"
 unfoldable pub functionAlone : List Tok → (ℕ → Global) → Verdict
 functionAlone ts globals =
-    thenFunction refuses (functionD ts false [] 0 0) (λ f.
-    look (tokenAt ts (f .next)) (λ kind next.
-    pick (eqb kind T.endOfFile) (typedAs f (functionTyped ts globals f untyped))
-    (pick (eqb kind T.global) (refuses (refusal 40 (f .next) 0)) (refuses (refusal 7 (f .next) 0)))))
+    thenFunction refuses (aloneD ts) (λ f. typedAs f (functionTyped ts globals f untyped))
+
+-- 41 and all that follows, of a new text that begins and ends as one function: `names` are its names, ts its tokens.
+abbrev pub verdictD : List ℕ → List ℕ → ℕ → List ℕ → List ℕ → List Tok → Verdict
+verdictD old rows number new names ts =
+    pick (keeps (sameBytes (rowName old rows number)) (signedAt rows number) new names ts)
+    (functionAlone ts (globalsSpelled old rows new names))
+    (refuses (refusal 41 0 0))
 
 -- its function type has the replaced function's number
 abbrev pub retyped : ℕ → Function → Function
@@ -84,16 +101,19 @@ retyped type f =
       next = f .next;
     }
 
--- Accepted: all that check writes for a text with this one function.
+-- Accepted: all that check writes for a text with this one function. `callees` gives a callee's type.
+abbrev pub verdictSlices : List Tok → List ℕ → (ℕ → ℕ) → ℕ → Verdict → Slices
+verdictSlices ts names callees type (accepts f table) = slicesOf ts names callees (retyped type f ∷ []) (table ∷ [])
+verdictSlices ts names callees type (refuses e) = slices [] [] [] [] []
+
 abbrev pub verdictAs : List ℕ → Reading → List Tok → (ℕ → ℕ) → ℕ → Verdict → Checking
 verdictAs new r ts callees type (accepts f table) =
-    let fs : List Function = retyped type f ∷ [] in
     record {
-      answer = accepted (r .answer .tokens) (r .answer .names) (countsFrom none fs);
+      answer = accepted (r .answer .tokens) (r .answer .names) (countsFrom none (f ∷ []));
       message = [];
       tokens = r .tokens;
       names = r .names;
-      unit = slicesOf ts (r .names) callees fs (table ∷ []);
+      unit = verdictSlices ts (r .names) callees type (accepts f table);
     }
 verdictAs new r ts callees type (refuses e) = refusedAt new (r .names) ts e
 
@@ -101,10 +121,8 @@ verdictAs new r ts callees type (refuses e) = refusedAt new (r .names) ts e
 abbrev pub parsedAs : List ℕ → List ℕ → ℕ → List ℕ → Reading → List Tok → Checking
 parsedAs old rows number new r ts =
     pick (isWhole new ts)
-    (pick (keeps (sameBytes (rowName old rows number)) (signedAt rows number) new (r .names) ts)
     (verdictAs new r ts (calleesSpelled old rows new (r .names)) (getD rows (typeAt number) 0)
-    (functionAlone ts (globalsSpelled old rows new (r .names))))
-    (refusedAt new (r .names) ts (refusal 41 0 0)))
+    (verdictD old rows number new (r .names) ts))
     (refusedWith 40 (getD rows (lineAt number) 0) 0)
 
 -- "lexing of the new text alone, numbers 31, 1 to 4 and 32 to 34"
@@ -117,5 +135,5 @@ lexedAs old rows number new r =
 unfoldable pub recheckOf : List ℕ → List ℕ → ℕ → List ℕ → Checking
 recheckOf old table number new =
     pick (isTable old table number)
-    (lexedAs old table number new (readingOf (lexedFrom (getD table (lineAt number) 0) new)))
+    (lexedAs old table number new (readFrom (getD table (lineAt number) 0) new))
     (refusedWith 42 0 0)

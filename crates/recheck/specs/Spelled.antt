@@ -1,6 +1,7 @@
 -- Names by spelling: "A looked-up name is a part of the old text or of the new." The headers' names are parts of the
 -- old text, the new function's names parts of the new one.
-use Prim.Native.Nat.{ℕ, zero, suc, _+_, _≤_}
+use Prim.Native.Nat.{ℕ, zero, suc, _+_, _≤_, _<_}
+use mathlib.Core.Path.{_≡_}
 use mathlib.Core.List.{List, []}
 use lib.Dec.{leb}
 use lib.ListN.{length, getD}
@@ -64,3 +65,8 @@ typeCellOf rows W.Absent = 0
 
 abbrev pub calleesSpelled : List ℕ → List ℕ → List ℕ → List ℕ → ℕ → ℕ
 calleesSpelled old rows new names x = typeCellOf rows (calleeRow old rows new names x)
+
+-- The names of a text that is read, as their cells spell them: no two alike, and none behind the last.
+pub record Named (new names : List ℕ) (known : ℕ) : Type 0 where
+  pub past : (x : ℕ) → known ≤ x → nameOf new names x ≡ []
+  pub distinct : (x y : ℕ) → x < y → y < known → nameOf new names x ≡ nameOf new names y → ⊥

@@ -13,7 +13,7 @@ use pieces::Identifier;
 use utils::cell_at;
 
 // Row n as row i of the old table.
-fn copy_row(out: &mut [u32], n: usize, rows: &[u32], i: usize)
+pub(crate) fn copy_row(out: &mut [u32], n: usize, rows: &[u32], i: usize)
     requires { ⌜ (n < 64) × (i < 64) × (2881 ≤ length (now out)) ⌝ }
     ensures { λ r. ⌜ now (out .exit)
         ≡ sets (now (out .entry)) (rowAt n) (cellsFrom (now (rows .entry)) (rowAt i) 45) ⌝ }

@@ -1,9 +1,27 @@
 // One new function against the headers of an accepted text.
+mod alone;
 mod bring;
+mod header;
 mod names;
 mod table;
 
+ghost use mathlib.Core.Path.{_≡_};
+ghost use mathlib.Core.Bool.{true};
+ghost use Prim.Native.Nat.{ℕ, _≤_};
+ghost use lib.ListN.{length, getD};
+ghost use Rattle.functions.specs.Answer.{slices};
+ghost use Rattle.checker.specs.Header.{lineAt};
+ghost use Rattle.checker.specs.Promise.{checking, padded, Lexed, Sizes};
+ghost use Rattle.recheck.specs.Table.{isTable};
+ghost use Rattle.recheck.specs.Recheck.{refusedWith, recheckOf};
+ghost use Rattle.recheck.specs.Promise.{Rechecks};
+use checker::CheckAnswer;
+use functions::ProgramRead;
+use lexer::ReadAnswer;
 use pieces::Identifier;
+use pieces::Location;
+use typing::clear;
+use utils::cell_at;
 
 // The header table: its cells, the cells of a row, and where a row's cells stand for row 0 (docs/INTERFACE.md).
 const TABLE: usize = 2881;
@@ -30,6 +48,9 @@ const FORMALS: usize = 13;
 
 const FORMAL_TYPE: usize = 15;
 
+// Where row 1 has its formals.
+const SECOND_FORMALS: usize = 59;
+
 // Document 01's limits, and what a line is at most in a text of that size.
 const MOST_BYTES: usize = 16384;
 
@@ -38,6 +59,24 @@ const MOST_LINES: u32 = 16385;
 const MOST_FUNCTIONS: u32 = 64;
 
 const MOST_FORMALS: u32 = 16;
+
+// Kinds of tokens (docs/INTERFACE.md).
+const GLOBAL: u32 = 2;
+
+const RIGHT_BRACE: u32 = 28;
+
+const END_OF_FILE: u32 = 38;
+
+// Document 01's numbers.
+const NO_GLOBAL: u32 = 7;
+
+const SHORT_BUFFER: u32 = 30;
+
+const NOT_ONE_FUNCTION: u32 = 40;
+
+const HEADER_CHANGED: u32 = 41;
+
+const BAD_TABLE: u32 = 42;
 
 // Whose name is looked up: a row's of the header table, or one of the new text's names.
 pub enum Looked {
@@ -49,4 +88,208 @@ pub enum Looked {
 pub struct Placed {
     pub place: usize,
     pub count: usize,
+}
+
+// A refusal at no token: its message, and every other slice zero.
+fn refuse_all(
+    number: u32,
+    line: Location,
+    tokens: &mut [u32],
+    names: &mut [u32],
+    functions: &mut [u32],
+    items: &mut [u32],
+    arguments: &mut [u32],
+    blocks: &mut [u32],
+    predecessors: &mut [u32],
+    message: &mut [u8],
+) -> CheckAnswer
+    requires { ⌜ 512 ≤ length (now message) ⌝ }
+    ensures { λ res. ⌜ checking res (now (message .exit)) (now (tokens .exit)) (now (names .exit))
+        (slices (now (functions .exit)) (now (items .exit)) (now (arguments .exit)) (now (blocks .exit))
+        (now (predecessors .exit)))
+        ≡ padded (now (message .entry)) (now (tokens .entry)) (now (names .entry))
+        (slices (now (functions .entry)) (now (items .entry)) (now (arguments .entry)) (now (blocks .entry))
+        (now (predecessors .entry))) (refusedWith number (line .0) 0) ⌝ }
+{
+    messages::report(message, line, number);
+    utils::clear(tokens);
+    utils::clear(names);
+    clear::clear_five(functions, items, arguments, blocks, predecessors);
+    checker::refused(number, line, 0)
+}
+
+// A new text that is read.
+fn recheck_lexed(
+    old: &[u8],
+    table: &[u32],
+    number: u32,
+    new: &[u8],
+    r: ReadAnswer,
+    tokens: &mut [u32],
+    names: &mut [u32],
+    functions: &mut [u32],
+    items: &mut [u32],
+    arguments: &mut [u32],
+    blocks: &mut [u32],
+    predecessors: &mut [u32],
+    message: &mut [u8],
+) -> CheckAnswer
+    requires { ⌜ (isTable (now old) (now table) number ≡ true)
+        × Lexed (getD (now table) (lineAt number) 0) (now new) r (now message) (now tokens) (now names)
+        × Sizes (now message) (now tokens) (now names)
+        (slices (now functions) (now items) (now arguments) (now blocks) (now predecessors)) ⌝ }
+    ensures { λ res. ⌜ checking res (now (message .exit)) (now (tokens .exit)) (now (names .exit))
+        (slices (now (functions .exit)) (now (items .exit)) (now (arguments .exit)) (now (blocks .exit))
+        (now (predecessors .exit)))
+        ≡ padded (now (message .entry)) (now (tokens .entry)) (now (names .entry))
+        (slices (now (functions .entry)) (now (items .entry)) (now (arguments .entry)) (now (blocks .entry))
+        (now (predecessors .entry)))
+        (recheckOf (now (old .entry)) (now (table .entry)) number (now (new .entry))) ⌝ }
+{
+    let last = r.tokens as usize * 4;
+    let end = r.names as usize * 2;
+    if !header::is_whole(new, &tokens[0..last]) {
+        let line = Location(cell_at(table, LINE + number as usize * ROW));
+        return refuse_all(
+            NOT_ONE_FUNCTION,
+            line,
+            tokens,
+            names,
+            functions,
+            items,
+            arguments,
+            blocks,
+            predecessors,
+            message,
+        );
+    }
+    match alone::unit(
+        old,
+        table,
+        number as usize,
+        new,
+        &tokens[0..last],
+        &names[0..end],
+        r.names,
+        functions,
+        items,
+        arguments,
+        blocks,
+        predecessors,
+    ) {
+        ProgramRead::Refused(e) => checker::refuse(new, r, tokens, names, message, e),
+        ProgramRead::Done(n) => checker::counted(r.tokens, r.names, n),
+    }
+}
+
+// Slices that have their sizes.
+fn recheck_sized(
+    old: &[u8],
+    table: &[u32],
+    number: u32,
+    new: &[u8],
+    tokens: &mut [u32],
+    names: &mut [u32],
+    functions: &mut [u32],
+    items: &mut [u32],
+    arguments: &mut [u32],
+    blocks: &mut [u32],
+    predecessors: &mut [u32],
+    message: &mut [u8],
+) -> CheckAnswer
+    requires { ⌜ Sizes (now message) (now tokens) (now names)
+        (slices (now functions) (now items) (now arguments) (now blocks) (now predecessors)) ⌝ }
+    ensures { λ res. ⌜ checking res (now (message .exit)) (now (tokens .exit)) (now (names .exit))
+        (slices (now (functions .exit)) (now (items .exit)) (now (arguments .exit)) (now (blocks .exit))
+        (now (predecessors .exit)))
+        ≡ padded (now (message .entry)) (now (tokens .entry)) (now (names .entry))
+        (slices (now (functions .entry)) (now (items .entry)) (now (arguments .entry)) (now (blocks .entry))
+        (now (predecessors .entry)))
+        (recheckOf (now (old .entry)) (now (table .entry)) number (now (new .entry))) ⌝ }
+{
+    if !table::is_table(old, table, number) {
+        return refuse_all(
+            BAD_TABLE,
+            Location(0),
+            tokens,
+            names,
+            functions,
+            items,
+            arguments,
+            blocks,
+            predecessors,
+            message,
+        );
+    }
+    let line = cell_at(table, LINE + number as usize * ROW);
+    let r = lexer::read_from(new, line, tokens, names, message);
+    if r.number == 0 {
+        return recheck_lexed(
+            old,
+            table,
+            number,
+            new,
+            r,
+            tokens,
+            names,
+            functions,
+            items,
+            arguments,
+            blocks,
+            predecessors,
+            message,
+        );
+    }
+    clear::clear_five(functions, items, arguments, blocks, predecessors);
+    checker::refused(r.number, Location(r.line), r.place)
+}
+
+// Document 01's recheck: one new function against the headers of an accepted text, as cells, or a refusal and its
+// message.
+pub fn recheck(
+    old: &[u8],
+    table: &[u32],
+    number: u32,
+    new: &[u8],
+    tokens: &mut [u32],
+    names: &mut [u32],
+    functions: &mut [u32],
+    items: &mut [u32],
+    arguments: &mut [u32],
+    blocks: &mut [u32],
+    predecessors: &mut [u32],
+    message: &mut [u8],
+) -> CheckAnswer
+    ensures { λ r. ⌜ Rechecks (now (old .entry)) (now (table .entry)) number (now (new .entry))
+        (now (message .entry)) (now (tokens .entry)) (now (names .entry))
+        (slices (now (functions .entry)) (now (items .entry)) (now (arguments .entry)) (now (blocks .entry))
+        (now (predecessors .entry)))
+        r (now (message .exit)) (now (tokens .exit)) (now (names .exit))
+        (slices (now (functions .exit)) (now (items .exit)) (now (arguments .exit)) (now (blocks .exit))
+        (now (predecessors .exit))) ⌝ }
+{
+    let unit = checker::fits_unit(
+        functions.len(),
+        items.len(),
+        arguments.len(),
+        blocks.len(),
+        predecessors.len(),
+    );
+    if checker::fits(message.len(), tokens.len(), names.len(), unit) {
+        return recheck_sized(
+            old,
+            table,
+            number,
+            new,
+            tokens,
+            names,
+            functions,
+            items,
+            arguments,
+            blocks,
+            predecessors,
+            message,
+        );
+    }
+    checker::refused(SHORT_BUFFER, Location(0), 0)
 }

@@ -1,0 +1,214 @@
+// The new function alone: parsed by the code that check uses, and typed among the old headers.
+ghost use mathlib.Core.Path.{_≡_};
+ghost use mathlib.Core.Bool.{true};
+ghost use Prim.Native.Nat.{ℕ, _≤_, _<_};
+ghost use lib.ListN.{length, getD};
+ghost use Rattle.lexer.specs.Decoded.{tokensOf};
+ghost use Rattle.body.specs.Room.{Within};
+ghost use Rattle.functions.specs.Rows.{typeAt};
+ghost use Rattle.functions.specs.Answer.{Long, slices, FunctionHeld};
+ghost use Rattle.typing.specs.Outcome.{none, cleared, asLong, Counted};
+ghost use Rattle.recheck.specs.Table.{isTable};
+ghost use Rattle.recheck.specs.Spelled.{Named, calleesSpelled};
+ghost use Rattle.recheck.specs.Recheck.{aloneD, verdictD, verdictSlices};
+ghost use Rattle.recheck.specs.Alone.{aloneRead, verdictRead, VerdictHeld, Places};
+use crate::Placed;
+use crate::bring;
+use crate::header;
+use functions::Counts;
+use functions::FunctionRead;
+use functions::ProgramRead;
+use sema::Checked;
+use typing::clear;
+use typing::types;
+use utils::cell_at;
+
+// One function from the first token on, and nothing behind it.
+fn parse_alone(
+    tokens: &[u32],
+    names: &[u32],
+    functions: &mut [u32],
+    items: &mut [u32],
+    arguments: &mut [u32],
+    blocks: &mut [u32],
+    predecessors: &mut [u32],
+) -> ProgramRead
+    requires { ⌜ Within (tokensOf (now tokens)) 0 × (2881 ≤ length (now functions))
+        × Long (now items) (now arguments) (now blocks) (now predecessors) ⌝ }
+    ensures { λ r. ⌜ r ≡ aloneRead (aloneD (tokensOf (now (tokens .entry)))) ⌝ }
+    ensures { λ _. ⌜ FunctionHeld (tokensOf (now (tokens .entry))) (now (names .entry)) none
+        (slices (now (functions .entry)) (now (items .entry)) (now (arguments .entry)) (now (blocks .entry))
+        (now (predecessors .entry)))
+        (slices (now (functions .exit)) (now (items .exit)) (now (arguments .exit)) (now (blocks .exit))
+        (now (predecessors .exit)))
+        (aloneD (tokensOf (now (tokens .entry)))) ⌝ }
+{
+    let none = Counts {
+        functions: 0,
+        items: 0,
+        arguments: 0,
+        blocks: 0,
+        predecessors: 0,
+    };
+    match functions::parse_function(
+        tokens,
+        names,
+        0,
+        0,
+        none,
+        functions,
+        items,
+        arguments,
+        blocks,
+        predecessors,
+    ) {
+        FunctionRead::Refused(e) => ProgramRead::Refused(e),
+        FunctionRead::Done(next, _, counts) => {
+            let t = lexer::token_at(tokens, next);
+            if t.kind == super::END_OF_FILE {
+                return ProgramRead::Done(counts);
+            }
+            if t.kind == super::GLOBAL {
+                return ProgramRead::Refused(parser::refuse(super::NOT_ONE_FUNCTION, next));
+            }
+            ProgramRead::Refused(parser::refuse(super::NO_GLOBAL, next))
+        }
+    }
+}
+
+// Gives the new function's row, the first of `functions`, the function type's number of the replaced row; and puts it in
+// that row's place among the old headers.
+fn place_alone<'t, 'c>(
+    functions: &mut [u32],
+    old: &'t [u8],
+    rows: &'c [u32],
+    number: usize,
+    new: &'t [u8],
+    names: &'c [u32],
+    known: u32,
+    local: &mut [u32],
+) -> Placed
+    requires { ⌜ (number < getD (now rows) 0 0) × (getD (now rows) 0 0 ≤ 64) × (2881 ≤ length (now functions))
+        × (2881 ≤ length (now local)) ⌝ }
+    ensures { λ r. ⌜ Places (now (old .entry)) (now (rows .entry)) (now (new .entry)) (now (names .entry)) known number
+        (now (local .entry)) (now (functions .entry)) r (now (local .exit)) (now (functions .exit)) ⌝ }
+{
+    functions[0] = 1;
+    functions[super::TYPE] = cell_at(rows, super::TYPE + number * super::ROW);
+    let placed = bring::bring(local, old, rows, number, new, names, known);
+    bring::copy_row(local, placed.place, functions, 0);
+    placed
+}
+
+// Into cleared slices, with a table for the old headers. A refusal says nothing of the slices.
+fn build<'t, 'c>(
+    old: &'t [u8],
+    rows: &'c [u32],
+    number: usize,
+    new: &'t [u8],
+    tokens: &[u32],
+    names: &'c [u32],
+    known: u32,
+    functions: &mut [u32],
+    items: &mut [u32],
+    arguments: &mut [u32],
+    blocks: &mut [u32],
+    predecessors: &mut [u32],
+    local: &mut [u32],
+) -> ProgramRead
+    requires { ⌜ (isTable (now old) (now rows) number ≡ true) × Named (now new) (now names) known
+        × Within (tokensOf (now tokens)) 0 × (2881 ≤ length (now functions))
+        × Long (now items) (now arguments) (now blocks) (now predecessors) × (2881 ≤ length (now local))
+        × (slices (now functions) (now items) (now arguments) (now blocks) (now predecessors)
+        ≡ cleared (slices (now functions) (now items) (now arguments) (now blocks) (now predecessors))) ⌝ }
+    ensures { λ r. ⌜ r ≡ verdictRead (verdictD (now (old .entry)) (now (rows .entry)) number (now (new .entry))
+        (now (names .entry)) (tokensOf (now (tokens .entry)))) ⌝ }
+    ensures { λ _. ⌜ VerdictHeld (tokensOf (now (tokens .entry))) (now (names .entry))
+        (calleesSpelled (now (old .entry)) (now (rows .entry)) (now (new .entry)) (now (names .entry)))
+        (getD (now (rows .entry)) (typeAt number) 0)
+        (slices (now (functions .entry)) (now (items .entry)) (now (arguments .entry)) (now (blocks .entry))
+        (now (predecessors .entry)))
+        (slices (now (functions .exit)) (now (items .exit)) (now (arguments .exit)) (now (blocks .exit))
+        (now (predecessors .exit)))
+        (verdictD (now (old .entry)) (now (rows .entry)) number (now (new .entry)) (now (names .entry))
+        (tokensOf (now (tokens .entry)))) ⌝ }
+    ensures { λ r. ⌜ Counted r ⌝ }
+{
+    if !header::keeps(old, new, rows, names, number, tokens, local) {
+        return ProgramRead::Refused(parser::refuse(super::HEADER_CHANGED, 0));
+    }
+    match parse_alone(
+        tokens,
+        names,
+        functions,
+        items,
+        arguments,
+        blocks,
+        predecessors,
+    ) {
+        ProgramRead::Refused(e) => ProgramRead::Refused(e),
+        ProgramRead::Done(n) => {
+            let at = place_alone(functions, old, rows, number, new, names, known, local);
+            match types::type_rows(tokens, local, at.count, at.place, 1, items, arguments, blocks) {
+                Checked::Refused(e) => ProgramRead::Refused(e),
+                Checked::Fine => ProgramRead::Done(n),
+            }
+        }
+    }
+}
+
+// The function, or a refusal, which leaves the slices zero.
+pub(crate) fn unit<'t, 'c>(
+    old: &'t [u8],
+    rows: &'c [u32],
+    number: usize,
+    new: &'t [u8],
+    tokens: &[u32],
+    names: &'c [u32],
+    known: u32,
+    functions: &mut [u32],
+    items: &mut [u32],
+    arguments: &mut [u32],
+    blocks: &mut [u32],
+    predecessors: &mut [u32],
+) -> ProgramRead
+    requires { ⌜ (isTable (now old) (now rows) number ≡ true) × Named (now new) (now names) known
+        × Within (tokensOf (now tokens)) 0 × (2881 ≤ length (now functions))
+        × Long (now items) (now arguments) (now blocks) (now predecessors) ⌝ }
+    ensures { λ r. ⌜ r ≡ verdictRead (verdictD (now (old .entry)) (now (rows .entry)) number (now (new .entry))
+        (now (names .entry)) (tokensOf (now (tokens .entry)))) ⌝ }
+    ensures { λ _. ⌜ slices (now (functions .exit)) (now (items .exit)) (now (arguments .exit)) (now (blocks .exit))
+        (now (predecessors .exit))
+        ≡ asLong (slices (now (functions .entry)) (now (items .entry)) (now (arguments .entry)) (now (blocks .entry))
+        (now (predecessors .entry)))
+        (verdictSlices (tokensOf (now (tokens .entry))) (now (names .entry))
+        (calleesSpelled (now (old .entry)) (now (rows .entry)) (now (new .entry)) (now (names .entry)))
+        (getD (now (rows .entry)) (typeAt number) 0)
+        (verdictD (now (old .entry)) (now (rows .entry)) number (now (new .entry)) (now (names .entry))
+        (tokensOf (now (tokens .entry))))) ⌝ }
+    ensures { λ r. ⌜ Counted r ⌝ }
+{
+    clear::clear_five(functions, items, arguments, blocks, predecessors);
+    let mut local = [0u32; 2881];
+    match build(
+        old,
+        rows,
+        number,
+        new,
+        tokens,
+        names,
+        known,
+        functions,
+        items,
+        arguments,
+        blocks,
+        predecessors,
+        &mut local,
+    ) {
+        ProgramRead::Done(n) => ProgramRead::Done(n),
+        ProgramRead::Refused(e) => {
+            clear::clear_five(functions, items, arguments, blocks, predecessors);
+            ProgramRead::Refused(e)
+        }
+    }
+}
