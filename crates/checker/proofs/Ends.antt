@@ -1,14 +1,14 @@
 -- How the check of a text ends, over plain variables.
-use Prim.Native.Nat.{ℕ, _≤_}
+use Prim.Native.Nat.{ℕ, _*_, _≤_}
 use mathlib.Core.Path.{_≡_, refl, sym, ap, subst, _∙_}
 use mathlib.Core.List.{List, []}
 use mathlib.Core.Bool.{Bool, true, false}
 use native.Mathlib.Omega.{arith}
 use borrow.Author.Tests.{eq-eqb, ne-eqb, le-ltb}
 use lib.Dec.{eqb}
-use lib.ListN.{length}
+use lib.ListN.{length, take}
 use Rattle.utils.specs.Bytes.{pick, padTo}
-use Rattle.lexer.specs.Read.{Reading, reading, readOf, readDef, Reads}
+use Rattle.lexer.specs.Read.{Reading, readFrom, readOf, readDef, Reads}
 use Rattle.lexer.specs.Read as lexed
 use Rattle.lexer.specs.Numbered as lexes
 use Rattle.lexer.specs.Decoded.{Tok, tokensOf, tokenAt}
@@ -22,31 +22,33 @@ use Rattle.functions.specs.declared.ProgramRead.{ProgramRead}
 use Rattle.functions.specs.declared.ProgramRead.the-variants as U
 use Rattle.typing.specs.Outcome.{Outcome, checked, refused, unitD, unitRead, unitSlices, asLong, cleared, none}
 use Rattle.checker.specs.Check.{Checking, accepted, refusal, refusing, refusedAt, checkedOr, readAs, checkOf}
-use Rattle.checker.specs.Promise.{checking, padded, sized, sizedUnit, allSized, checkDef, refusedBy, Lexed, Refuses, Sizes}
+use Rattle.checker.specs.Promise.{checking, padded, sized, sizedUnit, allSized, checkDef, Lexed, Refuses, Sizes}
 use Rattle.checker.specs.Promise.{IfSized, IfSizedUnit, Checks}
 use Rattle.checker.specs.declared.CheckAnswer.{CheckAnswer}
-use Rattle.checker.proofs.Lexed.{no-message}
+use Rattle.checker.proofs.Lexed.{no-message, first-tokens, first-names}
 
-same-checking : {r r′ : CheckAnswer} {m m′ t t′ n n′ : List ℕ} {u u′ : Slices} → r ≡ r′ → m ≡ m′ → t ≡ t′ → n ≡ n′ → u ≡ u′
+-- answers and slices that are equal part by part
+pub same-checking : {r r′ : CheckAnswer} {m m′ t t′ n n′ : List ℕ} {u u′ : Slices}
+    → r ≡ r′ → m ≡ m′ → t ≡ t′ → n ≡ n′ → u ≡ u′
     → checking r m t n u ≡ checking r′ m′ t′ n′ u′
 same-checking e₁ e₂ e₃ e₄ e₅ = rw (e₁, e₂, e₃, e₄, e₅)
 
-module _ (text m t n : List ℕ) (u : Slices) (r : ReadAnswer) (v : Lexed text r m t n) where
+module _ (text m t n : List ℕ) (u : Slices) (r : ReadAnswer) (v : Lexed 1 text r m t n) where
   abbrev ts : List Tok
-  ts = tokensOf (readOf text .tokens)
+  ts = tokensOf (readFrom 1 text .tokens)
 
   -- a text that reads is what its functions make of it
-  goes-on : checkOf text ≡ checkedOr text (readOf text) ts (unitD ts)
-  unfolding checkOf pick
+  goes-on : checkOf text ≡ checkedOr text (readFrom 1 text) ts (unitD ts)
+  unfolding checkOf readOf pick
   goes-on = rw (eq-eqb _ _ (sym (ap (λ (a : ReadAnswer). a .number) (v .answer)) ∙ v .fine))
 
   -- the answer and the slices, by what the functions are
-  module _ (u′ : Slices) (unit-is : u′ ≡ asLong u (unitSlices ts (readOf text .names) (unitD ts))) where
-    unit-by : (o : Outcome) → unitD ts ≡ o → u′ ≡ asLong u (unitSlices ts (readOf text .names) o)
-    unit-by o e = unit-is ∙ ap (λ (x : Outcome). asLong u (unitSlices ts (readOf text .names) x)) e
+  module _ (u′ : Slices) (unit-is : u′ ≡ asLong u (unitSlices ts (readFrom 1 text .names) (unitD ts))) where
+    unit-by : (o : Outcome) → unitD ts ≡ o → u′ ≡ asLong u (unitSlices ts (readFrom 1 text .names) o)
+    unit-by o e = unit-is ∙ ap (λ (x : Outcome). asLong u (unitSlices ts (readFrom 1 text .names) x)) e
 
     accepts-by : (k : Counts) (o : Outcome) → unitD ts ≡ o → U.Done k ≡ unitRead o
-        → checking (accepted (r .tokens) (r .names) k) m t n u′ ≡ padded m t n u (checkedOr text (readOf text) ts o)
+        → checking (accepted (r .tokens) (r .names) k) m t n u′ ≡ padded m t n u (checkedOr text (readFrom 1 text) ts o)
     accepts-by k (checked fs) e h =
         let counts-are : k ≡ countsFrom none fs = cc in
         same-checking (rw (v .answer, counts-are)) (v .message ∙ ap (padTo (length m)) (no-message v)) (v .tokens) (v .names)
@@ -58,8 +60,8 @@ module _ (text m t n : List ℕ) (u : Slices) (r : ReadAnswer) (v : Lexed text r
     check-accepts k h = accepts-by k (unitD ts) refl h ∙ ap (padded m t n u) (sym goes-on)
 
     refuses-by : (e : Refusal) (o : Outcome) → unitD ts ≡ o → U.Refused e ≡ unitRead o
-        → (res : CheckAnswer) (m′ t′ n′ : List ℕ) → Refuses text e m t n res m′ t′ n′
-        → checking res m′ t′ n′ u′ ≡ padded m t n u (checkedOr text (readOf text) ts o)
+        → (res : CheckAnswer) (m′ t′ n′ : List ℕ) → Refuses text (readFrom 1 text .names) ts e m t n res m′ t′ n′
+        → checking res m′ t′ n′ u′ ≡ padded m t n u (checkedOr text (readFrom 1 text) ts o)
     refuses-by e (checked fs) q h res m′ t′ n′ w = absurd (let z : _≡_ {A = ℕ} 0 1 = cc in omega arith)
     refuses-by e (refused e′) q h res m′ t′ n′ w =
         let same : e ≡ e′ = cc in
@@ -67,14 +69,14 @@ module _ (text m t n : List ℕ) (u : Slices) (r : ReadAnswer) (v : Lexed text r
         (same-checking (w .answer) (w .message) (w .tokens) (w .names) (unit-by (refused e) (q ∙ ap refused (sym same))))
 
     pub check-refuses : (e : Refusal) → U.Refused e ≡ unitRead (unitD ts)
-        → (res : CheckAnswer) (m′ t′ n′ : List ℕ) → Refuses text e m t n res m′ t′ n′
+        → (res : CheckAnswer) (m′ t′ n′ : List ℕ) → Refuses text (readFrom 1 text .names) ts e m t n res m′ t′ n′
         → checking res m′ t′ n′ u′ ≡ padded m t n u (checkOf text)
     check-refuses e h res m′ t′ n′ w = refuses-by e (unitD ts) refl h res m′ t′ n′ w ∙ ap (padded m t n u) (sym goes-on)
 
 -- a text that doesn't read has no tokens and no names
-unread : (text : List ℕ) → (readOf text .answer .number ≡ 0 → ⊥) → (readOf text .tokens ≡ []) × (readOf text .names ≡ [])
-unfolding readOf
-unread text h = from (lexed.lexedFrom 1 text) h
+pub unread-from : (line : ℕ) (text : List ℕ) → (readFrom line text .answer .number ≡ 0 → ⊥)
+    → (readFrom line text .tokens ≡ []) × (readFrom line text .names ≡ [])
+unread-from line text h = from (lexed.lexedFrom line text) h
   where
     from : (o : lexes.Outcome) → (lexed.readingOf o .answer .number ≡ 0 → ⊥)
         → (lexed.readingOf o .tokens ≡ []) × (lexed.readingOf o .names ≡ [])
@@ -82,16 +84,22 @@ unread text h = from (lexed.lexedFrom 1 text) h
     from (lexes.Outcome.refused e) g = (refl, refl)
     from lexes.Outcome.cut g = absurd (g refl)
 
+pub unread : (text : List ℕ) → (readOf text .answer .number ≡ 0 → ⊥)
+    → (readOf text .tokens ≡ []) × (readOf text .names ≡ [])
+unfolding readOf
+unread text h = unread-from 1 text h
+
 -- the same by the cells in use
-module _ (text m t n : List ℕ) (u : Slices) (r : ReadAnswer) (v : Lexed text r m t n) (tk nm : List ℕ)
-    (tk-is : tk ≡ readOf text .tokens) (nm-is : nm ≡ readOf text .names) (u′ : Slices)
+module _ (text m t n : List ℕ) (u : Slices) (r : ReadAnswer) (v : Lexed 1 text r m t n) (tk nm : List ℕ)
+    (tk-is : tk ≡ readFrom 1 text .tokens) (nm-is : nm ≡ readFrom 1 text .names) (u′ : Slices)
     (unit-is : u′ ≡ asLong u (unitSlices (tokensOf tk) nm (unitD (tokensOf tk)))) where
-  unit-same : u′ ≡ asLong u (unitSlices (tokensOf (readOf text .tokens)) (readOf text .names)
-      (unitD (tokensOf (readOf text .tokens))))
+  unit-same : u′ ≡ asLong u (unitSlices (tokensOf (readFrom 1 text .tokens)) (readFrom 1 text .names)
+      (unitD (tokensOf (readFrom 1 text .tokens))))
   unit-same =
       unit-is
       ∙ ap (λ (x : List ℕ). asLong u (unitSlices (tokensOf x) nm (unitD (tokensOf x)))) tk-is
-      ∙ ap (λ (x : List ℕ). asLong u (unitSlices (tokensOf (readOf text .tokens)) x (unitD (tokensOf (readOf text .tokens)))))
+      ∙ ap (λ (x : List ℕ). asLong u (unitSlices (tokensOf (readFrom 1 text .tokens)) x
+      (unitD (tokensOf (readFrom 1 text .tokens)))))
       nm-is
 
   pub ends-accepted : (k : Counts) → U.Done k ≡ unitRead (unitD (tokensOf tk))
@@ -99,18 +107,30 @@ module _ (text m t n : List ℕ) (u : Slices) (r : ReadAnswer) (v : Lexed text r
   ends-accepted k h =
       check-accepts text m t n u r v u′ unit-same k (h ∙ ap (λ (x : List ℕ). unitRead (unitD (tokensOf x))) tk-is)
 
+  -- the refusal stands at the reading's own tokens and names
+  refused-there : (e : Refusal) (res : CheckAnswer) (m′ t′ n′ : List ℕ)
+      → Refuses text (take (r .names * 2) n) (tokensOf (take (r .tokens * 4) t)) e m t n res m′ t′ n′
+      → Refuses text (readFrom 1 text .names) (tokensOf (readFrom 1 text .tokens)) e m t n res m′ t′ n′
+  refused-there e res m′ t′ n′ w =
+      subst (λ (x : List ℕ). Refuses text x (tokensOf (readFrom 1 text .tokens)) e m t n res m′ t′ n′) (first-names v)
+      (subst (λ (x : List ℕ). Refuses text (take (r .names * 2) n) (tokensOf x) e m t n res m′ t′ n′) (first-tokens v)
+      w)
+
   pub ends-refused : (e : Refusal) → U.Refused e ≡ unitRead (unitD (tokensOf tk))
-      → (res : CheckAnswer) (m′ t′ n′ : List ℕ) → Refuses text e m t n res m′ t′ n′
+      → (res : CheckAnswer) (m′ t′ n′ : List ℕ)
+      → Refuses text (take (r .names * 2) n) (tokensOf (take (r .tokens * 4) t)) e m t n res m′ t′ n′
       → checking res m′ t′ n′ u′ ≡ padded m t n u (checkOf text)
   ends-refused e h res m′ t′ n′ w =
-      check-refuses text m t n u r v u′ unit-same e (h ∙ ap (λ (x : List ℕ). unitRead (unitD (tokensOf x))) tk-is) res m′ t′ n′ w
+      check-refuses text m t n u r v u′ unit-same e (h ∙ ap (λ (x : List ℕ). unitRead (unitD (tokensOf x))) tk-is) res m′
+      t′ n′ (refused-there e res m′ t′ n′ w)
 
-pub refuses-by-cells : (text m t n : List ℕ) (e : Refusal) (tk nm : List ℕ) → tk ≡ readOf text .tokens → nm ≡ readOf text .names
+-- the refusal by parts of the slices, tk and nm, that are the cells in use
+pub refuses-by-cells : (text m t n : List ℕ) (e : Refusal) (tk nm tk′ nm′ : List ℕ) → tk ≡ tk′ → nm ≡ nm′
     → (x : TokenAt) → x ≡ tokenAt (tokensOf tk) (e .token)
     → (res : CheckAnswer) (m′ t′ n′ : List ℕ) → res ≡ refusal (e .number) (x .line .0) (x .place)
     → m′ ≡ padTo (length m) (messageOf text (tokensOf tk) nm e) → t′ ≡ padTo (length t) [] → n′ ≡ padTo (length n) []
-    → Refuses text e m t n res m′ t′ n′
-refuses-by-cells text m t n e tk nm p q x w res m′ t′ n′ a b d f =
+    → Refuses text nm′ (tokensOf tk′) e m t n res m′ t′ n′
+refuses-by-cells text m t n e tk nm tk′ nm′ p q x w res m′ t′ n′ a b d f =
     record {
       answer =
           a
@@ -119,7 +139,7 @@ refuses-by-cells text m t n e tk nm p q x w res m′ t′ n′ a b d f =
       message =
           b
           ∙ ap (λ (y : List ℕ). padTo (length m) (messageOf text (tokensOf y) nm e)) p
-          ∙ ap (λ (y : List ℕ). padTo (length m) (messageOf text (tokensOf (readOf text .tokens)) y e)) q;
+          ∙ ap (λ (y : List ℕ). padTo (length m) (messageOf text (tokensOf tk′) y e)) q;
       tokens = d;
       names = f;
     }
@@ -149,14 +169,15 @@ module _ (text t₀ n₀ m₀ : List ℕ) (r : ReadAnswer) (t n m : List ℕ) (r
   message-is = reads .message ∙ ap (λ (x : Reading). x .message) as-read
 
   module _ (lt : length t ≡ length t₀) (ln : length n ≡ length n₀) (lm : length m ≡ length m₀) where
-    pub is-lexed : r .number ≡ 0 → Lexed text r m t n
+    pub is-lexed : r .number ≡ 0 → Lexed 1 text r m t n
+    unfolding readOf
     is-lexed z =
         record {
           answer = answer-is;
           fine = z;
-          message = message-is ∙ ap (λ (k : ℕ). padTo k (readOf text .message)) (sym lm);
-          tokens = tokens-are ∙ ap (λ (k : ℕ). padTo k (readOf text .tokens)) (sym lt);
-          names = names-are ∙ ap (λ (k : ℕ). padTo k (readOf text .names)) (sym ln);
+          message = message-is ∙ ap (λ (k : ℕ). padTo k (readFrom 1 text .message)) (sym lm);
+          tokens = tokens-are ∙ ap (λ (k : ℕ). padTo k (readFrom 1 text .tokens)) (sym lt);
+          names = names-are ∙ ap (λ (k : ℕ). padTo k (readFrom 1 text .names)) (sym ln);
         }
 
     pub as-at-entry : (u : Slices) → padded m t n u (checkOf text) ≡ padded m₀ t₀ n₀ u (checkOf text)

@@ -53,7 +53,7 @@ use Rattle.functions.proofs.Types.{TypesFew, more-types, types-after-up, functi
 use Rattle.functions.proofs.Standing.{cell-there, rest-there, row-ret, row-type, row-count, row-formals, row-stands, rows-behind}
 use Rattle.functions.specs.declared.Entered.{Entered}
 use Rattle.functions.specs.declared.Entered.the-variants as E
-use Rattle.lexer.specs.Read.{readOf}
+use Rattle.lexer.specs.Read.{readFrom, readOf}
 use Rattle.sema.specs.Program.{programD as typedD}
 use Rattle.sema.specs.Blocks.{blockCountAt}
 use Rattle.sema.specs.declared.Checked.{Checked}
@@ -533,40 +533,44 @@ none-in text m =
     let z : _≡_ {A = ℕ} (getD (padTo m []) 0 0) 0 = rw k (first-zero m) in
     record { count = omega (arith, z); each = λ i h. absurd (omega (arith, z, h)) }
 
-module _ (text : List ℕ) (m : ℕ) (v : Lexed text (readOf text .answer) (readOf text .message) (readOf text .tokens) (readOf text .names))
+module _ (text : List ℕ) (m : ℕ)
+    (v : Lexed 1 text (readFrom 1 text .answer) (readFrom 1 text .message) (readFrom 1 text .tokens)
+    (readFrom 1 text .names))
   where
-    read-in : (i : ℕ) → tokenAt (tokensOf (readOf text .tokens)) i .kind ≡ 2
-        → GlobalIn text (readOf text .names) (tokenAt (tokensOf (readOf text .tokens)) i)
+    read-in : (i : ℕ) → tokenAt (tokensOf (readFrom 1 text .tokens)) i .kind ≡ 2
+        → GlobalIn text (readFrom 1 text .names) (tokenAt (tokensOf (readFrom 1 text .tokens)) i)
     read-in =
-        global-in text (is-done v .ts) (is-done v .ns) (is-done v .sound) (readOf text .tokens) (readOf text .names)
-        (tokens-unpadded v) (read-names v ∙ sym (append-nil (namesCells (is-done v .ns))))
+        global-in text (is-done v .ts) (is-done v .ns) (is-done v .sound) (readFrom 1 text .tokens)
+        (readFrom 1 text .names) (tokens-unpadded v) (read-names v ∙ sym (append-nil (namesCells (is-done v .ns))))
 
-    by-outcome : (o : Outcome) → unitD (tokensOf (readOf text .tokens)) ≡ o
-        → TableInRange text (padTo m (checkedOr text (readOf text) (tokensOf (readOf text .tokens)) o .unit .functions))
+    by-outcome : (o : Outcome) → unitD (tokensOf (readFrom 1 text .tokens)) ≡ o
+        → TableInRange text
+        (padTo m (checkedOr text (readFrom 1 text) (tokensOf (readFrom 1 text .tokens)) o .unit .functions))
     by-outcome (checked fs) e =
-        let ts = tokensOf (readOf text .tokens) in
+        let ts = tokensOf (readFrom 1 text .tokens) in
         let good = subst (λ (gs : List Function). GoodFunctions ts gs × (length gs ≤ 64)) (sym (parsed-are ts fs e)) (program-good ts) in
-        let rows = padTo m (length fs ∷ rowsCells ts (readOf text .names) none fs) in
+        let rows = padTo m (length fs ∷ rowsCells ts (readFrom 1 text .names) none fs) in
         record {
           count = good .1;
           each = λ i h.
               let z : 0 + i ≡ i = omega arith in
               rw z at
-              (rows-in text ts (readOf text .names) rows
-              (replicate (m - length (length fs ∷ rowsCells ts (readOf text .names) none fs)) 0) read-in fs none
+              (rows-in text ts (readFrom 1 text .names) rows
+              (replicate (m - length (length fs ∷ rowsCells ts (readFrom 1 text .names) none fs)) 0) read-in fs none
               (good .0) refl i h);
         }
     by-outcome (refused r) e = none-in text m
 
 -- EVERY HEADER TABLE THAT `check` WRITES IS IN RANGE, also that of a refused text: it has no functions.
 pub header-in-range : (text : List ℕ) (m : ℕ) → TableInRange text (padTo m (checkOf text .unit .functions))
-unfolding checkOf pick
-header-in-range text m = by (eqb (readOf text .answer .number) 0) refl
+unfolding checkOf readOf pick
+header-in-range text m = by (eqb (readFrom 1 text .answer .number) 0) refl
   where
-    by : (b : Bool) → eqb (readOf text .answer .number) 0 ≡ b → TableInRange text (padTo m (checkOf text .unit .functions))
+    by : (b : Bool) → eqb (readFrom 1 text .answer .number) 0 ≡ b
+        → TableInRange text (padTo m (checkOf text .unit .functions))
     by true e =
         rw e
-        (by-outcome text m (lexed-itself text (eqb-true _ _ e)) (unitD (tokensOf (readOf text .tokens))) refl)
+        (by-outcome text m (lexed-itself 1 text (eqb-true _ _ e)) (unitD (tokensOf (readFrom 1 text .tokens))) refl)
     by false e = rw e (none-in text m)
 
 sized-in-range : (text m t n : List ℕ) (u : Slices) → (checkDef text m t n u .answer .number ≡ 30 → ⊥)

@@ -92,7 +92,7 @@ every-number text = by-lexing (lexedFrom 1 text) refl
     by-lexing : (o : lexes.Outcome) → lexedFrom 1 text ≡ o → Numbered text (checkOf text .answer .number)
     by-lexing (lexes.Outcome.done toks ns) p =
         by-unit toks ns p (unitD (tokensOf (tokensCells toks))) refl
-        (unit-listed _ (rw p at (within (lexed-itself text (rw p)))))
+        (unit-listed _ (rw p at (within (lexed-itself 1 text (rw p)))))
     by-lexing (lexes.Outcome.refused r) p =
         refused-numbered text (rw (p, ne-eqb _ _ (refusal-number r)) (lexing-listed r))
     by-lexing lexes.Outcome.cut p = absurd (never-cut 1 text p)

@@ -6,8 +6,8 @@ use mathlib.Core.Bool.{Bool, true, false}
 use lib.Dec.{ltb}
 use lib.ListN.{length}
 use Rattle.utils.specs.Bytes.{pick, padTo}
-use Rattle.lexer.specs.Read.{readOf}
-use Rattle.lexer.specs.Decoded.{tokensOf}
+use Rattle.lexer.specs.Read.{readFrom}
+use Rattle.lexer.specs.Decoded.{Tok}
 use Rattle.parser.specs.declared.Refusal.{Refusal}
 use Rattle.lexer.specs.declared.ReadAnswer.{ReadAnswer}
 use Rattle.functions.specs.Answer.{Long, Slices}
@@ -45,9 +45,6 @@ unfoldable pub checkDef : List ℕ → List ℕ → List ℕ → List ℕ → Sl
 checkDef text m t n u =
     pick (allSized m t n u) (padded m t n u (checkOf text)) (checking (refusal 30 0 0) m t n u)
 
-abbrev pub refusedBy : List ℕ → Refusal → Checking
-refusedBy text e = refusedAt text (readOf text .names) (tokensOf (readOf text .tokens)) e
-
 -- What the inner functions say: the sizes that the gate has seen; the slices that `read` has written.
 abbrev pub IfSizedUnit : Bool → ℕ → ℕ → ℕ → ℕ → ℕ → Type 0
 IfSizedUnit true f i a b p = (2881 ≤ f) × (24576 ≤ i) × (6928 ≤ a) × (8192 ≤ b) × (2048 ≤ p)
@@ -57,17 +54,19 @@ abbrev pub IfSized : Bool → Bool → ℕ → ℕ → ℕ → Type 0
 IfSized true unit m t n = (512 ≤ m) × (16384 ≤ t) × (2048 ≤ n) × (unit ≡ true)
 IfSized false unit m t n = Unit
 
-pub record Lexed (text : List ℕ) (r : ReadAnswer) (m t n : List ℕ) : Type 0 where
-  pub answer : r ≡ readOf text .answer
+-- a text whose first line has this number, once it is read and accepted
+pub record Lexed (line : ℕ) (text : List ℕ) (r : ReadAnswer) (m t n : List ℕ) : Type 0 where
+  pub answer : r ≡ readFrom line text .answer
   pub fine : r .number ≡ 0
-  pub message : m ≡ padTo (length m) (readOf text .message)
-  pub tokens : t ≡ padTo (length t) (readOf text .tokens)
-  pub names : n ≡ padTo (length n) (readOf text .names)
+  pub message : m ≡ padTo (length m) (readFrom line text .message)
+  pub tokens : t ≡ padTo (length t) (readFrom line text .tokens)
+  pub names : n ≡ padTo (length n) (readFrom line text .names)
 
--- a refusal of parsing or typing, once its message is written and the tokens and names are gone
-pub record Refuses (text : List ℕ) (e : Refusal) (m₀ t₀ n₀ : List ℕ) (r : CheckAnswer) (m t n : List ℕ) : Type 0 where
-  pub answer : r ≡ refusedBy text e .answer
-  pub message : m ≡ padTo (length m₀) (refusedBy text e .message)
+-- a refusal at a token, once its message is written; ns and ts, the names' cells and the tokens in use, are gone
+pub record Refuses (text ns : List ℕ) (ts : List Tok) (e : Refusal) (m₀ t₀ n₀ : List ℕ) (r : CheckAnswer)
+    (m t n : List ℕ) : Type 0 where
+  pub answer : r ≡ refusedAt text ns ts e .answer
+  pub message : m ≡ padTo (length m₀) (refusedAt text ns ts e .message)
   pub tokens : t ≡ padTo (length t₀) []
   pub names : n ≡ padTo (length n₀) []
 

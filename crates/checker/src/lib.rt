@@ -1,8 +1,10 @@
 // Any text to typed functions with blocks and edges, or one refusal.
 ghost use mathlib.Core.Path.{_≡_};
-ghost use Prim.Native.Nat.{ℕ, _≤_};
-ghost use lib.ListN.{length};
+ghost use Prim.Native.Nat.{ℕ, _*_, _≤_};
+ghost use lib.ListN.{length, take};
+ghost use Rattle.lexer.specs.Decoded.{tokensOf};
 ghost use Rattle.functions.specs.Answer.{slices};
+ghost use Rattle.messages.specs.Messages.{ShortNames};
 ghost use Rattle.checker.specs.Check.{accepted, refusal, checkOf};
 ghost use Rattle.checker.specs.Promise.{checking, padded, Lexed, Refuses, Sizes};
 ghost use Rattle.checker.specs.Promise.{sized, sizedUnit, IfSized, IfSizedUnit, Checks};
@@ -27,7 +29,8 @@ pub struct CheckAnswer {
     pub predecessors: u32,
 }
 
-fn refused(number: u32, line: Location, place: u32) -> CheckAnswer
+// A refusal's answer.
+pub fn refused(number: u32, line: Location, place: u32) -> CheckAnswer
     ensures { λ r. ⌜ r ≡ refusal number (line .0) place ⌝ }
 {
     CheckAnswer {
@@ -44,7 +47,8 @@ fn refused(number: u32, line: Location, place: u32) -> CheckAnswer
     }
 }
 
-fn counted(tokens: u32, names: u32, n: Counts) -> CheckAnswer
+// An acceptance's answer.
+pub fn counted(tokens: u32, names: u32, n: Counts) -> CheckAnswer
     requires { ⌜ (n .functions ≤ 4096) × (n .items ≤ 4096) × (n .arguments ≤ 4096) × (n .blocks ≤ 4096)
         × (n .predecessors ≤ 4096) ⌝ }
     ensures { λ r. ⌜ r ≡ accepted tokens names n ⌝ }
@@ -63,8 +67,8 @@ fn counted(tokens: u32, names: u32, n: Counts) -> CheckAnswer
     }
 }
 
-// A refusal of parsing or typing: its message, and no tokens or names.
-fn refuse(
+// A refusal at a token: its message, and no tokens or names.
+pub fn refuse(
     text: &[u8],
     r: ReadAnswer,
     tokens: &mut [u32],
@@ -72,9 +76,11 @@ fn refuse(
     message: &mut [u8],
     e: Refusal,
 ) -> CheckAnswer
-    requires { ⌜ Lexed (now text) r (now message) (now tokens) (now names) × (512 ≤ length (now message))
-        × (16384 ≤ length (now tokens)) × (2048 ≤ length (now names)) ⌝ }
-    ensures { λ res. ⌜ Refuses (now (text .entry)) e (now (message .entry)) (now (tokens .entry)) (now (names .entry))
+    requires { ⌜ (r .tokens * 4 ≤ length (now tokens)) × (r .names * 2 ≤ length (now names))
+        × (512 ≤ length (now message)) × ShortNames (now text) (take (r .names * 2) (now names)) ⌝ }
+    ensures { λ res. ⌜ Refuses (now (text .entry)) (take (r .names * 2) (now (names .entry)))
+        (tokensOf (take (r .tokens * 4) (now (tokens .entry)))) e
+        (now (message .entry)) (now (tokens .entry)) (now (names .entry))
         res (now (message .exit)) (now (tokens .exit)) (now (names .exit)) ⌝ }
 {
     let last = r.tokens as usize * 4;
@@ -100,7 +106,7 @@ fn check_lexed(
     predecessors: &mut [u32],
     message: &mut [u8],
 ) -> CheckAnswer
-    requires { ⌜ Lexed (now text) r (now message) (now tokens) (now names)
+    requires { ⌜ Lexed 1 (now text) r (now message) (now tokens) (now names)
         × Sizes (now message) (now tokens) (now names)
         (slices (now functions) (now items) (now arguments) (now blocks) (now predecessors)) ⌝ }
     ensures { λ res. ⌜ checking res (now (message .exit)) (now (tokens .exit)) (now (names .exit))
@@ -166,7 +172,8 @@ fn check_sized(
     refused(r.number, Location(r.line), r.place)
 }
 
-fn fits_unit(f: usize, i: usize, a: usize, b: usize, p: usize) -> bool
+// Whether slices of these lengths, for functions, items, arguments, blocks and predecessors, have their sizes.
+pub fn fits_unit(f: usize, i: usize, a: usize, b: usize, p: usize) -> bool
     ensures { λ r. ⌜ (r ≡ sizedUnit f i a b p) × (IfSizedUnit r f i a b p) ⌝ }
 {
     if f < 2881 {
@@ -188,7 +195,7 @@ fn fits_unit(f: usize, i: usize, a: usize, b: usize, p: usize) -> bool
 }
 
 // Whether slices of these lengths have their sizes; `unit`: whether the other five have theirs.
-fn fits(m: usize, t: usize, n: usize, unit: bool) -> bool
+pub fn fits(m: usize, t: usize, n: usize, unit: bool) -> bool
     ensures { λ r. ⌜ (r ≡ sized m t n unit) × (IfSized r unit m t n) ⌝ }
 {
     if t < 16384 {

@@ -63,7 +63,7 @@ fn put_other_count(buf: &mut [u8], at: usize, wanted: u32, found: u32) -> usize
     utils::put_decimal(buf, p2, found)
 }
 
-fn put_fixed(buf: &mut [u8], at: usize, number: u32) -> usize
+pub(crate) fn put_fixed(buf: &mut [u8], at: usize, number: u32) -> usize
     requires { ⌜ at + 49 ≤ length (now buf) ⌝ }
     ensures { λ r. ⌜ (r ≡ at + length (fixed number))
         × (now (buf .exit) ≡ sets (now (buf .entry)) at (fixed number)) × (r ≤ at + 49) ⌝ }
