@@ -105,14 +105,14 @@ module _ (ts : List Tok) (names : List ℕ) (fs : List Function) (fits : FitsFro
   laid : LaidFits ts names fs
   laid = laid-fits ts names fs fits
 
-  pub ready : RowsFit rows (length fs) (length items)
+  pub ready : RowsFit rows (length fs) 0 (length fs) (length items)
   ready =
       record {
         types-few = types-stored ts names rows zr fs fits rows-stand;
-        items-fit = λ i h.
+        items-fit = λ i from h.
             omega (
               arith,
-              items-stored ts names rows zr fs fits rows-stand i h,
+              items-stored ts names rows zr fs fits rows-stand i (omega (arith, h)),
               length-padTo I (untypedItems none fs) (omega (arith, laid .items-fit)),
             );
       }
@@ -225,7 +225,7 @@ module _ (ts : List Tok) (names f i a b p : List ℕ) where
     abbrev I : ℕ
     I = length i
 
-    ready-now : RowsFit (padTo (length f) (length fs ∷ rowsCells ts names none fs)) (length fs)
+    ready-now : RowsFit (padTo (length f) (length fs ∷ rowsCells ts names none fs)) (length fs) 0 (length fs)
         (length (padTo (length i) (untypedItems none fs)))
     ready-now =
         ready ts names fs fits (length f) (length i) (length a) (length b) (length p) rows-long (long .items-long)
@@ -240,7 +240,7 @@ module _ (ts : List Tok) (names f i a b p : List ℕ) where
               (long .arguments-long) (long .blocks-long) (long .predecessors-long),
         )
 
-    pub rows-fit : RowsFit f₁ (n .functions) (length i₁)
+    pub rows-fit : RowsFit f₁ (n .functions) 0 (n .functions) (length i₁)
     rows-fit = rw (f-is, n-is, i-is) ready-now
 
     abbrev done : Done

@@ -44,10 +44,11 @@ typedRows ts rows n blocks t i (suc m) items args =
     (typedCalls (r .table) items args first count))
     (λ e. done (K.Refused e) items args)
 
--- What the rows say lies in the slice of items.
-pub record RowsFit (rows : List ℕ) (n cells : ℕ) : Type 0 where
+-- No row of the n has a type number past 64, and the items of the `more` rows from `first` on lie in their slice.
+pub record RowsFit (rows : List ℕ) (n first more cells : ℕ) : Type 0 where
   pub types-few : (i : ℕ) → i < n → getD rows (typeAt i) 0 ≤ 64
-  pub items-fit : (i : ℕ) → i < n → (getD rows (firstItemAt i) 0 + getD rows (itemCountAt i) 0) * 8 ≤ cells
+  pub items-fit : (i : ℕ) → first ≤ i → i < first + more
+      → (getD rows (firstItemAt i) 0 + getD rows (itemCountAt i) 0) * 8 ≤ cells
 
 -- The answer, and where all functions are typed, the cells. A refusal says nothing of them.
 abbrev pub HeldBy : Checked → List ℕ → List ℕ → Done → Type 0

@@ -1,6 +1,6 @@
 // A text's functions, parsed and typed: Unit of bril-lib/src/ir.rs, once Sema of parser.rs has passed it.
 pub mod clear;
-mod types;
+pub mod types;
 
 ghost use mathlib.Core.Path.{_≡_};
 ghost use Prim.Native.Nat.{ℕ, _≤_};
@@ -46,7 +46,16 @@ fn build(
     ) {
         ProgramRead::Refused(e) => ProgramRead::Refused(e),
         ProgramRead::Done(n) => {
-            match types::type_all(tokens, functions, n.functions, items, arguments, blocks) {
+            match types::type_rows(
+                tokens,
+                functions,
+                n.functions,
+                0,
+                n.functions,
+                items,
+                arguments,
+                blocks,
+            ) {
                 Checked::Refused(e) => ProgramRead::Refused(e),
                 Checked::Fine => ProgramRead::Done(n),
             }

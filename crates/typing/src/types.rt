@@ -16,32 +16,37 @@ fn cell(rows: &[u32], at: usize) -> usize
     rows[at] as usize
 }
 
-// All functions, in text order.
+// The `more` functions from row `first` on, of n, in text order.
 fn type_with(
     tokens: &[u32],
     rows: &[u32],
     n: usize,
+    first: usize,
+    more: usize,
     table: &mut [u32],
     items: &mut [u32],
     arguments: &mut [u32],
     blocks: &[u32],
 ) -> Checked
-    requires { ⌜ (n ≤ 64) × (2881 ≤ length (now rows)) × RowsFit (now rows) n (length (now items)) ⌝ }
+    requires { ⌜ (n ≤ 64) × (first + more ≤ 64) × (2881 ≤ length (now rows))
+        × RowsFit (now rows) n first more (length (now items)) ⌝ }
     ensures { λ r. ⌜ RowsHeld r (now (items .exit)) (now (arguments .exit))
         (typedRows (tokensOf (now (tokens .entry))) (now (rows .entry)) n (now (blocks .entry))
-        (now (table .entry)) 0 n (now (items .entry)) (now (arguments .entry))) ⌝ }
+        (now (table .entry)) first more (now (items .entry)) (now (arguments .entry))) ⌝ }
 {
-    let mut row: usize = 0;
-    while row < n {
+    let mut row = first;
+    let mut left = more;
+    while 0 < left {
         match sema::function::analyze(tokens, rows, n, row, table, items, arguments, blocks) {
             Checked::Refused(e) => {
                 return Checked::Refused(e);
             }
             Checked::Fine => {
-                let first = cell(rows, 9 + row * 45);
+                let start = cell(rows, 9 + row * 45);
                 let count = cell(rows, 10 + row * 45);
-                elaborate::elaborate(table, rows, n, items, first, count, arguments);
+                elaborate::elaborate(table, rows, n, items, start, count, arguments);
                 row += 1;
+                left -= 1;
             }
         }
     }
@@ -49,19 +54,32 @@ fn type_with(
 }
 
 // With a table for 1,024 names.
-pub fn type_all(
+pub fn type_rows(
     tokens: &[u32],
     rows: &[u32],
     n: usize,
+    first: usize,
+    more: usize,
     items: &mut [u32],
     arguments: &mut [u32],
     blocks: &[u32],
 ) -> Checked
-    requires { ⌜ (n ≤ 64) × (2881 ≤ length (now rows)) × RowsFit (now rows) n (length (now items)) ⌝ }
+    requires { ⌜ (n ≤ 64) × (first + more ≤ 64) × (2881 ≤ length (now rows))
+        × RowsFit (now rows) n first more (length (now items)) ⌝ }
     ensures { λ r. ⌜ RowsHeld r (now (items .exit)) (now (arguments .exit))
         (typedRows (tokensOf (now (tokens .entry))) (now (rows .entry)) n (now (blocks .entry))
-        (padTo 1024 []) 0 n (now (items .entry)) (now (arguments .entry))) ⌝ }
+        (padTo 1024 []) first more (now (items .entry)) (now (arguments .entry))) ⌝ }
 {
     let mut table = [0u32; 1024];
-    type_with(tokens, rows, n, &mut table, items, arguments, blocks)
+    type_with(
+        tokens,
+        rows,
+        n,
+        first,
+        more,
+        &mut table,
+        items,
+        arguments,
+        blocks,
+    )
 }
