@@ -23,7 +23,7 @@ use Rattle.functions.specs.declared.ProgramRead.the-variants as U
 use Rattle.typing.specs.Outcome.{Outcome, checked, refused, unitD, unitRead, unitSlices, asLong, cleared, none}
 use Rattle.checker.specs.Check.{Checking, accepted, refusal, refusing, refusedAt, checkedOr, readAs, checkOf}
 use Rattle.checker.specs.Promise.{checking, padded, sized, sizedUnit, allSized, checkDef, Lexed, Refuses, Sizes}
-use Rattle.checker.specs.Promise.{IfSized, IfSizedUnit, Checks}
+use Rattle.checker.specs.Promise.{IfSized, IfSizedUnit, gated, Gives, Checks}
 use Rattle.checker.specs.declared.CheckAnswer.{CheckAnswer}
 use Rattle.checker.proofs.Lexed.{no-message, first-tokens, first-names}
 
@@ -195,8 +195,7 @@ module _ (text t₀ n₀ m₀ : List ℕ) (r : ReadAnswer) (t n m : List ℕ) (r
 
 -- The gate. ---------------------------------------------------------------------------------------------------------
 
-by-parts : {text m₀ t₀ n₀ : List ℕ} {u₀ : Slices} {r : CheckAnswer} {m t n : List ℕ} {u : Slices}
-    → checking r m t n u ≡ checkDef text m₀ t₀ n₀ u₀ → Checks text m₀ t₀ n₀ u₀ r m t n u
+pub by-parts : {d : Checking} {r : CheckAnswer} {m t n : List ℕ} {u : Slices} → checking r m t n u ≡ d → Gives d r m t n u
 by-parts e =
     record {
       answer = ap (λ (x : Checking). x .answer) e;
@@ -206,23 +205,23 @@ by-parts e =
       unit = ap (λ (x : Checking). x .unit) e;
     }
 
-as-whole : {text m₀ t₀ n₀ : List ℕ} {u₀ : Slices} {r : CheckAnswer} {m t n : List ℕ} {u : Slices}
-    → Checks text m₀ t₀ n₀ u₀ r m t n u → checking r m t n u ≡ checkDef text m₀ t₀ n₀ u₀
-as-whole c′ = same-checking (c′ .answer) (c′ .message) (c′ .tokens) (c′ .names) (c′ .unit)
+pub as-whole : {d : Checking} {r : CheckAnswer} {m t n : List ℕ} {u : Slices} → Gives d r m t n u → checking r m t n u ≡ d
+as-whole g = same-checking (g .answer) (g .message) (g .tokens) (g .names) (g .unit)
 
-module _ (text m t n : List ℕ) (u : Slices) (unit ok : Bool)
+-- the gate before any answer o
+module _ (o : Checking) (m t n : List ℕ) (u : Slices) (unit ok : Bool)
     (unit-is : unit ≡ sizedUnit (length (u .functions)) (length (u .items)) (length (u .arguments)) (length (u .blocks))
     (length (u .predecessors))) (ok-is : ok ≡ sized (length m) (length t) (length n) unit) where
   sized-is : ok ≡ allSized m t n u
   sized-is = ok-is ∙ ap (λ (b : Bool). sized (length m) (length t) (length n) b) unit-is
 
   pub works : ok ≡ true → (r : CheckAnswer) (m′ t′ n′ : List ℕ) (u′ : Slices)
-      → checking r m′ t′ n′ u′ ≡ padded m t n u (checkOf text) → Checks text m t n u r m′ t′ n′ u′
-  unfolding checkDef pick
+      → checking r m′ t′ n′ u′ ≡ padded m t n u o → Gives (gated m t n u o) r m′ t′ n′ u′
+  unfolding pick
   works h r m′ t′ n′ u′ e = by-parts (e ∙ rw (← sized-is, h))
 
-  pub shorts : ok ≡ false → (r : CheckAnswer) → r ≡ refusal 30 0 0 → Checks text m t n u r m t n u
-  unfolding checkDef pick
+  pub shorts : ok ≡ false → (r : CheckAnswer) → r ≡ refusal 30 0 0 → Gives (gated m t n u o) r m t n u
+  unfolding pick
   shorts h r e = by-parts (rw (← sized-is, h, e))
 
 pub seen-by : (unit : Bool) (m t n : ℕ) → 512 ≤ m → 16384 ≤ t → 2048 ≤ n → IfSized unit unit m t n
@@ -248,9 +247,8 @@ sizes-seen m t n u unit ok h a b =
     }
 
 -- TWO PERMITTED ANSWERS ARE EQUAL
-pub permitted-equal : {text m₀ t₀ n₀ : List ℕ} {u₀ : Slices} {r r′ : CheckAnswer} {m t n m′ t′ n′ : List ℕ} {u u′ : Slices}
-    → Checks text m₀ t₀ n₀ u₀ r m t n u → Checks text m₀ t₀ n₀ u₀ r′ m′ t′ n′ u′
-    → checking r m t n u ≡ checking r′ m′ t′ n′ u′
+pub permitted-equal : {d : Checking} {r r′ : CheckAnswer} {m t n m′ t′ n′ : List ℕ} {u u′ : Slices}
+    → Gives d r m t n u → Gives d r′ m′ t′ n′ u′ → checking r m t n u ≡ checking r′ m′ t′ n′ u′
 permitted-equal a b = as-whole a ∙ sym (as-whole b)
 
 -- EQUAL TEXTS AND LENGTHS GIVE EQUAL ANSWERS, whatever the slices held before
@@ -264,12 +262,13 @@ pub record SameLengths (m₀ t₀ n₀ : List ℕ) (u₀ : Slices) (m₁ t₁ n�
   pub blocks : length (u₀ .blocks) ≡ length (u₁ .blocks)
   pub predecessors : length (u₀ .predecessors) ≡ length (u₁ .predecessors)
 
-pub same-text : {text m₀ t₀ n₀ m₁ t₁ n₁ : List ℕ} {u₀ u₁ : Slices} {r r′ : CheckAnswer} {m t n m′ t′ n′ : List ℕ} {u u′ : Slices}
+pub same-gated : (o : Checking) {m₀ t₀ n₀ m₁ t₁ n₁ : List ℕ} {u₀ u₁ : Slices} {r r′ : CheckAnswer} {m t n m′ t′ n′ : List ℕ}
+    {u u′ : Slices}
     → allSized m₀ t₀ n₀ u₀ ≡ true → SameLengths m₀ t₀ n₀ u₀ m₁ t₁ n₁ u₁
-    → Checks text m₀ t₀ n₀ u₀ r m t n u → Checks text m₁ t₁ n₁ u₁ r′ m′ t′ n′ u′
+    → Gives (gated m₀ t₀ n₀ u₀ o) r m t n u → Gives (gated m₁ t₁ n₁ u₁ o) r′ m′ t′ n′ u′
     → checking r m t n u ≡ checking r′ m′ t′ n′ u′
-unfolding checkDef pick
-same-text s l a b =
+unfolding pick
+same-gated o s l a b =
     rw (
       as-whole a,
       as-whole b,
@@ -283,3 +282,10 @@ same-text s l a b =
       ← l .predecessors,
       s,
     )
+
+pub same-text : (text : List ℕ) {m₀ t₀ n₀ m₁ t₁ n₁ : List ℕ} {u₀ u₁ : Slices} {r r′ : CheckAnswer} {m t n m′ t′ n′ : List ℕ} {u u′ : Slices}
+    → allSized m₀ t₀ n₀ u₀ ≡ true → SameLengths m₀ t₀ n₀ u₀ m₁ t₁ n₁ u₁
+    → Checks text m₀ t₀ n₀ u₀ r m t n u → Checks text m₁ t₁ n₁ u₁ r′ m′ t′ n′ u′
+    → checking r m t n u ≡ checking r′ m′ t′ n′ u′
+unfolding checkDef
+same-text text s l a b = same-gated (checkOf text) s l a b

@@ -39,11 +39,13 @@ allSized m t n u =
     (sizedUnit (length (u .functions)) (length (u .items)) (length (u .arguments)) (length (u .blocks))
     (length (u .predecessors)))
 
--- The answer and the slices at exit; m, t, n and u are those at entry. 30 is given exactly when a lent slice is shorter
--- than its size, and then nothing is written.
+-- The answer and the slices at exit, for the answer o of any text; m, t, n and u are the slices at entry. 30 is given
+-- exactly when a lent slice is shorter than its size, and then nothing is written.
+abbrev pub gated : List ℕ → List ℕ → List ℕ → Slices → Checking → Checking
+gated m t n u o = pick (allSized m t n u) (padded m t n u o) (checking (refusal 30 0 0) m t n u)
+
 unfoldable pub checkDef : List ℕ → List ℕ → List ℕ → List ℕ → Slices → Checking
-checkDef text m t n u =
-    pick (allSized m t n u) (padded m t n u (checkOf text)) (checking (refusal 30 0 0) m t n u)
+checkDef text m t n u = gated m t n u (checkOf text)
 
 -- What the inner functions say: the sizes that the gate has seen; the slices that `read` has written.
 abbrev pub IfSizedUnit : Bool → ℕ → ℕ → ℕ → ℕ → ℕ → Type 0
@@ -77,10 +79,14 @@ pub record Sizes (m t n : List ℕ) (u : Slices) : Type 0 where
   pub functions-long : 2881 ≤ length (u .functions)
   pub long : Long (u .items) (u .arguments) (u .blocks) (u .predecessors)
 
--- THE PROMISE of `check`, by parts with names.
-pub record Checks (text m₀ t₀ n₀ : List ℕ) (u₀ : Slices) (r : CheckAnswer) (m t n : List ℕ) (u : Slices) : Type 0 where
-  pub answer : r ≡ checkDef text m₀ t₀ n₀ u₀ .answer
-  pub message : m ≡ checkDef text m₀ t₀ n₀ u₀ .message
-  pub tokens : t ≡ checkDef text m₀ t₀ n₀ u₀ .tokens
-  pub names : n ≡ checkDef text m₀ t₀ n₀ u₀ .names
-  pub unit : u ≡ checkDef text m₀ t₀ n₀ u₀ .unit
+-- what a definition's answer d permits, by parts with names
+pub record Gives (d : Checking) (r : CheckAnswer) (m t n : List ℕ) (u : Slices) : Type 0 where
+  pub answer : r ≡ d .answer
+  pub message : m ≡ d .message
+  pub tokens : t ≡ d .tokens
+  pub names : n ≡ d .names
+  pub unit : u ≡ d .unit
+
+-- THE PROMISE of `check`: the answer and all slices at exit, of the text and the slices at entry.
+abbrev pub Checks : List ℕ → List ℕ → List ℕ → List ℕ → Slices → CheckAnswer → List ℕ → List ℕ → List ℕ → Slices → Type 0
+Checks text m₀ t₀ n₀ u₀ r m t n u = Gives (checkDef text m₀ t₀ n₀ u₀) r m t n u

@@ -1,5 +1,7 @@
 use Rattle.checker.proofs.Ends.{sizes-seen, works, shorts}
 use Rattle.functions.specs.Answer.{slices}
+use Rattle.checker.specs.Check.{checkOf}
+use Rattle.checker.specs.Promise.{checkDef}
 use borrow.Author.Tests.{lt-ltb, le-ltb, le-leb, lt-leb, eq-eqb, ne-eqb}
 use native.Mathlib.Omega.{arith}
 use native.Mathlib.Numerals.{add-one}
@@ -77,8 +79,9 @@ same-length-8 c =
 
 -- src/lib.rt:231:9
 returns : tie.Need-returns
+unfolding checkDef
 returns c =
-    works (now (c .before .before .before .before .before .before .before .before .before .before .before .before .before .before .before .before .before .before .before .before .before .before .before .before .before .before .before .before .before .before .before .before .before .before .before .before .before .args .text)) (now (c .before .before .before .before .before .before .before .before .before .before .before .before .before .before .before .before .before .before .before .before .before .before .before .before .before .before .before .before .before .before .before .before .before .before .before .before .before .args .message)) (now (c .before .before .before .before .before .before .before .before .before .before .before .before .before .before .before .before .before .before .before .before .before .before .before .before .before .before .before .before .before .before .before .before .before .before .before .before .before .args .tokens)) (now (c .before .before .before .before .before .before .before .before .before .before .before .before .before .before .before .before .before .before .before .before .before .before .before .before .before .before .before .before .before .before .before .before .before .before .before .before .before .args .names)) (slices (now (c .before .before .before .before .before .before .before .before .before .before .before .before .before .before .before .before .before .before .before .before .before .before .before .before .before .before .before .before .before .before .before .before .before .before .before .before .before .args .functions)) (now (c .before .before .before .before .before .before .before .before .before .before .before .before .before .before .before .before .before .before .before .before .before .before .before .before .before .before .before .before .before .before .before .before .before .before .before .before .before .args .items)) (now (c .before .before .before .before .before .before .before .before .before .before .before .before .before .before .before .before .before .before .before .before .before .before .before .before .before .before .before .before .before .before .before .before .before .before .before .before .before .args .arguments)) (now (c .before .before .before .before .before .before .before .before .before .before .before .before .before .before .before .before .before .before .before .before .before .before .before .before .before .before .before .before .before .before .before .before .before .before .before .before .before .args .blocks)) (now (c .before .before .before .before .before .before .before .before .before .before .before .before .before .before .before .before .before .before .before .before .before .before .before .before .before .before .before .before .before .before .before .before .before .before .before .before .before .args .predecessors))) (c .before .before .before .before .before .before .before .before .before .before .before .before .before .before .before .before .before .before .before .before .before .before .before .before .before .before .before .fits-unit .result) (c .before .before .before .before .before .before .before .before .before .before .before .before .before .before .before .before .before .before .before .before .before .before .before .before .before .before .fits2 .result)
+    works (checkOf (now (c .before .before .before .before .before .before .before .before .before .before .before .before .before .before .before .before .before .before .before .before .before .before .before .before .before .before .before .before .before .before .before .before .before .before .before .before .before .args .text))) (now (c .before .before .before .before .before .before .before .before .before .before .before .before .before .before .before .before .before .before .before .before .before .before .before .before .before .before .before .before .before .before .before .before .before .before .before .before .before .args .message)) (now (c .before .before .before .before .before .before .before .before .before .before .before .before .before .before .before .before .before .before .before .before .before .before .before .before .before .before .before .before .before .before .before .before .before .before .before .before .before .args .tokens)) (now (c .before .before .before .before .before .before .before .before .before .before .before .before .before .before .before .before .before .before .before .before .before .before .before .before .before .before .before .before .before .before .before .before .before .before .before .before .before .args .names)) (slices (now (c .before .before .before .before .before .before .before .before .before .before .before .before .before .before .before .before .before .before .before .before .before .before .before .before .before .before .before .before .before .before .before .before .before .before .before .before .before .args .functions)) (now (c .before .before .before .before .before .before .before .before .before .before .before .before .before .before .before .before .before .before .before .before .before .before .before .before .before .before .before .before .before .before .before .before .before .before .before .before .before .args .items)) (now (c .before .before .before .before .before .before .before .before .before .before .before .before .before .before .before .before .before .before .before .before .before .before .before .before .before .before .before .before .before .before .before .before .before .before .before .before .before .args .arguments)) (now (c .before .before .before .before .before .before .before .before .before .before .before .before .before .before .before .before .before .before .before .before .before .before .before .before .before .before .before .before .before .before .before .before .before .before .before .before .before .args .blocks)) (now (c .before .before .before .before .before .before .before .before .before .before .before .before .before .before .before .before .before .before .before .before .before .before .before .before .before .before .before .before .before .before .before .before .before .before .before .before .before .args .predecessors))) (c .before .before .before .before .before .before .before .before .before .before .before .before .before .before .before .before .before .before .before .before .before .before .before .before .before .before .before .fits-unit .result) (c .before .before .before .before .before .before .before .before .before .before .before .before .before .before .before .before .before .before .before .before .before .before .before .before .before .before .fits2 .result)
     (c .before .before .before .before .before .before .before .before .before .before .before .before .before .before .before .before .before .before .before .before .before .before .before .before .before .before .before .fits-unit .ensures .0) (c .before .before .before .before .before .before .before .before .before .before .before .before .before .before .before .before .before .before .before .before .before .before .before .before .before .before .fits2 .ensures .0) (c .before .before .before .before .before .before .before .before .before .before .before .before .before .before .before .before .before .before .before .before .before .before .before .before .before .if1 .taken) _ _ _ _ _ (c .before .before .before .before .before .before .before .before .before .before .before .before .before .before .before .before .check-sized .ensures)
 
 -- src/lib.rt:243:5
@@ -87,8 +90,9 @@ refused-requires c κs = search needs
 
 -- src/lib.rt:205:1
 returns-2 : tie.Need-returns-2
+unfolding checkDef
 returns-2 c =
-    shorts (now (c .before .before .before .before .before .before .before .before .before .before .before .before .before .args .text)) (now (c .before .before .before .before .before .before .before .before .before .before .before .before .before .args .message)) (now (c .before .before .before .before .before .before .before .before .before .before .before .before .before .args .tokens)) (now (c .before .before .before .before .before .before .before .before .before .before .before .before .before .args .names)) (slices (now (c .before .before .before .before .before .before .before .before .before .before .before .before .before .args .functions)) (now (c .before .before .before .before .before .before .before .before .before .before .before .before .before .args .items)) (now (c .before .before .before .before .before .before .before .before .before .before .before .before .before .args .arguments)) (now (c .before .before .before .before .before .before .before .before .before .before .before .before .before .args .blocks)) (now (c .before .before .before .before .before .before .before .before .before .before .before .before .before .args .predecessors))) (c .before .before .before .fits-unit .result) (c .before .before .fits2 .result)
+    shorts (checkOf (now (c .before .before .before .before .before .before .before .before .before .before .before .before .before .args .text))) (now (c .before .before .before .before .before .before .before .before .before .before .before .before .before .args .message)) (now (c .before .before .before .before .before .before .before .before .before .before .before .before .before .args .tokens)) (now (c .before .before .before .before .before .before .before .before .before .before .before .before .before .args .names)) (slices (now (c .before .before .before .before .before .before .before .before .before .before .before .before .before .args .functions)) (now (c .before .before .before .before .before .before .before .before .before .before .before .before .before .args .items)) (now (c .before .before .before .before .before .before .before .before .before .before .before .before .before .args .arguments)) (now (c .before .before .before .before .before .before .before .before .before .before .before .before .before .args .blocks)) (now (c .before .before .before .before .before .before .before .before .before .before .before .before .before .args .predecessors))) (c .before .before .before .fits-unit .result) (c .before .before .fits2 .result)
     (c .before .before .before .fits-unit .ensures .0) (c .before .before .fits2 .ensures .0) (c .before .if1 .left) _ (c .refused .ensures)
 
 pub check-spec : {M : Type 1} → statement M
