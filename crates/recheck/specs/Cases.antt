@@ -22,7 +22,7 @@ use Rattle.typing.specs.Outcome.{unitD, tablesOf, allItems, allArguments}
 use Rattle.checker.specs.Check.{Checking, checkOf}
 use Rattle.recheck.specs.Table.{between, formalsFit, nameFits, typeFits, rowFits, rowsFit, isTable}
 use Rattle.recheck.specs.Spelled.{rowName, rowSpelled}
-use Rattle.recheck.specs.Recheck.{isWhole, keeps, functionAlone, recheckOf}
+use Rattle.recheck.specs.Recheck.{isWhole, keepsBehind, keeps, aloneD, functionAlone, recheckOf}
 
 -- To unfold this is to unfold the whole definition.
 unfoldable pub opened : ℕ
@@ -30,7 +30,7 @@ unfolding
     typing.opened messages.opened operationRecord recordOf blockCells predecessorCells countsFrom isCall typedLast
     typedRecord unitD tablesOf calleeIn typedItemsCells typedVariables typedArgumentsCells rowsCells allItems
     allArguments allBlocks allPredecessors checkOf variablesCells typesAt between formalsFit nameFits typeFits rowFits
-    rowsFit isTable rowName rowSpelled isWhole keeps functionAlone recheckOf
+    rowsFit isTable rowName rowSpelled isWhole keepsBehind keeps aloneD functionAlone recheckOf
 opened = 0
 
 -- Records of eight cells (docs/INTERFACE.md), as a row of the table gives them. --------------------------------------
