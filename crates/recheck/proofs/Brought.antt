@@ -184,7 +184,7 @@ module _ (old rows new names : List ℕ) (known : ℕ) where
       let g = grows n (i + 1) (one i b) in
       (omega arith, omega arith)
 
-  pub length-brought : (n i : ℕ) (b : Brought)
+  length-brought : (n i : ℕ) (b : Brought)
       → length (broughtFrom old rows new names known i n b .cells) ≡ length (b .cells)
   unfolding broughtFrom
   length-brought zero i b = refl

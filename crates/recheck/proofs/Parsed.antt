@@ -19,11 +19,13 @@ use Rattle.recheck.specs.Recheck.{aloneD}
 use Rattle.recheck.specs.Alone.{aloneRead}
 
 module _ (ts : List Tok) (names : List ℕ) (s₀ s : Slices) where
+  -- what is said of the slices
   abbrev pub Alone : FunctionAt → Type 0
   Alone x = FunctionHeld ts names none s₀ s x
 
   -- the function is refused
-  pub alone-refused : {e : Refusal} (x : FunctionAt) → functionD ts false [] 0 0 ≡ x → F.Refused e ≡ functionRead 0 none x
+  pub alone-refused : {e : Refusal} (x : FunctionAt) → functionD ts false [] 0 0 ≡ x
+      → F.Refused e ≡ functionRead 0 none x
       → (U.Refused e ≡ aloneRead (aloneD ts)) × Alone (aloneD ts)
   unfolding aloneD thenFunction
   alone-refused (noFunction r) q a = rw q (cc, tt)

@@ -1,7 +1,7 @@
--- Each return has made the tests that lead to it in `isWhole`; the last token but one is the one that so many cells have.
+-- Each return has made the tests that lead to it in `isWhole`, in their order. A token has four cells, so the cells'
+-- number says which token is the last but one.
 use borrow.Author.Needs.{needs}
 use borrow.Author.Tests.{eq-eqb, ne-eqb}
-use mathlib.Core.Path.{_≡_, sym, _∙_}
 use denote.Ref.{now}
 use Rattle.utils.specs.Bytes.{pick}
 use Rattle.recheck.specs.Recheck.{isWhole}

@@ -1,5 +1,5 @@
--- The formals and the type are read as the definition reads them; the copied row, held against what is stored behind it,
--- is the row itself held against the header that was read.
+-- The formals and the type are read as the definition reads them; the copied row, held against what is stored behind
+-- it, is the row itself held against the header that was read.
 use borrow.Author.Needs.{needs}
 use borrow.Author.Tests.{not-true, not-false}
 use native.Mathlib.Omega.{arith}
@@ -35,7 +35,8 @@ same-type-requires : tie.Need-same-type-requires
 same-type-requires c κs =
     let back8 = c .before .before .before .before .before .before .before .before in
     let back16 = back8 .before .before .before .before .before .before .before .before in
-    let entry = back16 .before .before .before .before .before .before .before .before .before in
+    let back24 = back16 .before .before .before .before .before .before .before .before in
+    let entry = back24 .before in
     let a = entry .args in
     let copied = back16 .before .copy-row in
     let parsed = back8 .before .before .before .before .before .parse-optional-formals in
@@ -62,7 +63,8 @@ returns-3 : tie.Need-returns-3
 unfolding keepsBehind thenFormals opened
 returns-3 c =
     let back8 = c .before .before .before .before .before .before .before .before in
-    let a = back8 .before .before .before .before .before .before .before .before .before .before .before .before .args in
+    let back16 = back8 .before .before .before .before .before .before .before .before in
+    let a = back16 .before .before .before .before .args in
     let parsed = back8 .parse-optional-formals in
     let formals = c .before .before .before .before .formals in
     let typed = c .before .before .parse-optional-type in
@@ -75,7 +77,8 @@ unfolding keepsBehind thenFormals opened
 returns-4 c =
     let back8 = c .before .before .before .before .before .before .before .before in
     let back16 = back8 .before .before .before .before .before .before .before .before in
-    let entry = back16 .before .before .before .before .before .before .before .before .before .before in
+    let back24 = back16 .before .before .before .before .before .before .before .before in
+    let entry = back24 .before .before in
     let a = entry .args in
     let copied = back16 .before .before .copy-row in
     let parsed = back8 .before .before .before .before .before .before .parse-optional-formals in
