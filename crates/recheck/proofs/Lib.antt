@@ -8,3 +8,7 @@ pub mod Named
 pub mod Brought
 -- tables that answer alike
 pub mod Alike
+-- a header held against the replaced one's row
+pub mod Kept
+-- one function and nothing behind it
+pub mod Parsed
