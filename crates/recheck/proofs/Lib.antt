@@ -12,3 +12,5 @@ pub mod Alike
 pub mod Kept
 -- one function and nothing behind it
 pub mod Parsed
+-- how a recheck ends
+pub mod Ends
