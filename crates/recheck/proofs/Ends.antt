@@ -1,14 +1,15 @@
 -- How the recheck of a new text ends, over plain variables.
-use Prim.Native.Nat.{ℕ, _≤_}
+use Prim.Native.Nat.{ℕ, _*_, _-_}
 use mathlib.Core.Path.{_≡_, refl, sym, ap, subst, _∙_}
 use mathlib.Core.List.{List, [], _∷_}
 use mathlib.Core.Bool.{Bool, true, false}
 use native.Mathlib.Omega.{arith}
 use borrow.Author.Tests.{eq-eqb, ne-eqb}
-use lib.ListN.{length, getD}
+use lib.ListN.{length, getD, take, drop}
 use Rattle.utils.specs.Bytes.{pick, padTo}
 use Rattle.lexer.specs.Read.{Reading, reading, readFrom}
 use Rattle.lexer.specs.Read as lexed
+use Rattle.lexer.specs.Numbered.{namesCells}
 use Rattle.lexer.specs.Decoded.{Tok, tokensOf}
 use Rattle.lexer.specs.declared.ReadAnswer.{ReadAnswer}
 use Rattle.parser.specs.declared.Refusal.{Refusal}
@@ -21,13 +22,14 @@ use Rattle.checker.specs.Check.{Checking, accepted, refusal}
 use Rattle.checker.specs.Promise.{checking, padded, Lexed, Refuses}
 use Rattle.checker.specs.Header.{lineAt}
 use Rattle.checker.specs.declared.CheckAnswer.{CheckAnswer}
-use Rattle.checker.proofs.Lexed.{no-message, first-tokens, first-names}
+use Rattle.checker.proofs.Lexed.{no-message, is-done, used-names, read-names, unpadded, first-tokens, first-names}
 use Rattle.checker.proofs.Ends.{same-checking, unread-from}
 use Rattle.recheck.specs.Table.{isTable}
-use Rattle.recheck.specs.Spelled.{calleesSpelled}
+use Rattle.recheck.specs.Spelled.{calleesSpelled, Named}
 use Rattle.recheck.specs.Recheck.{isWhole, Verdict, refuses, accepts, verdictD, verdictSlices, verdictAs, parsedAs}
 use Rattle.recheck.specs.Recheck.{refusedWith, recheckOf}
 use Rattle.recheck.specs.Alone.{verdictRead}
+use Rattle.recheck.proofs.Named.{accepted-named}
 
 -- A new text that is read. -------------------------------------------------------------------------------------------
 
@@ -100,6 +102,21 @@ module _ (old table : List ℕ) (number : ℕ) (new m t n : List ℕ) (u : Slice
           refuses-by e (verdictD old table number new (read .names) ts) u′ (rw (tk-is, nm-is) at h) (rw (tk-is, nm-is) at q)
           res m′ t′ n′ g
           ∙ ap (padded m t n u) (sym goes-on-whole)
+
+-- the names lent to the parser are its names
+pub named-now : {line : ℕ} {new m t n : List ℕ} {r : ReadAnswer} (v : Lexed line new r m t n)
+    → Named new (take (r .names * 2 - 0) (drop 0 n)) (r .names)
+named-now {line} {new} {r = r} v =
+    let d = is-done v in
+    subst (λ (l : List ℕ). Named new l (r .names)) (sym (used-names v ∙ read-names v ∙ sym (unpadded (namesCells (d .ns)))))
+    (subst (Named new (padTo 0 (namesCells (d .ns)))) (sym (d .counted-names)) (accepted-named new line 0 (d .ts) (d .ns) (d .sound)))
+
+-- a refusal by the cells in use is one by the reading
+pub as-read : {line : ℕ} {new m t n : List ℕ} {r : ReadAnswer} (v : Lexed line new r m t n) {e : Refusal} {m₀ t₀ n₀ : List ℕ}
+    {res : CheckAnswer} {m′ t′ n′ : List ℕ}
+    → Refuses new (take (r .names * 2) n) (tokensOf (take (r .tokens * 4) t)) e m₀ t₀ n₀ res m′ t′ n′
+    → Refuses new (readFrom line new .names) (tokensOf (readFrom line new .tokens)) e m₀ t₀ n₀ res m′ t′ n′
+as-read v g = rw (first-tokens v, first-names v) at g
 
 -- Before it is read. -------------------------------------------------------------------------------------------------
 
