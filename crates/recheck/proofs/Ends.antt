@@ -1,5 +1,5 @@
 -- How the recheck of a new text ends, over plain variables.
-use Prim.Native.Nat.{ℕ, _*_, _-_}
+use Prim.Native.Nat.{ℕ, _*_, _-_, _≤_}
 use mathlib.Core.Path.{_≡_, refl, sym, ap, subst, _∙_}
 use mathlib.Core.List.{List, [], _∷_}
 use mathlib.Core.Bool.{Bool, true, false}
@@ -30,6 +30,7 @@ use Rattle.recheck.specs.Recheck.{isWhole, Verdict, refuses, accepts, ve
 use Rattle.recheck.specs.Recheck.{refusedWith, recheckOf}
 use Rattle.recheck.specs.Alone.{verdictRead}
 use Rattle.recheck.proofs.Named.{accepted-named}
+use Rattle.recheck.proofs.Ranges.{table-in-range}
 
 -- A new text that is read. -------------------------------------------------------------------------------------------
 
@@ -124,6 +125,13 @@ pub bad-table : (old table : List ℕ) (number : ℕ) (new : List ℕ) → isTab
     → recheckOf old table number new ≡ refusedWith 42 0 0
 unfolding recheckOf pick
 bad-table old table number new h = rw h
+
+-- a line of the table is one that a text of that size has
+pub line-small : (old table : List ℕ) (number : ℕ) → isTable old table number ≡ true → (k : ℕ)
+    → k ≡ getD table (lineAt number) 0 → k ≤ 2147483648
+line-small old table number good k e =
+    let v = table-in-range old table number good in
+    omega (arith, e, v .in-range .each number (v .there) .line .1)
 
 -- Once `read_from` is done. ------------------------------------------------------------------------------------------
 
