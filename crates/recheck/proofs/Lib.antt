@@ -8,3 +8,7 @@ pub mod Named
 pub mod Brought
 -- tables that answer alike
 pub mod Alike
+-- a function that keeps its header has the replaced one's name and function type
+pub mod Kept
+-- the new function's row among the old headers
+pub mod Placing
