@@ -12,3 +12,5 @@ pub mod Alike
 pub mod Kept
 -- the new function's row among the old headers
 pub mod Placing
+-- the new function, parsed and typed
+pub mod Building

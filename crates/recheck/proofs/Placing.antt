@@ -194,7 +194,7 @@ module _ (old rows new names : List ℕ) (known number : ℕ) (t : Tabled old ro
       mid-long : length mid ≡ length out₀
       mid-long = length-brought old rows new names known (getD rows 0 0) 0 (brought out₀ 0)
 
-      abbrev behind : List ℕ
+      abbrev pub behind : List ℕ
       behind = replicate (45 - length row) 0 ++ drop (rowAt (r .place) + length (padTo 45 row)) mid
 
       pub new-row : drop (rowAt (r .place)) out ≡ row ++ behind
