@@ -5,7 +5,7 @@ use mathlib.Core.List.{List, [], _∷_, _++_, append-assoc}
 use mathlib.Core.Bool.{Bool, true, false}
 use native.Mathlib.Omega.{arith}
 use lib.ListN.{length, getD, set, drop, replicate, length-append, length-replicate}
-use lib.Seq.{sets}
+use lib.Seq.{sets, length-sets}
 use Rattle.utils.specs.Bytes.{pick, padTo, sameBytes}
 use Rattle.lexer.specs.Decoded.{Tok}
 use Rattle.parser.specs.Step.{refusal}
@@ -250,3 +250,192 @@ module _ (old rows : List ℕ) (number : ℕ) (new : List ℕ) (ts : List Tok) (
     parse-refuses e h =
         verdict-is
         ∙ refused-as (aloneD ts) (λ x. typedAs x (functionTyped ts (globalsSpelled old rows new names) x untyped)) e h
+
+    module _ (table : isTable old rows number ≡ true) (known : ℕ) (v : Named new names known) (rows-long : 2881 ≤ length f)
+        (long : Long i a b p) (zero-now : s₀ ≡ cleared s₀) (n : Counts) (f₁ i₁ a₁ b₁ p₁ : List ℕ)
+        (w : Parsed ts names n s₀ (slices f₁ i₁ a₁ b₁ p₁)) (out₀ out f₂ : List ℕ) (r : Placed) (room : 2881 ≤ length out₀)
+        (q : Places old rows new names known number out₀ f₁ r out f₂)
+      where
+        t : Tabled old rows number
+        t = table-in-range old rows number table
+
+        abbrev g : Function
+        g = retyped (getD rows (typeAt number) 0) (w .read)
+
+        fits : Fits none g
+        fits =
+            let m = w .taken in
+            let u = m .room in
+            record {
+              functions-few = m .few;
+              type-few = omega (arith, t .in-range .each number (t .there) .type);
+              formals-few = m .formals-few;
+              items-few = omega (arith, u .items-few, u .within .reached, u .within .few);
+              arguments-few = omega (arith, u .arguments-few, u .within .reached, u .within .few);
+              blocks-few = omega (arith, u .blocks-few, u .within .reached, u .within .few);
+              few-blocks = m .few-blocks;
+              predecessors-few = omega (arith, u .predecessors-few, u .blocks-few, u .within .reached, u .within .few);
+            }
+
+        -- its row is that of the function with the replaced one's type number
+        row-is : f₂ ≡ set (sets f (rowAt 0) (rowCells ts names g 0 0)) 0 1
+        row-is =
+            q .row
+            ∙ ap (λ (s : Slices). set (set (s .functions) 0 1) (typeAt 0) (getD rows (typeAt number) 0)) (w .taken .stored)
+            ∙ retyped-row ts names f (w .read) (getD rows (typeAt number) 0)
+
+        stored-are : slices f₂ i₁ a₁ b₁ p₁ ≡ withCount 1 (storedFunction ts names none s₀ g)
+        stored-are =
+            let e = w .taken .stored in
+            same-slices row-is (ap (λ (s : Slices). s .items) e) (ap (λ (s : Slices). s .arguments) e)
+            (ap (λ (s : Slices). s .blocks) e) (ap (λ (s : Slices). s .predecessors) e)
+
+        laid-are : slices f₂ i₁ a₁ b₁ p₁
+            ≡ slices
+            (padTo (length f) (1 ∷ rowsCells ts names none (g ∷ [])))
+            (padTo (length i) (untypedItems none (g ∷ [])))
+            (padTo (length a) (untypedArguments (g ∷ [])))
+            (padTo (length b) (allBlocks none (g ∷ [])))
+            (padTo (length p) (allPredecessors (g ∷ [])))
+        unfolding storedFrom FitsFrom
+        laid-are =
+            stored-are
+            ∙ ap (λ (s : Slices). withCount 1 (storedFunction ts names none s g)) zero-now
+            ∙ stored-laid ts names (length f) (length i) (length a) (length b) (length p) rows-long (long .items-long)
+            (long .arguments-long) (long .blocks-long) (long .predecessors-long) (g ∷ []) (fits, tt)
+
+        f-is : f₂ ≡ padTo (length f) (1 ∷ rowsCells ts names none (g ∷ []))
+        f-is = ap (λ (s : Slices). s .functions) laid-are
+
+        i-is : i₁ ≡ padTo (length i) (untypedItems none (g ∷ []))
+        i-is = ap (λ (s : Slices). s .items) laid-are
+
+        a-is : a₁ ≡ padTo (length a) (untypedArguments (g ∷ []))
+        a-is = ap (λ (s : Slices). s .arguments) laid-are
+
+        b-is : b₁ ≡ padTo (length b) (allBlocks none (g ∷ []))
+        b-is = ap (λ (s : Slices). s .blocks) laid-are
+
+        p-is : p₁ ≡ padTo (length p) (allPredecessors (g ∷ []))
+        p-is = ap (λ (s : Slices). s .predecessors) laid-are
+
+        abbrev rest : List ℕ
+        rest = replicate (length f - length (1 ∷ rowsCells ts names none (g ∷ []))) 0
+
+        own : drop 1 f₂ ≡ padTo 45 (rowCells ts names g 0 0) ++ rest
+        unfolding rowsCells
+        own = ap (drop 1) f-is ∙ append-assoc (padTo 45 (rowCells ts names g 0 0)) [] _
+
+        below : r .place < r .count
+        below =
+            place-below old rows new names known number t v ts (w .read) (w .alone) kept (w .taken .formals-few) out₀ f₁ r out
+            f₂ room q rest
+
+        -- what typing asks
+        pub few : (r .count ≤ 64) × (r .place + 1 ≤ 64)
+        few = (q .few, omega (arith, below, q .few))
+
+        items-room : length (w .read .items) * 8 ≤ length i₁
+        items-room =
+            let l : length i₁ ≡ length i =
+            ap (λ (s : Slices). length (s .items)) (w .taken .stored) ∙ length-sets i 0 (itemsCells 0 (w .read .items)) in
+            omega (arith, l, fits .items-few, long .items-long)
+
+        pub rows-fit : RowsFit out (r .count) (r .place) 1 (length i₁)
+        rows-fit =
+            placed-fit old rows new names known number t v ts (w .read) (w .alone) kept (w .taken .formals-few) out₀ f₁ r out
+            f₂ room q rest own (length i₁) items-room
+
+        -- Typing the cells is typing the function.
+        placed-fits : Fits (counts (r .place) 0 0 0 0) g
+        placed-fits =
+            record {
+              functions-few = omega (arith, few .1);
+              type-few = fits .type-few;
+              formals-few = fits .formals-few;
+              items-few = fits .items-few;
+              arguments-few = fits .arguments-few;
+              blocks-few = fits .blocks-few;
+              few-blocks = fits .few-blocks;
+              predecessors-few = fits .predecessors-few;
+            }
+
+        stand : drop (rowAt (r .place)) out
+            ≡ rowCells ts names g 0 0
+            ++ behind old rows new names known number t v ts (w .read) (w .alone) kept (w .taken .formals-few) out₀ f₁ r out
+            f₂ room q rest own
+        stand =
+            new-row old rows new names known number t v ts (w .read) (w .alone) kept (w .taken .formals-few) out₀ f₁ r out f₂
+            room q rest own
+
+        globals-are : (x : ℕ) → globalsIn out (r .count) x ≡ globals x
+        globals-are =
+            globals-placed old rows new names known number t v ts (w .read) (w .alone) kept (w .taken .formals-few) out₀ f₁ r
+            out f₂ room q rest own
+
+        callees-are : (x : ℕ) → calleeOf out (r .count) x ≡ callees x
+        callees-are =
+            callees-placed old rows new names known number t v ts (w .read) (w .alone) kept (w .taken .formals-few) out₀ f₁ r
+            out f₂ room q rest own
+
+        abbrev typing : Typed
+        typing = functionTyped ts (globalsSpelled old rows new names) (w .read) untyped
+
+        abbrev cells-done : Done
+        cells-done = typedRows ts out (r .count) b₁ untyped (r .place) 1 i₁ a₁
+
+        abbrev laid-done : Done
+        laid-done =
+            typedRows ts out (r .count) (padTo (length b) (allBlocks none (g ∷ []))) untyped (r .place) 1
+            (padTo (length i) (untypedItems none (g ∷ []))) (padTo (length a) (untypedArguments (g ∷ [])))
+
+        done-is : cells-done ≡ laid-done
+        done-is = rw (b-is, i-is, a-is)
+
+        ends-is : cells-done .end ≡ typing .end
+        ends-is =
+            ap (λ (d : Done). d .end) done-is
+            ∙ ends ts names out (r .count) (r .place) g globals callees globals-are callees-are _ stand placed-fits (length i)
+            (length a) (length b)
+
+        -- the verdict, by how typing ends
+        verdict-typed : verdict ≡ afterTyping (w .read) (typing .table) (typing .end)
+        unfolding functionAlone thenFunction
+        verdict-typed = verdict-is ∙ rw (w .alone)
+
+        module _ (c : Checked) (i₂ a₂ : List ℕ) (typed-rows : RowsHeld c i₂ a₂ cells-done) where
+          pub types-refuse : (e : Refusal) → c ≡ K.Refused e → verdict ≡ refuses e
+          types-refuse e h =
+              let k : typing .end ≡ K.Refused e = sym ends-is ∙ sym (typed-rows .answer) ∙ h in
+              verdict-typed ∙ ap (afterTyping (w .read) (typing .table)) k
+
+          fine-end-is : c ≡ K.Fine → typing .end ≡ K.Fine
+          fine-end-is h = sym ends-is ∙ sym (typed-rows .answer) ∙ h
+
+          types-fine : c ≡ K.Fine → verdict ≡ accepts (w .read) (typing .table)
+          types-fine h = verdict-typed ∙ ap (afterTyping (w .read) (typing .table)) (fine-end-is h)
+
+          written-are : c ≡ K.Fine
+              → slices f₂ i₂ a₂ b₁ p₁
+              ≡ asLong s₀ (verdictSlices ts names callees type (accepts (w .read) (typing .table)))
+          written-are h =
+              let k = subst (λ (x : Checked). HeldBy x i₂ a₂ cells-done) h (typed-rows .held) in
+              let z = fine-end-is h in
+              same-slices f-is
+              (k .0 ∙ ap (λ (d : Done). d .items) done-is
+              ∙ items-typed-are ts names out (r .count) (r .place) g globals callees globals-are callees-are _ stand placed-fits
+              (length i) (length a) (length b) z)
+              (k .1 ∙ ap (λ (d : Done). d .arguments) done-is
+              ∙ args-typed-are ts names out (r .count) (r .place) g globals callees globals-are callees-are _ stand placed-fits
+              (length i) (length a) (length b) z)
+              b-is p-is
+
+          pub fine-whole : c ≡ K.Fine
+              → (U.Done n ≡ verdictRead verdict)
+              × (VerdictHeld ts names callees type s₀ (slices f₂ i₂ a₂ b₁ p₁) verdict × Counted (U.Done n))
+          unfolding countsFrom
+          fine-whole h =
+              rw (types-fine h, w .counted)
+              (refl,
+              (written-are h,
+              (omega arith, fits .items-few, fits .arguments-few, fits .blocks-few, fits .predecessors-few)))
