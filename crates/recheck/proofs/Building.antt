@@ -236,9 +236,9 @@ module _ (old rows : List ℕ) (number : ℕ) (new : List ℕ) (ts : List Tok) (
       → (U.Refused e ≡ verdictRead verdict) × (VerdictHeld ts names callees type s₀ s verdict × Counted (U.Refused e))
   refused-whole h s = rw h (refl, (tt, tt))
 
-  pub not-kept : keeping ≡ false → verdict ≡ refuses (refusal 41 0 0)
+  pub not-kept : (e : Refusal) → e ≡ refusal 41 0 0 → keeping ≡ false → verdict ≡ refuses e
   unfolding pick
-  not-kept h = rw h
+  not-kept e k h = rw (k, h)
 
   module _ (kept : keeping ≡ true) where
     verdict-is : verdict ≡ functionAlone ts (globalsSpelled old rows new names)
@@ -435,10 +435,13 @@ module _ (old rows : List ℕ) (number : ℕ) (new : List ℕ) (ts : List Tok) (
               × (VerdictHeld ts names callees type s₀ (slices f₂ i₂ a₂ b₁ p₁) verdict × Counted (U.Done n))
           unfolding countsFrom
           fine-whole h =
-              rw (types-fine h, w .counted)
-              (refl,
-              (written-are h,
-              (omega arith, fits .items-few, fits .arguments-few, fits .blocks-few, fits .predecessors-few)))
+              rw (types-fine h, w .counted) (
+                refl,
+                (
+                  written-are h,
+                  (omega arith, fits .items-few, fits .arguments-few, fits .blocks-few, fits .predecessors-few),
+                ),
+              )
 
 -- Slices that are cleared before and after. --------------------------------------------------------------------------
 
