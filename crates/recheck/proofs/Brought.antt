@@ -57,7 +57,7 @@ module _ (out rows : List ℕ) (n i x : ℕ) where
       ∙ length-sets out (rowAt n) (cellsFrom rows (rowAt i) 45)
 
   -- the rows before it
-  put-below : (j : ℕ) → j < rowAt n → getD (rowPut out n rows i x) j 0 ≡ getD out j 0
+  pub put-below : (j : ℕ) → j < rowAt n → getD (rowPut out n rows i x) j 0 ≡ getD out j 0
   unfolding rowPut
   put-below j h =
       let stored = sets out (rowAt n) (cellsFrom rows (rowAt i) 45) in
@@ -72,7 +72,7 @@ module _ (out rows : List ℕ) (n i x : ℕ) where
         getD-set-same stored (nameAt n) x 0 (omega (arith, length-sets out (rowAt n) (cellsFrom rows (rowAt i) 45)))
 
     -- every other cell of it
-    put-cell : (k : ℕ) → k < 45 → (k ≡ 1 → ⊥) → getD (rowPut out n rows i x) (rowAt n + k) 0 ≡ getD rows (rowAt i + k) 0
+    pub put-cell : (k : ℕ) → k < 45 → (k ≡ 1 → ⊥) → getD (rowPut out n rows i x) (rowAt n + k) 0 ≡ getD rows (rowAt i + k) 0
     unfolding rowPut
     put-cell k h other =
         let cells = cellsFrom rows (rowAt i) 45 in
@@ -154,12 +154,12 @@ callee-row cells (suc n) i x =
 
 -- What stays of a table while more rows are brought. -----------------------------------------------------------------
 
-step-grows : (b : Brought) (rows : List ℕ) (i : ℕ) (f : Found)
+pub step-grows : (b : Brought) (rows : List ℕ) (i : ℕ) (f : Found)
     → (b .count ≤ broughtAs b rows i f .count) × (broughtAs b rows i f .count ≤ b .count + 1)
 step-grows b rows i (F.At y) = (omega arith, omega arith)
 step-grows b rows i F.Nothing = (omega arith, omega arith)
 
-step-length : (b : Brought) (rows : List ℕ) (i : ℕ) (f : Found)
+pub step-length : (b : Brought) (rows : List ℕ) (i : ℕ) (f : Found)
     → length (broughtAs b rows i f .cells) ≡ length (b .cells)
 step-length b rows i (F.At y) = length-put (b .cells) rows (b .count) i (y .0)
 step-length b rows i F.Nothing = refl
@@ -184,7 +184,7 @@ module _ (old rows new names : List ℕ) (known : ℕ) where
       let g = grows n (i + 1) (one i b) in
       (omega arith, omega arith)
 
-  length-brought : (n i : ℕ) (b : Brought)
+  pub length-brought : (n i : ℕ) (b : Brought)
       → length (broughtFrom old rows new names known i n b .cells) ≡ length (b .cells)
   unfolding broughtFrom
   length-brought zero i b = refl

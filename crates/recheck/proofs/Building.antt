@@ -1,0 +1,464 @@
+-- From the new function as it was parsed, with its row among the old headers, to what its typing answers and leaves.
+use Prim.Native.Nat.{ℕ, zero, suc, _+_, _*_, _-_, _≤_, _<_}
+use mathlib.Core.Path.{_≡_, refl, sym, ap, subst, fun-ext, _∙_}
+use mathlib.Core.List.{List, [], _∷_, _++_, append-assoc}
+use mathlib.Core.Bool.{Bool, true, false}
+use native.Mathlib.Omega.{arith}
+use lib.ListN.{length, getD, set, drop, replicate, length-append, length-replicate}
+use lib.Seq.{sets, length-sets}
+use Rattle.utils.specs.Bytes.{pick, padTo, sameBytes}
+use Rattle.lexer.specs.Decoded.{Tok}
+use Rattle.parser.specs.Step.{refusal}
+use Rattle.parser.specs.Body.{Item}
+use Rattle.parser.specs.Runs.{typeCell}
+use Rattle.parser.specs.declared.Refusal.{Refusal}
+use Rattle.body.specs.Records.{itemsCells, argumentsCells}
+use Rattle.link.specs.Cells.{blockCells}
+use Rattle.functions.specs.Functions.{Function, FunctionAt, function, noFunction, thenFunction, blocksIn}
+use Rattle.functions.specs.Rows.{rowAt, typeAt, signedAt, rowCells}
+use Rattle.functions.specs.Answer.{Slices, slices, Long, counts, countsWith, countsFrom, storedFunction, storedFrom, withCount}
+use Rattle.functions.specs.Answer.{edgesIn, Taken, FunctionHeld}
+use Rattle.functions.specs.Laid.{rowsCells, untypedItems, untypedArguments, allBlocks, allPredecessors, Fits, FitsFrom}
+use Rattle.functions.specs.declared.Counts.{Counts}
+use Rattle.functions.specs.declared.ProgramRead.{ProgramRead}
+use Rattle.functions.specs.declared.ProgramRead.the-variants as U
+use Rattle.functions.proofs.Laid.{length-items, length-arguments, stored-laid}
+use Rattle.functions.proofs.Standing.{row-first, row-items}
+use Rattle.sema.specs.Symbols.{Typed}
+use Rattle.sema.specs.Typing.{Global}
+use Rattle.sema.specs.Globals.{globalsIn}
+use Rattle.sema.specs.Blocks.{typeFunctionD, rowD}
+use Rattle.sema.specs.Program.{orderedBlocks, functionTyped}
+use Rattle.sema.specs.declared.Checked.{Checked}
+use Rattle.sema.specs.declared.Checked.the-variants as K
+use Rattle.sema.proofs.Stored.{row-typed}
+use Rattle.elaborate.specs.Types.{calleeOf, typedItems, typedCalls, typedItemsCells, typedArgumentsCells}
+use Rattle.elaborate.proofs.Lists.{items-typed, calls-typed, length-typed-items, length-typed-arguments}
+use Rattle.typing.specs.Outcome.{untyped, none, allItems, allArguments, asLong, cleared, Counted}
+use Rattle.typing.specs.Rows.{Done, done, thenRow, typedRows, RowsFit, HeldBy, RowsHeld}
+use Rattle.recheck.specs.Table.{isTable}
+use Rattle.recheck.specs.Spelled.{rowName, globalsSpelled, calleesSpelled, Named}
+use Rattle.recheck.specs.Recheck.{keeps, aloneD, retyped, Verdict, refuses, accepts, afterTyping, typedAs, functionAlone}
+use Rattle.recheck.specs.Recheck.{verdictD, verdictSlices}
+use Rattle.recheck.specs.Alone.{aloneRead, verdictRead, VerdictHeld, Places}
+use Rattle.recheck.specs.declared.Placed.{Placed}
+use Rattle.recheck.proofs.Ranges.{Tabled, table-in-range}
+use Rattle.recheck.proofs.Placing.{retyped-row, place-below, new-row, behind, globals-placed, callees-placed, placed-fit}
+
+same-slices : {f i a b p f′ i′ a′ b′ p′ : List ℕ} → f ≡ f′ → i ≡ i′ → a ≡ a′ → b ≡ b′ → p ≡ p′
+    → slices f i a b p ≡ slices f′ i′ a′ b′ p′
+same-slices e₁ e₂ e₃ e₄ e₅ = rw (e₁, e₂, e₃, e₄, e₅)
+
+-- One function, typed on its cells. ----------------------------------------------------------------------------------
+
+module _ (ts : List Tok) (names rows : List ℕ) (count place : ℕ) (g : Function) (globals : ℕ → Global) (callees : ℕ → ℕ)
+    (globals-are : (name : ℕ) → globalsIn rows count name ≡ globals name)
+    (callees-are : (name : ℕ) → calleeOf rows count name ≡ callees name) (more : List ℕ)
+    (stands : drop (rowAt place) rows ≡ rowCells ts names g 0 0 ++ more) (fits : Fits (counts place 0 0 0 0) g)
+    (I A B : ℕ)
+  where
+    abbrev is : List Item
+    is = g .items
+
+    abbrev items : List ℕ
+    items = padTo I (untypedItems none (g ∷ []))
+
+    abbrev args : List ℕ
+    args = padTo A (untypedArguments (g ∷ []))
+
+    abbrev blocks : List ℕ
+    blocks = padTo B (allBlocks none (g ∷ []))
+
+    -- the zeros behind its cells
+    abbrev zi : List ℕ
+    zi = replicate (I - length (untypedItems none (g ∷ []))) 0
+
+    abbrev za : List ℕ
+    za = replicate (A - length (untypedArguments (g ∷ []))) 0
+
+    abbrev zb : List ℕ
+    zb = replicate (B - length (allBlocks none (g ∷ []))) 0
+
+    items-stand : items ≡ itemsCells 0 is ++ zi
+    unfolding untypedItems
+    items-stand = append-assoc (itemsCells 0 (g .items)) [] _
+
+    args-stand : args ≡ argumentsCells is ++ za
+    unfolding untypedArguments
+    args-stand = append-assoc (argumentsCells (g .items)) [] _
+
+    blocks-stand : blocks ≡ blockCells 0 0 0 (edgesIn is) (edgesIn is) (blocksIn is) ++ zb
+    unfolding allBlocks
+    blocks-stand = append-assoc (blockCells 0 0 0 (edgesIn (g .items)) (edgesIn (g .items)) (blocksIn (g .items))) [] _
+
+    abbrev one : Typed
+    one = functionTyped ts globals g untyped
+
+    typed : rowD ts rows count items args blocks place untyped ≡ one
+    typed =
+        row-typed ts names (counts place 0 0 0 0) g rows items args blocks count globals untyped more zi za zb
+        globals-are stands items-stand args-stand blocks-stand fits
+
+    -- the cells with the types of operands
+    abbrev items′ : List ℕ
+    items′ = typedItemsCells (one .table) callees 0 is ++ zi
+
+    abbrev args′ : List ℕ
+    args′ = typedArgumentsCells (one .table) is ++ za
+
+    written : typedItems (one .table) callees items 0 (length is) ≡ items′
+    written =
+        ap (λ (l : List ℕ). typedItems (one .table) callees l 0 (length is)) items-stand
+        ∙ items-typed (one .table) callees is [] zi 0 0 refl
+
+    called : typedCalls (one .table) items args 0 (length is) ≡ args′
+    called =
+        ap (λ (l : List ℕ). typedCalls (one .table) items l 0 (length is)) args-stand
+        ∙ calls-typed (one .table) is items zi [] za 0 0 items-stand refl
+
+    pub turned : typedRows ts rows count blocks untyped place 1 items args
+        ≡ thenRow (one .end) (done K.Fine items′ args′) (λ e. done (K.Refused e) items args)
+    unfolding typedRows
+    turned =
+        rw (
+          row-first ts names g 0 0 rows place more stands,
+          row-items ts names g 0 0 rows place more stands,
+          typed,
+          fun-ext callees-are,
+          written,
+          called,
+        )
+
+    abbrev d : Done
+    d = typedRows ts rows count blocks untyped place 1 items args
+
+    by-end : (e : Checked) (x y z w : List ℕ) → thenRow e (done K.Fine x y) (λ r. done (K.Refused r) z w) .end ≡ e
+    unfolding thenRow
+    by-end K.Fine x y z w = refl
+    by-end (K.Refused r) x y z w = refl
+
+    fine-end : (e : Checked) (x y : Done) → e ≡ K.Fine → thenRow e x (λ r. done (K.Refused r) (y .items) (y .arguments)) ≡ x
+    unfolding thenRow
+    fine-end e x y h = rw h
+
+    pub ends : d .end ≡ one .end
+    ends = ap (λ (x : Done). x .end) turned ∙ by-end (one .end) items′ args′ items args
+
+    fine-done : one .end ≡ K.Fine → d ≡ done K.Fine items′ args′
+    fine-done h = turned ∙ fine-end (one .end) (done K.Fine items′ args′) (done K.Fine items args) h
+
+    items-even : length (untypedItems none (g ∷ [])) ≡ length (allItems callees none (g ∷ []) (one .table ∷ []))
+    unfolding allItems countsFrom
+    items-even =
+        omega (
+          arith,
+          length-items none (g ∷ []),
+          length-append (typedItemsCells (one .table) callees 0 (g .items)) [],
+          length-typed-items (one .table) callees 0 (g .items),
+        )
+
+    args-even : length (untypedArguments (g ∷ [])) ≡ length (allArguments (g ∷ []) (one .table ∷ []))
+    unfolding allArguments countsFrom
+    args-even =
+        omega (
+          arith,
+          length-arguments none (g ∷ []),
+          length-append (typedArgumentsCells (one .table) (g .items)) [],
+          length-typed-arguments (one .table) (g .items),
+        )
+
+    items-pad : items′ ≡ padTo I (allItems callees none (g ∷ []) (one .table ∷ []))
+    unfolding allItems
+    items-pad =
+        ap (λ (k : ℕ). typedItemsCells (one .table) callees 0 (g .items) ++ replicate (I - k) 0) items-even
+        ∙ sym (append-assoc (typedItemsCells (one .table) callees 0 (g .items)) [] _)
+
+    args-pad : args′ ≡ padTo A (allArguments (g ∷ []) (one .table ∷ []))
+    unfolding allArguments
+    args-pad =
+        ap (λ (k : ℕ). typedArgumentsCells (one .table) (g .items) ++ replicate (A - k) 0) args-even
+        ∙ sym (append-assoc (typedArgumentsCells (one .table) (g .items)) [] _)
+
+    pub items-typed-are : one .end ≡ K.Fine → d .items ≡ padTo I (allItems callees none (g ∷ []) (one .table ∷ []))
+    items-typed-are h = ap (λ (x : Done). x .items) (fine-done h) ∙ items-pad
+
+    pub args-typed-are : one .end ≡ K.Fine → d .arguments ≡ padTo A (allArguments (g ∷ []) (one .table ∷ []))
+    args-typed-are h = ap (λ (x : Done). x .arguments) (fine-done h) ∙ args-pad
+
+-- What parsing gave. -------------------------------------------------------------------------------------------------
+
+-- the function, how much it takes, and that it stands in the slices
+pub record Parsed (ts : List Tok) (names : List ℕ) (n : Counts) (s₀ s₁ : Slices) : Type 0 where
+  pub read : Function
+  pub alone : aloneD ts ≡ function read
+  pub counted : n ≡ countsFrom none (read ∷ [])
+  pub taken : Taken ts names none read s₀ s₁
+
+pub parsed-is : (ts : List Tok) (names : List ℕ) (n : Counts) (s₀ s₁ : Slices) → U.Done n ≡ aloneRead (aloneD ts)
+    → FunctionHeld ts names none s₀ s₁ (aloneD ts) → Parsed ts names n s₀ s₁
+parsed-is ts names n s₀ s₁ h held = by (aloneD ts) refl h held
+  where
+    by : (x : FunctionAt) → aloneD ts ≡ x → U.Done n ≡ aloneRead x → FunctionHeld ts names none s₀ s₁ x
+        → Parsed ts names n s₀ s₁
+    by (function f) e d k = record { read = f; alone = e; counted = cc; taken = k }
+    by (noFunction r) e d k = absurd (let z : _≡_ {A = ℕ} 0 1 = cc in omega arith)
+
+refused-as : (x : FunctionAt) (k : Function → Verdict) (e : Refusal) → U.Refused e ≡ aloneRead x
+    → thenFunction refuses x k ≡ refuses e
+unfolding thenFunction
+refused-as (function f) k e h = absurd (let z : _≡_ {A = ℕ} 0 1 = cc in omega arith)
+refused-as (noFunction r) k e h =
+    let q : r ≡ e = cc in
+    rw q
+
+-- What the function that calls all knows. ----------------------------------------------------------------------------
+
+module _ (old rows : List ℕ) (number : ℕ) (new : List ℕ) (ts : List Tok) (names f i a b p : List ℕ) where
+  abbrev s₀ : Slices
+  s₀ = slices f i a b p
+
+  abbrev verdict : Verdict
+  verdict = verdictD old rows number new names ts
+
+  abbrev callees : ℕ → ℕ
+  callees = calleesSpelled old rows new names
+
+  abbrev globals : ℕ → Global
+  globals = globalsSpelled old rows new names
+
+  abbrev type : ℕ
+  type = getD rows (typeAt number) 0
+
+  abbrev keeping : Bool
+  keeping = keeps (sameBytes (rowName old rows number)) (signedAt rows number) new names ts
+
+  pub refused-whole : {e : Refusal} → verdict ≡ refuses e → (s : Slices)
+      → (U.Refused e ≡ verdictRead verdict) × (VerdictHeld ts names callees type s₀ s verdict × Counted (U.Refused e))
+  refused-whole h s = rw h (refl, (tt, tt))
+
+  pub not-kept : (e : Refusal) → e ≡ refusal 41 0 0 → keeping ≡ false → verdict ≡ refuses e
+  unfolding pick
+  not-kept e k h = rw (k, h)
+
+  module _ (kept : keeping ≡ true) where
+    verdict-is : verdict ≡ functionAlone ts (globalsSpelled old rows new names)
+    unfolding pick
+    verdict-is = rw kept
+
+    pub parse-refuses : (e : Refusal) → U.Refused e ≡ aloneRead (aloneD ts) → verdict ≡ refuses e
+    unfolding functionAlone
+    parse-refuses e h =
+        verdict-is
+        ∙ refused-as (aloneD ts) (λ x. typedAs x (functionTyped ts (globalsSpelled old rows new names) x untyped)) e h
+
+    module _ (table : isTable old rows number ≡ true) (known : ℕ) (v : Named new names known) (rows-long : 2881 ≤ length f)
+        (long : Long i a b p) (zero-now : s₀ ≡ cleared s₀) (n : Counts) (f₁ i₁ a₁ b₁ p₁ : List ℕ)
+        (w : Parsed ts names n s₀ (slices f₁ i₁ a₁ b₁ p₁)) (out₀ out f₂ : List ℕ) (r : Placed) (room : 2881 ≤ length out₀)
+        (q : Places old rows new names known number out₀ f₁ r out f₂)
+      where
+        t : Tabled old rows number
+        t = table-in-range old rows number table
+
+        abbrev g : Function
+        g = retyped (getD rows (typeAt number) 0) (w .read)
+
+        fits : Fits none g
+        fits =
+            let m = w .taken in
+            let u = m .room in
+            record {
+              functions-few = m .few;
+              type-few = omega (arith, t .in-range .each number (t .there) .type);
+              formals-few = m .formals-few;
+              items-few = omega (arith, u .items-few, u .within .reached, u .within .few);
+              arguments-few = omega (arith, u .arguments-few, u .within .reached, u .within .few);
+              blocks-few = omega (arith, u .blocks-few, u .within .reached, u .within .few);
+              few-blocks = m .few-blocks;
+              predecessors-few = omega (arith, u .predecessors-few, u .blocks-few, u .within .reached, u .within .few);
+            }
+
+        -- its row is that of the function with the replaced one's type number
+        row-is : f₂ ≡ set (sets f (rowAt 0) (rowCells ts names g 0 0)) 0 1
+        row-is =
+            q .row
+            ∙ ap (λ (s : Slices). set (set (s .functions) 0 1) (typeAt 0) (getD rows (typeAt number) 0)) (w .taken .stored)
+            ∙ retyped-row ts names f (w .read) (getD rows (typeAt number) 0)
+
+        stored-are : slices f₂ i₁ a₁ b₁ p₁ ≡ withCount 1 (storedFunction ts names none s₀ g)
+        stored-are =
+            let e = w .taken .stored in
+            same-slices row-is (ap (λ (s : Slices). s .items) e) (ap (λ (s : Slices). s .arguments) e)
+            (ap (λ (s : Slices). s .blocks) e) (ap (λ (s : Slices). s .predecessors) e)
+
+        laid-are : slices f₂ i₁ a₁ b₁ p₁
+            ≡ slices
+            (padTo (length f) (1 ∷ rowsCells ts names none (g ∷ [])))
+            (padTo (length i) (untypedItems none (g ∷ [])))
+            (padTo (length a) (untypedArguments (g ∷ [])))
+            (padTo (length b) (allBlocks none (g ∷ [])))
+            (padTo (length p) (allPredecessors (g ∷ [])))
+        unfolding storedFrom FitsFrom
+        laid-are =
+            stored-are
+            ∙ ap (λ (s : Slices). withCount 1 (storedFunction ts names none s g)) zero-now
+            ∙ stored-laid ts names (length f) (length i) (length a) (length b) (length p) rows-long (long .items-long)
+            (long .arguments-long) (long .blocks-long) (long .predecessors-long) (g ∷ []) (fits, tt)
+
+        f-is : f₂ ≡ padTo (length f) (1 ∷ rowsCells ts names none (g ∷ []))
+        f-is = ap (λ (s : Slices). s .functions) laid-are
+
+        i-is : i₁ ≡ padTo (length i) (untypedItems none (g ∷ []))
+        i-is = ap (λ (s : Slices). s .items) laid-are
+
+        a-is : a₁ ≡ padTo (length a) (untypedArguments (g ∷ []))
+        a-is = ap (λ (s : Slices). s .arguments) laid-are
+
+        b-is : b₁ ≡ padTo (length b) (allBlocks none (g ∷ []))
+        b-is = ap (λ (s : Slices). s .blocks) laid-are
+
+        p-is : p₁ ≡ padTo (length p) (allPredecessors (g ∷ []))
+        p-is = ap (λ (s : Slices). s .predecessors) laid-are
+
+        abbrev rest : List ℕ
+        rest = replicate (length f - length (1 ∷ rowsCells ts names none (g ∷ []))) 0
+
+        own : drop 1 f₂ ≡ padTo 45 (rowCells ts names g 0 0) ++ rest
+        unfolding rowsCells
+        own = ap (drop 1) f-is ∙ append-assoc (padTo 45 (rowCells ts names g 0 0)) [] _
+
+        below : r .place < r .count
+        below =
+            place-below old rows new names known number t v ts (w .read) (w .alone) kept (w .taken .formals-few) out₀ f₁ r out
+            f₂ room q rest
+
+        -- what typing asks
+        pub few : (r .count ≤ 64) × (r .place + 1 ≤ 64)
+        few = (q .few, omega (arith, below, q .few))
+
+        items-room : length (w .read .items) * 8 ≤ length i₁
+        items-room =
+            let l : length i₁ ≡ length i =
+            ap (λ (s : Slices). length (s .items)) (w .taken .stored) ∙ length-sets i 0 (itemsCells 0 (w .read .items)) in
+            omega (arith, l, fits .items-few, long .items-long)
+
+        pub rows-fit : RowsFit out (r .count) (r .place) 1 (length i₁)
+        rows-fit =
+            placed-fit old rows new names known number t v ts (w .read) (w .alone) kept (w .taken .formals-few) out₀ f₁ r out
+            f₂ room q rest own (length i₁) items-room
+
+        -- Typing the cells is typing the function.
+        placed-fits : Fits (counts (r .place) 0 0 0 0) g
+        placed-fits =
+            record {
+              functions-few = omega (arith, few .1);
+              type-few = fits .type-few;
+              formals-few = fits .formals-few;
+              items-few = fits .items-few;
+              arguments-few = fits .arguments-few;
+              blocks-few = fits .blocks-few;
+              few-blocks = fits .few-blocks;
+              predecessors-few = fits .predecessors-few;
+            }
+
+        stand : drop (rowAt (r .place)) out
+            ≡ rowCells ts names g 0 0
+            ++ behind old rows new names known number t v ts (w .read) (w .alone) kept (w .taken .formals-few) out₀ f₁ r out
+            f₂ room q rest own
+        stand =
+            new-row old rows new names known number t v ts (w .read) (w .alone) kept (w .taken .formals-few) out₀ f₁ r out f₂
+            room q rest own
+
+        globals-are : (x : ℕ) → globalsIn out (r .count) x ≡ globals x
+        globals-are =
+            globals-placed old rows new names known number t v ts (w .read) (w .alone) kept (w .taken .formals-few) out₀ f₁ r
+            out f₂ room q rest own
+
+        callees-are : (x : ℕ) → calleeOf out (r .count) x ≡ callees x
+        callees-are =
+            callees-placed old rows new names known number t v ts (w .read) (w .alone) kept (w .taken .formals-few) out₀ f₁ r
+            out f₂ room q rest own
+
+        abbrev typing : Typed
+        typing = functionTyped ts (globalsSpelled old rows new names) (w .read) untyped
+
+        abbrev cells-done : Done
+        cells-done = typedRows ts out (r .count) b₁ untyped (r .place) 1 i₁ a₁
+
+        abbrev laid-done : Done
+        laid-done =
+            typedRows ts out (r .count) (padTo (length b) (allBlocks none (g ∷ []))) untyped (r .place) 1
+            (padTo (length i) (untypedItems none (g ∷ []))) (padTo (length a) (untypedArguments (g ∷ [])))
+
+        done-is : cells-done ≡ laid-done
+        done-is = rw (b-is, i-is, a-is)
+
+        ends-is : cells-done .end ≡ typing .end
+        ends-is =
+            ap (λ (d : Done). d .end) done-is
+            ∙ ends ts names out (r .count) (r .place) g globals callees globals-are callees-are _ stand placed-fits (length i)
+            (length a) (length b)
+
+        -- the verdict, by how typing ends
+        verdict-typed : verdict ≡ afterTyping (w .read) (typing .table) (typing .end)
+        unfolding functionAlone thenFunction
+        verdict-typed = verdict-is ∙ rw (w .alone)
+
+        module _ (c : Checked) (i₂ a₂ : List ℕ) (typed-rows : RowsHeld c i₂ a₂ cells-done) where
+          pub types-refuse : (e : Refusal) → c ≡ K.Refused e → verdict ≡ refuses e
+          types-refuse e h =
+              let k : typing .end ≡ K.Refused e = sym ends-is ∙ sym (typed-rows .answer) ∙ h in
+              verdict-typed ∙ ap (afterTyping (w .read) (typing .table)) k
+
+          fine-end-is : c ≡ K.Fine → typing .end ≡ K.Fine
+          fine-end-is h = sym ends-is ∙ sym (typed-rows .answer) ∙ h
+
+          types-fine : c ≡ K.Fine → verdict ≡ accepts (w .read) (typing .table)
+          types-fine h = verdict-typed ∙ ap (afterTyping (w .read) (typing .table)) (fine-end-is h)
+
+          written-are : c ≡ K.Fine
+              → slices f₂ i₂ a₂ b₁ p₁
+              ≡ asLong s₀ (verdictSlices ts names callees type (accepts (w .read) (typing .table)))
+          written-are h =
+              let k = subst (λ (x : Checked). HeldBy x i₂ a₂ cells-done) h (typed-rows .held) in
+              let z = fine-end-is h in
+              same-slices f-is
+              (k .0 ∙ ap (λ (d : Done). d .items) done-is
+              ∙ items-typed-are ts names out (r .count) (r .place) g globals callees globals-are callees-are _ stand placed-fits
+              (length i) (length a) (length b) z)
+              (k .1 ∙ ap (λ (d : Done). d .arguments) done-is
+              ∙ args-typed-are ts names out (r .count) (r .place) g globals callees globals-are callees-are _ stand placed-fits
+              (length i) (length a) (length b) z)
+              b-is p-is
+
+          pub fine-whole : c ≡ K.Fine
+              → (U.Done n ≡ verdictRead verdict)
+              × (VerdictHeld ts names callees type s₀ (slices f₂ i₂ a₂ b₁ p₁) verdict × Counted (U.Done n))
+          unfolding countsFrom
+          fine-whole h =
+              rw (types-fine h, w .counted) (
+                refl,
+                (
+                  written-are h,
+                  (omega arith, fits .items-few, fits .arguments-few, fits .blocks-few, fits .predecessors-few),
+                ),
+              )
+
+-- Slices that are cleared before and after. --------------------------------------------------------------------------
+
+module _ (ts : List Tok) (names : List ℕ) (callees : ℕ → ℕ) (type : ℕ) (f i a b p f₁ i₁ a₁ b₁ p₁ : List ℕ)
+    (k₁ : length f₁ ≡ length f) (k₂ : length i₁ ≡ length i) (k₃ : length a₁ ≡ length a) (k₄ : length b₁ ≡ length b)
+    (k₅ : length p₁ ≡ length p)
+  where
+    -- the function, in slices as long as those at entry
+    pub unit-done : (o : Verdict) (n : Counts) (s : Slices) → U.Done n ≡ verdictRead o
+        → VerdictHeld ts names callees type (slices f₁ i₁ a₁ b₁ p₁) s o
+        → s ≡ asLong (slices f i a b p) (verdictSlices ts names callees type o)
+    unit-done (accepts x table) n s h g = g ∙ rw (k₁, k₂, k₃, k₄, k₅)
+    unit-done (refuses e) n s h g = absurd (let z : _≡_ {A = ℕ} 0 1 = cc in omega arith)
+
+    -- a refusal, after which they are cleared
+    pub unit-refused : (o : Verdict) (e : Refusal) (s : Slices) → U.Refused e ≡ verdictRead o
+        → s ≡ cleared (slices f₁ i₁ a₁ b₁ p₁)
+        → s ≡ asLong (slices f i a b p) (verdictSlices ts names callees type o)
+    unit-refused (accepts x table) e s h g = absurd (let z : _≡_ {A = ℕ} 0 1 = cc in omega arith)
+    unit-refused (refuses r) e s h g = g ∙ rw (k₁, k₂, k₃, k₄, k₅)
