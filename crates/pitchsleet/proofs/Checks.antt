@@ -12,11 +12,15 @@ use Rattle.utils.specs.Bytes.{pick, padTo}
 use Rattle.utils.proofs.Runs.{sets-append}
 use Rattle.functions.specs.Answer.{Slices, slices}
 use Rattle.typing.specs.Outcome.{asLong}
-use Rattle.checker.specs.Check.{Checking, refusal, checkOf}
-use Rattle.checker.specs.Promise.{padded, sized, sizedUnit as sizedFive, checkDef, Checks}
+use Rattle.checker.specs.Check.{Checking, checkOf}
+use Rattle.checker.specs.Promise.{padded, sized, sizedUnit as sizedFive}
+use Rattle.checker.specs.Promise as cells
 use Rattle.checker.specs.declared.CheckAnswer.{CheckAnswer}
 use Rattle.pitchsleet.specs.Bytes.{le32s}
-use Rattle.pitchsleet.specs.CheckBytes.{cellBytes, sizedUnit, bytesOf, Export, export, exported, exportDef, Sizes, Exports}
+use Rattle.recheck.specs.Recheck.{recheckOf}
+use Rattle.pitchsleet.specs.CheckBytes.{cellBytes, sizedUnit, bytesOf, Export, export, exported, gated, exportDef, Sizes}
+use Rattle.pitchsleet.specs.CheckBytes.{Gives, Exports}
+use Rattle.pitchsleet.specs.RecheckBytes.{tableOf, recheckDef, Rechecks}
 use Rattle.pitchsleet.proofs.Cells.{length-le32s}
 
 -- two adjacent runs are one
@@ -70,48 +74,48 @@ module _ (t n f i a b p : List ℕ) (z : Sizes t n (slices f i a b p)) where
       (omega (arith, length-le32s t, z .tokens)) e₁ w₂ in
       final l b₇ o (cellBytes t n (slices f i a b p)) 252228 whole-long h w₁ e₈
 
--- a check, and its cells stored
-module _ (text m₀ t₀ n₀ f₀ i₀ a₀ b₀ p₀ : List ℕ) (z : Sizes t₀ n₀ (slices f₀ i₀ a₀ b₀ p₀)) (long : 512 ≤ length m₀) where
-  as-sized : checkDef text m₀ t₀ n₀ (slices f₀ i₀ a₀ b₀ p₀) ≡ padded m₀ t₀ n₀ (slices f₀ i₀ a₀ b₀ p₀) (checkOf text)
-  unfolding checkDef sized sizedFive pick
-  as-sized =
-      rw (
-        z .tokens,
-        z .names,
-        z .functions,
-        z .items,
-        z .arguments,
-        z .blocks,
-        z .predecessors,
-        le-ltb (length m₀) 512 long,
-      )
+-- an answer x, and its cells stored
+module _ (x : Checking) (m₀ t₀ n₀ f₀ i₀ a₀ b₀ p₀ : List ℕ) (z : Sizes t₀ n₀ (slices f₀ i₀ a₀ b₀ p₀)) (long : 512 ≤ length m₀)
+  where
+    as-sized : cells.gated m₀ t₀ n₀ (slices f₀ i₀ a₀ b₀ p₀) x ≡ padded m₀ t₀ n₀ (slices f₀ i₀ a₀ b₀ p₀) x
+    unfolding sized sizedFive pick
+    as-sized =
+        rw (
+          z .tokens,
+          z .names,
+          z .functions,
+          z .items,
+          z .arguments,
+          z .blocks,
+          z .predecessors,
+          le-ltb (length m₀) 512 long,
+        )
 
-  bytes-are : cellBytes (padTo (length t₀) (checkOf text .tokens)) (padTo (length n₀) (checkOf text .names))
-      (asLong (slices f₀ i₀ a₀ b₀ p₀) (checkOf text .unit))
-      ≡ bytesOf (checkOf text)
-  bytes-are = rw (z .tokens, z .names, z .functions, z .items, z .arguments, z .blocks, z .predecessors)
+    bytes-are : cellBytes (padTo (length t₀) (x .tokens)) (padTo (length n₀) (x .names))
+        (asLong (slices f₀ i₀ a₀ b₀ p₀) (x .unit))
+        ≡ bytesOf x
+    bytes-are = rw (z .tokens, z .names, z .functions, z .items, z .arguments, z .blocks, z .predecessors)
 
-  pub out-of : (r : CheckAnswer) (m t n : List ℕ) (u : Slices) (o₀ o : List ℕ)
-      → Checks text m₀ t₀ n₀ (slices f₀ i₀ a₀ b₀ p₀) r m t n u → o ≡ padTo (length o₀) (cellBytes t n u)
-      → export r o m ≡ exported o₀ m₀ (checkOf text)
-  out-of r m t n u o₀ o e d =
-      same-export
-      (e .answer ∙ ap (λ (x : Checking). x .answer) as-sized)
-      (d
-      ∙ ap (λ (x : List ℕ). padTo (length o₀) (cellBytes x n u)) (e .tokens ∙ ap (λ (x : Checking). x .tokens) as-sized)
-      ∙ ap (λ (x : List ℕ). padTo (length o₀) (cellBytes (padTo (length t₀) (checkOf text .tokens)) x u))
-      (e .names ∙ ap (λ (x : Checking). x .names) as-sized)
-      ∙ ap (λ (x : Slices). padTo (length o₀) (cellBytes (padTo (length t₀) (checkOf text .tokens))
-      (padTo (length n₀) (checkOf text .names)) x)) (e .unit ∙ ap (λ (x : Checking). x .unit) as-sized)
-      ∙ ap (padTo (length o₀)) bytes-are)
-      (e .message ∙ ap (λ (x : Checking). x .message) as-sized)
-    where
-      same-export : {r r′ : CheckAnswer} {o o′ m m′ : List ℕ} → r ≡ r′ → o ≡ o′ → m ≡ m′ → export r o m ≡ export r′ o′ m′
-      same-export p q s = rw (p, q, s)
+    pub out-of : (r : CheckAnswer) (m t n : List ℕ) (u : Slices) (o₀ o : List ℕ)
+        → cells.Gives (cells.gated m₀ t₀ n₀ (slices f₀ i₀ a₀ b₀ p₀) x) r m t n u → o ≡ padTo (length o₀) (cellBytes t n u)
+        → export r o m ≡ exported o₀ m₀ x
+    out-of r m t n u o₀ o e d =
+        same-export
+        (e .answer ∙ ap (λ (y : Checking). y .answer) as-sized)
+        (d
+        ∙ ap (λ (l : List ℕ). padTo (length o₀) (cellBytes l n u)) (e .tokens ∙ ap (λ (y : Checking). y .tokens) as-sized)
+        ∙ ap (λ (l : List ℕ). padTo (length o₀) (cellBytes (padTo (length t₀) (x .tokens)) l u))
+        (e .names ∙ ap (λ (y : Checking). y .names) as-sized)
+        ∙ ap (λ (l : Slices). padTo (length o₀) (cellBytes (padTo (length t₀) (x .tokens)) (padTo (length n₀) (x .names)) l))
+        (e .unit ∙ ap (λ (y : Checking). y .unit) as-sized)
+        ∙ ap (padTo (length o₀)) bytes-are)
+        (e .message ∙ ap (λ (y : Checking). y .message) as-sized)
+      where
+        same-export : {r r′ : CheckAnswer} {o o′ m m′ : List ℕ} → r ≡ r′ → o ≡ o′ → m ≡ m′ → export r o m ≡ export r′ o′ m′
+        same-export p q s = rw (p, q, s)
 
--- The promise of `pitchsleet_check` as one equation and by parts. Two answers that it permits are equal.
-pub by-parts : {text o₀ m₀ : List ℕ} {r : CheckAnswer} {o m : List ℕ}
-    → export r o m ≡ exportDef text o₀ m₀ → Exports text o₀ m₀ r o m
+-- A promise of the C functions as one equation and by parts. Two answers that it permits are equal.
+pub by-parts : {d : Export} {r : CheckAnswer} {o m : List ℕ} → export r o m ≡ d → Gives d r o m
 by-parts e =
     record {
       answer = ap (λ (x : Export). x .answer) e;
@@ -119,19 +123,33 @@ by-parts e =
       message = ap (λ (x : Export). x .message) e;
     }
 
-as-whole : {text o₀ m₀ : List ℕ} {r : CheckAnswer} {o m : List ℕ}
-    → Exports text o₀ m₀ r o m → export r o m ≡ exportDef text o₀ m₀
+as-whole : {d : Export} {r : CheckAnswer} {o m : List ℕ} → Gives d r o m → export r o m ≡ d
 as-whole e = rw (e .answer, e .out, e .message)
 
 -- TWO PERMITTED ANSWERS ARE EQUAL
-pub permitted-equal : {text o₀ m₀ : List ℕ} {r r′ : CheckAnswer} {o m o′ m′ : List ℕ}
-    → Exports text o₀ m₀ r o m → Exports text o₀ m₀ r′ o′ m′ → export r o m ≡ export r′ o′ m′
+pub permitted-equal : {d : Export} {r r′ : CheckAnswer} {o m o′ m′ : List ℕ}
+    → Gives d r o m → Gives d r′ o′ m′ → export r o m ≡ export r′ o′ m′
 permitted-equal a b = as-whole a ∙ sym (as-whole b)
 
 -- EQUAL TEXTS AND LENGTHS GIVE EQUAL ANSWERS, whatever the slices held before
-pub same-text : {text o₀ m₀ o₁ m₁ : List ℕ} {r r′ : CheckAnswer} {o m o′ m′ : List ℕ}
+pub same-gated : (x : Checking) (o₀ m₀ o₁ m₁ : List ℕ) {r r′ : CheckAnswer} {o m o′ m′ : List ℕ}
+    → 252228 ≤ length o₀ → 512 ≤ length m₀ → length o₀ ≡ length o₁ → length m₀ ≡ length m₁
+    → Gives (gated o₀ m₀ x) r o m → Gives (gated o₁ m₁ x) r′ o′ m′ → export r o m ≡ export r′ o′ m′
+unfolding pick
+same-gated x o₀ m₀ o₁ m₁ h k p q a b =
+    rw (as-whole a, as-whole b, ← p, ← q, le-ltb (length o₀) 252228 h, le-ltb (length m₀) 512 k)
+
+pub same-text : (text : List ℕ) (o₀ m₀ o₁ m₁ : List ℕ) {r r′ : CheckAnswer} {o m o′ m′ : List ℕ}
     → 252228 ≤ length o₀ → 512 ≤ length m₀ → length o₀ ≡ length o₁ → length m₀ ≡ length m₁
     → Exports text o₀ m₀ r o m → Exports text o₁ m₁ r′ o′ m′ → export r o m ≡ export r′ o′ m′
-unfolding exportDef pick
-same-text {o₀ = o₀} {m₀ = m₀} h k p q a b =
-    rw (as-whole a, as-whole b, ← p, ← q, le-ltb (length o₀) 252228 h, le-ltb (length m₀) 512 k)
+unfolding exportDef
+same-text text o₀ m₀ o₁ m₁ h k p q a b = same-gated (checkOf text) o₀ m₀ o₁ m₁ h k p q a b
+
+pub same-inputs : (old table : List ℕ) (number : ℕ) (new : List ℕ) (o₀ m₀ o₁ m₁ : List ℕ) {r r′ : CheckAnswer}
+    {o m o′ m′ : List ℕ}
+    → 252228 ≤ length o₀ → 512 ≤ length m₀ → length o₀ ≡ length o₁ → length m₀ ≡ length m₁
+    → Rechecks old table number new o₀ m₀ r o m → Rechecks old table number new o₁ m₁ r′ o′ m′
+    → export r o m ≡ export r′ o′ m′
+unfolding recheckDef
+same-inputs old table number new o₀ m₀ o₁ m₁ h k p q a b =
+    same-gated (recheckOf old (tableOf table) number new) o₀ m₀ o₁ m₁ h k p q a b

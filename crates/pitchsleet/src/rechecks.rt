@@ -13,15 +13,17 @@ use checker::CheckAnswer;
 const TABLE: usize = 2881;
 
 // Four bytes as a cell, the lowest first.
+fn cell_of(a: u8, b: u8, c: u8, d: u8) -> u32
+    ensures { λ r. ⌜ r ≡ a + b * 256 + c * 65536 + d * 16777216 ⌝ }
+{
+    a as u32 + b as u32 * 256 + c as u32 * 65536 + d as u32 * 16777216
+}
+
 fn get_cell(bytes: &[u8], at: usize) -> u32
     requires { ⌜ at + 4 ≤ length (now bytes) ⌝ }
     ensures { λ r. ⌜ r ≡ cellAt (now (bytes .entry)) at ⌝ }
 {
-    let a = bytes[at] as u32;
-    let b = bytes[at + 1] as u32;
-    let c = bytes[at + 2] as u32;
-    let d = bytes[at + 3] as u32;
-    a + b * 256 + c * 65536 + d * 16777216
+    cell_of(bytes[at], bytes[at + 1], bytes[at + 2], bytes[at + 3])
 }
 
 // The first n cells.

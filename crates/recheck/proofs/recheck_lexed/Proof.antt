@@ -64,8 +64,7 @@ unit-requires c κs =
     let back8 = c .before .before .before .before .before .before .before .before in
     let back16 = back8 .before .before .before .before .before .before .before .before in
     let back24 = back16 .before .before .before .before .before .before .before .before in
-    let pre = back24 .before .before .pre in
-    (
+    let pre = back24 .before .before .pre in (
       pre .0,
       named-now (pre .1),
       subst (λ (x : List ℕ). Within (tokensOf x) 0) (sym (used-tokens (pre .1))) (within (pre .1)),
@@ -80,8 +79,7 @@ refuse-requires c κs =
     let back24 = back16 .before .before .before .before .before .before .before .before in
     let back32 = back24 .before .before .before .before .before .before .before .before in
     let back40 = back32 .before .before .before .before .before .before .before .before in
-    let pre = back40 .before .before .before .pre in
-    (
+    let pre = back40 .before .before .before .pre in (
       omega (arith, tokens-few (pre .1), pre .2 .tokens-long),
       omega (arith, names-few (pre .1), pre .2 .names-long),
       pre .2 .message-long,
