@@ -9,7 +9,7 @@ pub mod Brought
 -- tables that answer alike
 pub mod Alike
 -- a function that keeps its header has the replaced one's name and function type
-pub mod Kept
+pub mod Keeping
 -- the new function's row among the old headers
 pub mod Placing
 -- the new function, parsed and typed
