@@ -45,12 +45,15 @@ export r o m = record { answer = r; out = o; message = m }
 abbrev pub exported : List ℕ → List ℕ → Checking → Export
 exported o m x = export (x .answer) (padTo (length o) (bytesOf x)) (padTo (length m) (x .message))
 
--- The answer and the slices at exit; o and m are the slices at entry. 30 is given exactly when one of them is shorter
--- than its size, and then nothing is written.
-unfoldable pub exportDef : List ℕ → List ℕ → List ℕ → Export
-exportDef text o m =
+-- The answer and the slices at exit, for the answer x of any text; o and m are the slices at entry. 30 is given exactly
+-- when one of them is shorter than its size, and then nothing is written.
+abbrev pub gated : List ℕ → List ℕ → Checking → Export
+gated o m x =
     let short = export (refusal 30 0 0) o m in
-    pick (ltb (length o) 252228) short (pick (ltb (length m) 512) short (exported o m (checkOf text)))
+    pick (ltb (length o) 252228) short (pick (ltb (length m) 512) short (exported o m x))
+
+unfoldable pub exportDef : List ℕ → List ℕ → List ℕ → Export
+exportDef text o m = gated o m (checkOf text)
 
 -- the seven slices have exactly their sizes
 pub record Sizes (t n : List ℕ) (u : Slices) : Type 0 where
@@ -62,8 +65,12 @@ pub record Sizes (t n : List ℕ) (u : Slices) : Type 0 where
   pub blocks : length (u .blocks) ≡ 8192
   pub predecessors : length (u .predecessors) ≡ 2048
 
--- THE PROMISE, by parts with names.
-pub record Exports (text o₀ m₀ : List ℕ) (r : CheckAnswer) (o m : List ℕ) : Type 0 where
-  pub answer : r ≡ exportDef text o₀ m₀ .answer
-  pub out : o ≡ exportDef text o₀ m₀ .out
-  pub message : m ≡ exportDef text o₀ m₀ .message
+-- what a definition's answer d permits, by parts with names
+pub record Gives (d : Export) (r : CheckAnswer) (o m : List ℕ) : Type 0 where
+  pub answer : r ≡ d .answer
+  pub out : o ≡ d .out
+  pub message : m ≡ d .message
+
+-- THE PROMISE: the answer and both slices at exit, of the text and the slices at entry.
+abbrev pub Exports : List ℕ → List ℕ → List ℕ → CheckAnswer → List ℕ → List ℕ → Type 0
+Exports text o₀ m₀ r o m = Gives (exportDef text o₀ m₀) r o m

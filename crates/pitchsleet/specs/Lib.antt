@@ -2,3 +2,5 @@
 pub mod Bytes
 -- the check's, on bytes
 pub mod CheckBytes
+-- the recheck's, with a header table as bytes
+pub mod RecheckBytes

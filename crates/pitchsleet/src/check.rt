@@ -9,7 +9,7 @@ ghost use Rattle.pitchsleet.specs.CheckBytes.{cellBytes, Sizes, export, 
 use checker::CheckAnswer;
 
 // All cells, one slice after the other, and zeros.
-fn put_all(
+pub fn put_all(
     tokens: &[u32],
     names: &[u32],
     functions: &[u32],

@@ -1,5 +1,6 @@
 // The C functions. Cells go out as little-endian bytes at the offsets of docs/INTERFACE.md.
 mod check;
+mod rechecks;
 
 ghost use mathlib.Core.Path.{_≡_};
 ghost use Prim.Native.Nat.{ℕ, _+_, _-_, _*_, _<_, _≤_};
@@ -8,6 +9,7 @@ ghost use lib.Seq.{sets};
 ghost use Rattle.lexer.specs.Read.{readOf, refusal};
 ghost use Rattle.pitchsleet.specs.Bytes.{le32, le32s, export, exported, Exports};
 ghost use Rattle.pitchsleet.specs.CheckBytes as checks;
+ghost use Rattle.pitchsleet.specs.RecheckBytes as again;
 use checker::CheckAnswer;
 use lexer::ReadAnswer;
 
@@ -129,4 +131,27 @@ pub extern "C" fn pitchsleet_check(text: &[u8], out: &mut [u8], message: &mut [u
         out,
         message,
     )
+}
+
+// Document 01's recheck for a C or Rust host: `table` are the bytes that `pitchsleet_check` wrote for the old text's header
+// table. The gate stands before anything is written, on both slices.
+#[no_mangle]
+pub extern "C" fn pitchsleet_recheck<'t>(
+    old: &'t [u8],
+    table: &[u8],
+    number: u32,
+    new: &'t [u8],
+    out: &mut [u8],
+    message: &mut [u8],
+) -> CheckAnswer
+    ensures { λ r. ⌜ again.Rechecks (now (old .entry)) (now (table .entry)) number (now (new .entry))
+        (now (out .entry)) (now (message .entry)) r (now (out .exit)) (now (message .exit)) ⌝ }
+{
+    if out.len() < 252228 {
+        return check::short();
+    }
+    if message.len() < 512 {
+        return check::short();
+    }
+    rechecks::recheck_out(old, table, number, new, out, message)
 }

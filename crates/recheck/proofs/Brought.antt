@@ -39,7 +39,7 @@ unfolding cellsFrom
 length-cells zero cells at = refl
 length-cells (suc n) cells at = ap suc (length-cells n cells (at + 1))
 
-cells-at : (n : ℕ) (cells : List ℕ) (at k : ℕ) → k < n → getD (cellsFrom cells at n) k 0 ≡ getD cells (at + k) 0
+pub cells-at : (n : ℕ) (cells : List ℕ) (at k : ℕ) → k < n → getD (cellsFrom cells at n) k 0 ≡ getD cells (at + k) 0
 unfolding cellsFrom
 cells-at zero cells at k h = absurd (omega arith)
 cells-at (suc n) cells at zero h =
@@ -98,7 +98,7 @@ module _ (cells rows : List ℕ) where
   same-pick true f g f′ g′ p q = p
   same-pick false f g f′ g′ p q = q
 
-  types-same : (n k i j : ℕ) → RowSame k i → 2 ≤ j → j + n * 2 ≤ 45
+  pub types-same : (n k i j : ℕ) → RowSame k i → 2 ≤ j → j + n * 2 ≤ 45
       → typesAt cells (rowAt k + j) n ≡ typesAt rows (rowAt i + j) n
   unfolding typesAt
   types-same zero k i j s l m = refl
@@ -109,7 +109,7 @@ module _ (cells rows : List ℕ) where
       let e : rowAt i + j + 2 ≡ rowAt i + (j + 2) = omega arith in
       rw (a, b, d, e, s (j + 1) (omega arith) (λ q. omega (arith, q)), types-same n k i (j + 2) s (omega arith) (omega arith))
 
-  at-most : (n : ℕ) → atMost16 n ≤ 16
+  pub at-most : (n : ℕ) → atMost16 n ≤ 16
   at-most n = pick-either (λ (m : ℕ). m ≤ 16) (leb n 16) n 16 (leb-true n 16) (λ e. omega arith)
 
   pub cell-same : (k i j : ℕ) → RowSame k i → j < 45 → (j ≡ 1 → ⊥)

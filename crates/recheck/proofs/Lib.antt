@@ -8,9 +8,15 @@ pub mod Named
 pub mod Brought
 -- tables that answer alike
 pub mod Alike
+-- a header held against the replaced one's row
+pub mod Kept
+-- one function and nothing behind it
+pub mod Parsed
 -- a function that keeps its header has the replaced one's name and function type
 pub mod Keeping
 -- the new function's row among the old headers
 pub mod Placing
 -- the new function, parsed and typed
 pub mod Building
+-- how a recheck ends
+pub mod Ends

@@ -119,11 +119,11 @@ fn refuse_all(
 }
 
 // A new text that is read.
-fn recheck_lexed(
-    old: &[u8],
+fn recheck_lexed<'t>(
+    old: &'t [u8],
     table: &[u32],
     number: u32,
-    new: &[u8],
+    new: &'t [u8],
     r: ReadAnswer,
     tokens: &mut [u32],
     names: &mut [u32],
@@ -183,11 +183,11 @@ fn recheck_lexed(
 }
 
 // Slices that have their sizes.
-fn recheck_sized(
-    old: &[u8],
+fn recheck_sized<'t>(
+    old: &'t [u8],
     table: &[u32],
     number: u32,
-    new: &[u8],
+    new: &'t [u8],
     tokens: &mut [u32],
     names: &mut [u32],
     functions: &mut [u32],
@@ -246,11 +246,11 @@ fn recheck_sized(
 
 // Document 01's recheck: one new function against the headers of an accepted text, as cells, or a refusal and its
 // message.
-pub fn recheck(
-    old: &[u8],
+pub fn recheck<'t>(
+    old: &'t [u8],
     table: &[u32],
     number: u32,
-    new: &[u8],
+    new: &'t [u8],
     tokens: &mut [u32],
     names: &mut [u32],
     functions: &mut [u32],
