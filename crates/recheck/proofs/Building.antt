@@ -1,22 +1,21 @@
 -- From the new function as it was parsed, with its row among the old headers, to what its typing answers and leaves.
-use Prim.Native.Nat.{ℕ, zero, suc, _+_, _*_, _-_, _≤_, _<_}
+use Prim.Native.Nat.{ℕ, _+_, _*_, _-_, _≤_, _<_}
 use mathlib.Core.Path.{_≡_, refl, sym, ap, subst, fun-ext, _∙_}
 use mathlib.Core.List.{List, [], _∷_, _++_, append-assoc}
 use mathlib.Core.Bool.{Bool, true, false}
 use native.Mathlib.Omega.{arith}
-use lib.ListN.{length, getD, set, drop, replicate, length-append, length-replicate}
+use lib.ListN.{length, getD, set, drop, replicate, length-append}
 use lib.Seq.{sets, length-sets}
 use Rattle.utils.specs.Bytes.{pick, padTo, sameBytes}
 use Rattle.lexer.specs.Decoded.{Tok}
 use Rattle.parser.specs.Step.{refusal}
 use Rattle.parser.specs.Body.{Item}
-use Rattle.parser.specs.Runs.{typeCell}
 use Rattle.parser.specs.declared.Refusal.{Refusal}
 use Rattle.body.specs.Records.{itemsCells, argumentsCells}
 use Rattle.link.specs.Cells.{blockCells}
 use Rattle.functions.specs.Functions.{Function, FunctionAt, function, noFunction, thenFunction, blocksIn}
 use Rattle.functions.specs.Rows.{rowAt, typeAt, signedAt, rowCells}
-use Rattle.functions.specs.Answer.{Slices, slices, Long, counts, countsWith, countsFrom, storedFunction}
+use Rattle.functions.specs.Answer.{Slices, slices, Long, counts, countsFrom, storedFunction}
 use Rattle.functions.specs.Answer.{storedFrom, withCount}
 use Rattle.functions.specs.Answer.{edgesIn, Taken, FunctionHeld}
 use Rattle.functions.specs.Laid.{rowsCells, untypedItems, untypedArguments, allBlocks, allPredecessors, Fits, FitsFrom}
@@ -28,8 +27,8 @@ use Rattle.functions.proofs.Standing.{row-first, row-items}
 use Rattle.sema.specs.Symbols.{Typed}
 use Rattle.sema.specs.Typing.{Global}
 use Rattle.sema.specs.Globals.{globalsIn}
-use Rattle.sema.specs.Blocks.{typeFunctionD, rowD}
-use Rattle.sema.specs.Program.{orderedBlocks, functionTyped}
+use Rattle.sema.specs.Blocks.{rowD}
+use Rattle.sema.specs.Program.{functionTyped}
 use Rattle.sema.specs.declared.Checked.{Checked}
 use Rattle.sema.specs.declared.Checked.the-variants as K
 use Rattle.sema.proofs.Stored.{row-typed}

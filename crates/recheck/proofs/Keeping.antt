@@ -1,7 +1,7 @@
 -- A new function that is parsed and keeps its header has the replaced function's name and function type. What `keeps`
 -- looks at is what the parser reads: the entered type plays no part.
 use Prim.Native.Nat.{ℕ}
-use mathlib.Core.Path.{_≡_, refl, ap, _∙_}
+use mathlib.Core.Path.{_≡_, ap}
 use mathlib.Core.List.{List, []}
 use mathlib.Core.Bool.{Bool, true, false}
 use native.Mathlib.Omega.{arith}
@@ -9,7 +9,6 @@ use Rattle.utils.specs.Bytes.{pick, sameBytes}
 use Rattle.lexer.specs.Decoded.{Tok, nameOf}
 use Rattle.parser.specs.Step.{refusal, look, thenAt, thenNamed, thenType}
 use Rattle.parser.specs.Grammar.{globalD}
-use Rattle.parser.specs.Runs.{Variables}
 use Rattle.pieces.specs.declared.Identifier.{Identifier}
 use Rattle.parser.specs.declared.Refusal.{Refusal}
 use Rattle.parser.specs.declared.Ty.{Ty}

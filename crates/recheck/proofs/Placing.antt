@@ -9,7 +9,7 @@ use borrow.Author.Tests.{ltb-true, ltb-false, eqb-true, eqb-false}
 use lib.Dec.{ltb, eqb}
 use lib.ListN.{length, getD, set, take, drop, replicate, length-append, length-replicate}
 use lib.Seq.{sets, set-set, set-comm, sets-eq, drop-at, length-take-le}
-use Rattle.utils.specs.Bytes.{pick, padTo, sameBytes}
+use Rattle.utils.specs.Bytes.{padTo, sameBytes}
 use Rattle.pieces.proofs.Digits.{pick-both}
 use Rattle.lexer.specs.Decoded.{Tok, nameOf}
 use Rattle.lexer.specs.declared.Found.{Found}
@@ -18,13 +18,13 @@ use Rattle.lexer.proofs.Same.{same-bytes-true}
 use Rattle.parser.specs.Runs.{typeCell, variablesCells}
 use Rattle.functions.specs.Known.{signature, formalTypes}
 use Rattle.functions.specs.Functions.{Function, function}
-use Rattle.functions.specs.Rows.{rowAt, nameAt, retAt, typeAt, countAt, formalsAt, atMost16, typesAt}
+use Rattle.functions.specs.Rows.{rowAt, nameAt, typeAt}
 use Rattle.functions.specs.Rows.{signedAt, headCells, rowCells}
 use Rattle.functions.proofs.Stores.{sets-set}
 use Rattle.functions.proofs.Seen.{length-variables}
 use Rattle.functions.proofs.Standing.{cell-there, rest-there, row-name, row-ret, row-type, row-types}
 use Rattle.functions.proofs.Standing.{row-first, row-items}
-use Rattle.sema.specs.Typing.{Global, global}
+use Rattle.sema.specs.Typing.{global}
 use Rattle.sema.specs.Globals.{rowGlobal, globalsIn}
 use Rattle.sema.specs.declared.FoundRow.the-variants as W
 use Rattle.elaborate.specs.Types.{calleeOf}
@@ -36,7 +36,7 @@ use Rattle.recheck.specs.Alone.{Places}
 use Rattle.recheck.specs.declared.Placed.{Placed}
 use Rattle.recheck.proofs.Ranges.{Tabled}
 use Rattle.recheck.proofs.Named.{spelled-found}
-use Rattle.recheck.proofs.Brought.{length-cells, put-below, put-cell, step-grows, step-length, grows}
+use Rattle.recheck.proofs.Brought.{put-below, put-cell, step-grows, step-length}
 use Rattle.recheck.proofs.Brought.{length-brought}
 use Rattle.recheck.proofs.Brought.{row-named, cell-same, global-same, globals-brought, callees-brought}
 use Rattle.recheck.proofs.Brought.{Stands, place-brought}

@@ -149,7 +149,16 @@ fn build<'t, 'c>(
         ProgramRead::Refused(e) => ProgramRead::Refused(e),
         ProgramRead::Done(n) => {
             let at = place_alone(functions, old, rows, number, new, names, known, local);
-            match types::type_rows(tokens, local, at.count, at.place, 1, items, arguments, blocks) {
+            match types::type_rows(
+                tokens,
+                local,
+                at.count,
+                at.place,
+                1,
+                items,
+                arguments,
+                blocks,
+            ) {
                 Checked::Refused(e) => ProgramRead::Refused(e),
                 Checked::Fine => ProgramRead::Done(n),
             }
