@@ -1,22 +1,22 @@
 -- From the new function as it was parsed, with its row among the old headers, to what its typing answers and leaves.
-use Prim.Native.Nat.{ℕ, zero, suc, _+_, _*_, _-_, _≤_, _<_}
+use Prim.Native.Nat.{ℕ, _+_, _*_, _-_, _≤_, _<_}
 use mathlib.Core.Path.{_≡_, refl, sym, ap, subst, fun-ext, _∙_}
 use mathlib.Core.List.{List, [], _∷_, _++_, append-assoc}
 use mathlib.Core.Bool.{Bool, true, false}
 use native.Mathlib.Omega.{arith}
-use lib.ListN.{length, getD, set, drop, replicate, length-append, length-replicate}
+use lib.ListN.{length, getD, set, drop, replicate, length-append}
 use lib.Seq.{sets, length-sets}
 use Rattle.utils.specs.Bytes.{pick, padTo, sameBytes}
 use Rattle.lexer.specs.Decoded.{Tok}
 use Rattle.parser.specs.Step.{refusal}
 use Rattle.parser.specs.Body.{Item}
-use Rattle.parser.specs.Runs.{typeCell}
 use Rattle.parser.specs.declared.Refusal.{Refusal}
 use Rattle.body.specs.Records.{itemsCells, argumentsCells}
 use Rattle.link.specs.Cells.{blockCells}
 use Rattle.functions.specs.Functions.{Function, FunctionAt, function, noFunction, thenFunction, blocksIn}
 use Rattle.functions.specs.Rows.{rowAt, typeAt, signedAt, rowCells}
-use Rattle.functions.specs.Answer.{Slices, slices, Long, counts, countsWith, countsFrom, storedFunction, storedFrom, withCount}
+use Rattle.functions.specs.Answer.{Slices, slices, Long, counts, countsFrom, storedFunction}
+use Rattle.functions.specs.Answer.{storedFrom, withCount}
 use Rattle.functions.specs.Answer.{edgesIn, Taken, FunctionHeld}
 use Rattle.functions.specs.Laid.{rowsCells, untypedItems, untypedArguments, allBlocks, allPredecessors, Fits, FitsFrom}
 use Rattle.functions.specs.declared.Counts.{Counts}
@@ -27,8 +27,8 @@ use Rattle.functions.proofs.Standing.{row-first, row-items}
 use Rattle.sema.specs.Symbols.{Typed}
 use Rattle.sema.specs.Typing.{Global}
 use Rattle.sema.specs.Globals.{globalsIn}
-use Rattle.sema.specs.Blocks.{typeFunctionD, rowD}
-use Rattle.sema.specs.Program.{orderedBlocks, functionTyped}
+use Rattle.sema.specs.Blocks.{rowD}
+use Rattle.sema.specs.Program.{functionTyped}
 use Rattle.sema.specs.declared.Checked.{Checked}
 use Rattle.sema.specs.declared.Checked.the-variants as K
 use Rattle.sema.proofs.Stored.{row-typed}
@@ -38,12 +38,14 @@ use Rattle.typing.specs.Outcome.{untyped, none, allItems, allArguments, asLong,
 use Rattle.typing.specs.Rows.{Done, done, thenRow, typedRows, RowsFit, HeldBy, RowsHeld}
 use Rattle.recheck.specs.Table.{isTable}
 use Rattle.recheck.specs.Spelled.{rowName, globalsSpelled, calleesSpelled, Named}
-use Rattle.recheck.specs.Recheck.{keeps, aloneD, retyped, Verdict, refuses, accepts, afterTyping, typedAs, functionAlone}
+use Rattle.recheck.specs.Recheck.{keeps, aloneD, retyped, Verdict, refuses, accepts, afterTyping}
+use Rattle.recheck.specs.Recheck.{typedAs, functionAlone}
 use Rattle.recheck.specs.Recheck.{verdictD, verdictSlices}
 use Rattle.recheck.specs.Alone.{aloneRead, verdictRead, VerdictHeld, Places}
 use Rattle.recheck.specs.declared.Placed.{Placed}
 use Rattle.recheck.proofs.Ranges.{Tabled, table-in-range}
-use Rattle.recheck.proofs.Placing.{retyped-row, place-below, new-row, behind, globals-placed, callees-placed, placed-fit}
+use Rattle.recheck.proofs.Placing.{retyped-row, place-below, new-row, behind, globals-placed}
+use Rattle.recheck.proofs.Placing.{callees-placed, placed-fit}
 
 same-slices : {f i a b p f′ i′ a′ b′ p′ : List ℕ} → f ≡ f′ → i ≡ i′ → a ≡ a′ → b ≡ b′ → p ≡ p′
     → slices f i a b p ≡ slices f′ i′ a′ b′ p′
@@ -137,7 +139,8 @@ module _ (ts : List Tok) (names rows : List ℕ) (count place : ℕ) (g : Functi
     by-end K.Fine x y z w = refl
     by-end (K.Refused r) x y z w = refl
 
-    fine-end : (e : Checked) (x y : Done) → e ≡ K.Fine → thenRow e x (λ r. done (K.Refused r) (y .items) (y .arguments)) ≡ x
+    fine-end : (e : Checked) (x y : Done) → e ≡ K.Fine → thenRow e x
+        (λ r. done (K.Refused r) (y .items) (y .arguments)) ≡ x
     unfolding thenRow
     fine-end e x y h = rw h
 
@@ -232,28 +235,39 @@ module _ (old rows : List ℕ) (number : ℕ) (new : List ℕ) (ts : List Tok) (
   abbrev keeping : Bool
   keeping = keeps (sameBytes (rowName old rows number)) (signedAt rows number) new names ts
 
-  pub refused-whole : {e : Refusal} → verdict ≡ refuses e → (s : Slices)
-      → (U.Refused e ≡ verdictRead verdict) × (VerdictHeld ts names callees type s₀ s verdict × Counted (U.Refused e))
+  -- what is said of an answer and of the slices that it leaves
+  abbrev Whole : ProgramRead → Slices → Type 0
+  Whole r s = (r ≡ verdictRead verdict) × (VerdictHeld ts names callees type s₀ s verdict × Counted r)
+
+  refused-whole : {e : Refusal} → verdict ≡ refuses e → (s : Slices) → Whole (U.Refused e) s
   refused-whole h s = rw h (refl, (tt, tt))
 
-  pub not-kept : (e : Refusal) → e ≡ refusal 41 0 0 → keeping ≡ false → verdict ≡ refuses e
+  changed : (e : Refusal) → e ≡ refusal 41 0 0 → keeping ≡ false → verdict ≡ refuses e
   unfolding pick
-  not-kept e k h = rw (k, h)
+  changed e k h = rw (k, h)
+
+  pub header-changed : (e : Refusal) → e ≡ refusal 41 0 0 → keeping ≡ false → (s : Slices) → Whole (U.Refused e) s
+  header-changed e k h s = refused-whole (changed e k h) s
 
   module _ (kept : keeping ≡ true) where
     verdict-is : verdict ≡ functionAlone ts (globalsSpelled old rows new names)
     unfolding pick
     verdict-is = rw kept
 
-    pub parse-refuses : (e : Refusal) → U.Refused e ≡ aloneRead (aloneD ts) → verdict ≡ refuses e
+    refused-parsing : (e : Refusal) → U.Refused e ≡ aloneRead (aloneD ts) → verdict ≡ refuses e
     unfolding functionAlone
-    parse-refuses e h =
+    refused-parsing e h =
         verdict-is
         ∙ refused-as (aloneD ts) (λ x. typedAs x (functionTyped ts (globalsSpelled old rows new names) x untyped)) e h
 
-    module _ (table : isTable old rows number ≡ true) (known : ℕ) (v : Named new names known) (rows-long : 2881 ≤ length f)
+    pub parse-refused : (e : Refusal) → U.Refused e ≡ aloneRead (aloneD ts) → (s : Slices) → Whole (U.Refused e) s
+    parse-refused e h s = refused-whole (refused-parsing e h) s
+
+    module _ (table : isTable old rows number ≡ true) (known : ℕ) (v : Named new names known)
+        (rows-long : 2881 ≤ length f)
         (long : Long i a b p) (zero-now : s₀ ≡ cleared s₀) (n : Counts) (f₁ i₁ a₁ b₁ p₁ : List ℕ)
-        (w : Parsed ts names n s₀ (slices f₁ i₁ a₁ b₁ p₁)) (out₀ out f₂ : List ℕ) (r : Placed) (room : 2881 ≤ length out₀)
+        (w : Parsed ts names n s₀ (slices f₁ i₁ a₁ b₁ p₁)) (out₀ out f₂ : List ℕ) (r : Placed)
+        (room : 2881 ≤ length out₀)
         (q : Places old rows new names known number out₀ f₁ r out f₂)
       where
         t : Tabled old rows number
@@ -281,7 +295,8 @@ module _ (old rows : List ℕ) (number : ℕ) (new : List ℕ) (ts : List Tok) (
         row-is : f₂ ≡ set (sets f (rowAt 0) (rowCells ts names g 0 0)) 0 1
         row-is =
             q .row
-            ∙ ap (λ (s : Slices). set (set (s .functions) 0 1) (typeAt 0) (getD rows (typeAt number) 0)) (w .taken .stored)
+            ∙ ap (λ (s : Slices). set (set (s .functions) 0 1) (typeAt 0) (getD rows (typeAt number) 0))
+            (w .taken .stored)
             ∙ retyped-row ts names f (w .read) (getD rows (typeAt number) 0)
 
         stored-are : slices f₂ i₁ a₁ b₁ p₁ ≡ withCount 1 (storedFunction ts names none s₀ g)
@@ -328,23 +343,31 @@ module _ (old rows : List ℕ) (number : ℕ) (new : List ℕ) (ts : List Tok) (
 
         below : r .place < r .count
         below =
-            place-below old rows new names known number t v ts (w .read) (w .alone) kept (w .taken .formals-few) out₀ f₁ r out
+            place-below old rows new names known number t v ts (w .read) (w .alone) kept
+            (w .taken .formals-few) out₀ f₁ r out
             f₂ room q rest
 
-        -- what typing asks
-        pub few : (r .count ≤ 64) × (r .place + 1 ≤ 64)
+        few : (r .count ≤ 64) × (r .place + 1 ≤ 64)
         few = (q .few, omega (arith, below, q .few))
 
         items-room : length (w .read .items) * 8 ≤ length i₁
         items-room =
             let l : length i₁ ≡ length i =
-            ap (λ (s : Slices). length (s .items)) (w .taken .stored) ∙ length-sets i 0 (itemsCells 0 (w .read .items)) in
+            ap (λ (s : Slices). length (s .items)) (w .taken .stored)
+            ∙ length-sets i 0 (itemsCells 0 (w .read .items)) in
             omega (arith, l, fits .items-few, long .items-long)
 
-        pub rows-fit : RowsFit out (r .count) (r .place) 1 (length i₁)
+        rows-fit : RowsFit out (r .count) (r .place) 1 (length i₁)
         rows-fit =
-            placed-fit old rows new names known number t v ts (w .read) (w .alone) kept (w .taken .formals-few) out₀ f₁ r out
+            placed-fit old rows new names known number t v ts (w .read) (w .alone) kept
+            (w .taken .formals-few) out₀ f₁ r out
             f₂ room q rest own (length i₁) items-room
+
+        -- what typing asks
+        pub typing-asks : 2881 ≤ length out
+            → (r .count ≤ 64) × (r .place + 1 ≤ 64) × (2881 ≤ length out)
+            × RowsFit out (r .count) (r .place) 1 (length i₁)
+        typing-asks h = (few .0, few .1, h, rows-fit)
 
         -- Typing the cells is typing the function.
         placed-fits : Fits (counts (r .place) 0 0 0 0) g
@@ -362,20 +385,24 @@ module _ (old rows : List ℕ) (number : ℕ) (new : List ℕ) (ts : List Tok) (
 
         stand : drop (rowAt (r .place)) out
             ≡ rowCells ts names g 0 0
-            ++ behind old rows new names known number t v ts (w .read) (w .alone) kept (w .taken .formals-few) out₀ f₁ r out
+            ++ behind old rows new names known number t v ts (w .read) (w .alone) kept
+            (w .taken .formals-few) out₀ f₁ r out
             f₂ room q rest own
         stand =
-            new-row old rows new names known number t v ts (w .read) (w .alone) kept (w .taken .formals-few) out₀ f₁ r out f₂
+            new-row old rows new names known number t v ts (w .read) (w .alone) kept (w .taken .formals-few) out₀ f₁ r
+            out f₂
             room q rest own
 
         globals-are : (x : ℕ) → globalsIn out (r .count) x ≡ globals x
         globals-are =
-            globals-placed old rows new names known number t v ts (w .read) (w .alone) kept (w .taken .formals-few) out₀ f₁ r
+            globals-placed old rows new names known number t v ts (w .read) (w .alone) kept
+            (w .taken .formals-few) out₀ f₁ r
             out f₂ room q rest own
 
         callees-are : (x : ℕ) → calleeOf out (r .count) x ≡ callees x
         callees-are =
-            callees-placed old rows new names known number t v ts (w .read) (w .alone) kept (w .taken .formals-few) out₀ f₁ r
+            callees-placed old rows new names known number t v ts (w .read) (w .alone) kept
+            (w .taken .formals-few) out₀ f₁ r
             out f₂ room q rest own
 
         abbrev typing : Typed
@@ -395,7 +422,8 @@ module _ (old rows : List ℕ) (number : ℕ) (new : List ℕ) (ts : List Tok) (
         ends-is : cells-done .end ≡ typing .end
         ends-is =
             ap (λ (d : Done). d .end) done-is
-            ∙ ends ts names out (r .count) (r .place) g globals callees globals-are callees-are _ stand placed-fits (length i)
+            ∙ ends ts names out (r .count) (r .place) g globals callees globals-are callees-are _ stand placed-fits
+            (length i)
             (length a) (length b)
 
         -- the verdict, by how typing ends
@@ -404,16 +432,19 @@ module _ (old rows : List ℕ) (number : ℕ) (new : List ℕ) (ts : List Tok) (
         verdict-typed = verdict-is ∙ rw (w .alone)
 
         module _ (c : Checked) (i₂ a₂ : List ℕ) (typed-rows : RowsHeld c i₂ a₂ cells-done) where
-          pub types-refuse : (e : Refusal) → c ≡ K.Refused e → verdict ≡ refuses e
-          types-refuse e h =
+          refused-typing : (e : Refusal) → c ≡ K.Refused e → verdict ≡ refuses e
+          refused-typing e h =
               let k : typing .end ≡ K.Refused e = sym ends-is ∙ sym (typed-rows .answer) ∙ h in
               verdict-typed ∙ ap (afterTyping (w .read) (typing .table)) k
+
+          pub types-refused : (e : Refusal) → c ≡ K.Refused e → (s : Slices) → Whole (U.Refused e) s
+          types-refused e h s = refused-whole (refused-typing e h) s
 
           fine-end-is : c ≡ K.Fine → typing .end ≡ K.Fine
           fine-end-is h = sym ends-is ∙ sym (typed-rows .answer) ∙ h
 
-          types-fine : c ≡ K.Fine → verdict ≡ accepts (w .read) (typing .table)
-          types-fine h = verdict-typed ∙ ap (afterTyping (w .read) (typing .table)) (fine-end-is h)
+          accepted-typing : c ≡ K.Fine → verdict ≡ accepts (w .read) (typing .table)
+          accepted-typing h = verdict-typed ∙ ap (afterTyping (w .read) (typing .table)) (fine-end-is h)
 
           written-are : c ≡ K.Fine
               → slices f₂ i₂ a₂ b₁ p₁
@@ -423,19 +454,19 @@ module _ (old rows : List ℕ) (number : ℕ) (new : List ℕ) (ts : List Tok) (
               let z = fine-end-is h in
               same-slices f-is
               (k .0 ∙ ap (λ (d : Done). d .items) done-is
-              ∙ items-typed-are ts names out (r .count) (r .place) g globals callees globals-are callees-are _ stand placed-fits
+              ∙ items-typed-are ts names out (r .count) (r .place) g globals callees globals-are callees-are _ stand
+              placed-fits
               (length i) (length a) (length b) z)
               (k .1 ∙ ap (λ (d : Done). d .arguments) done-is
-              ∙ args-typed-are ts names out (r .count) (r .place) g globals callees globals-are callees-are _ stand placed-fits
+              ∙ args-typed-are ts names out (r .count) (r .place) g globals callees globals-are callees-are _ stand
+              placed-fits
               (length i) (length a) (length b) z)
               b-is p-is
 
-          pub fine-whole : c ≡ K.Fine
-              → (U.Done n ≡ verdictRead verdict)
-              × (VerdictHeld ts names callees type s₀ (slices f₂ i₂ a₂ b₁ p₁) verdict × Counted (U.Done n))
+          pub types-fine : c ≡ K.Fine → Whole (U.Done n) (slices f₂ i₂ a₂ b₁ p₁)
           unfolding countsFrom
-          fine-whole h =
-              rw (types-fine h, w .counted) (
+          types-fine h =
+              rw (accepted-typing h, w .counted) (
                 refl,
                 (
                   written-are h,

@@ -1,7 +1,7 @@
 -- A new function that is parsed and keeps its header has the replaced function's name and function type. What `keeps`
 -- looks at is what the parser reads: the entered type plays no part.
 use Prim.Native.Nat.{ℕ}
-use mathlib.Core.Path.{_≡_, refl, ap, _∙_}
+use mathlib.Core.Path.{_≡_, ap}
 use mathlib.Core.List.{List, []}
 use mathlib.Core.Bool.{Bool, true, false}
 use native.Mathlib.Omega.{arith}
@@ -9,7 +9,6 @@ use Rattle.utils.specs.Bytes.{pick, sameBytes}
 use Rattle.lexer.specs.Decoded.{Tok, nameOf}
 use Rattle.parser.specs.Step.{refusal, look, thenAt, thenNamed, thenType}
 use Rattle.parser.specs.Grammar.{globalD}
-use Rattle.parser.specs.Runs.{Variables}
 use Rattle.pieces.specs.declared.Identifier.{Identifier}
 use Rattle.parser.specs.declared.Refusal.{Refusal}
 use Rattle.parser.specs.declared.Ty.{Ty}
@@ -21,8 +20,10 @@ use Rattle.parser.specs.declared.Named.the-variants as N
 use Rattle.parser.specs.declared.TypeRead.{TypeRead}
 use Rattle.parser.specs.declared.TypeRead.the-variants as R
 use Rattle.functions.specs.Known.{signature}
-use Rattle.functions.specs.Functions.{Header, HeaderAt, header, noHeader, thenHeader, thenFormals, optionalFormals, optionalType}
-use Rattle.functions.specs.Functions.{thenEntered, enteredD, signatureD, headerD, BuiltAt, built, notBuilt, thenBuilt, builtD}
+use Rattle.functions.specs.Functions.{Header, HeaderAt, header, noHeader, thenHeader, thenFormals}
+use Rattle.functions.specs.Functions.{optionalFormals, optionalType}
+use Rattle.functions.specs.Functions.{thenEntered, enteredD, signatureD, headerD, BuiltAt, built, notBuilt}
+use Rattle.functions.specs.Functions.{thenBuilt, builtD}
 use Rattle.functions.specs.Functions.{Function, FunctionAt, function, noFunction, thenFunction, isVoid, functionD}
 use Rattle.functions.specs.declared.Entered.{Entered}
 use Rattle.functions.specs.declared.Entered.the-variants as E
@@ -32,7 +33,8 @@ use Rattle.recheck.specs.Recheck.{keepsBehind, keeps, aloneD}
 
 -- what is alone is a function that was read
 alone-of : (x : FunctionAt) (a b : Function → Bool) (p q : Function → Refusal) (f : Function)
-    → thenFunction noFunction x (λ g. pick (a g) (function g) (pick (b g) (noFunction (p g)) (noFunction (q g)))) ≡ function f
+    → thenFunction noFunction x (λ g. pick (a g) (function g) (pick (b g) (noFunction (p g)) (noFunction (q g))))
+    ≡ function f
     → x ≡ function f
 unfolding thenFunction pick
 alone-of (noFunction e) a b p q f h = absurd (let z : _≡_ {A = ℕ} 0 1 = cc in omega arith)
@@ -45,7 +47,8 @@ alone-of (function g) a b p q f h = by (a g) (b g) h
     by false false e = absurd (let z : _≡_ {A = ℕ} 0 1 = cc in omega arith)
 
 built-head : (h : Header) (at : ℕ) (y : BuiltAt) (f : Function)
-    → thenBuilt noFunction y (λ is next. function (record { token = at; head = h; items = is; next = next })) ≡ function f
+    → thenBuilt noFunction y (λ is next. function (record { token = at; head = h; items = is; next = next }))
+    ≡ function f
     → h ≡ f .head
 unfolding thenBuilt
 built-head h at (built is next) f e =
@@ -121,7 +124,8 @@ module _ (named : List ℕ → Bool) (signed new names : List ℕ) where
         (λ formals ret k. enteredD ts [] 0 0 g (signature ret formals) k) h at e
 
     by-name : (x : Named) (h : Header) (at : ℕ)
-        → thenNamed noHeader x (λ g at1. pick false (noHeader (refusal 35 0 0)) (signatureD ts [] 0 0 g at1)) ≡ header h at
+        → thenNamed noHeader x (λ g at1. pick false (noHeader (refusal 35 0 0)) (signatureD ts [] 0 0 g at1))
+        ≡ header h at
         → thenNamed (λ e. true) x (λ g at1. keepsBehind named signed new names ts g at1) ≡ same h
     unfolding thenNamed pick
     by-name (N.At g at1) h at e = behind-name g at1 h at e

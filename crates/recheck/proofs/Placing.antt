@@ -9,7 +9,7 @@ use borrow.Author.Tests.{ltb-true, ltb-false, eqb-true, eqb-false}
 use lib.Dec.{ltb, eqb}
 use lib.ListN.{length, getD, set, take, drop, replicate, length-append, length-replicate}
 use lib.Seq.{sets, set-set, set-comm, sets-eq, drop-at, length-take-le}
-use Rattle.utils.specs.Bytes.{pick, padTo, sameBytes}
+use Rattle.utils.specs.Bytes.{padTo, sameBytes}
 use Rattle.pieces.proofs.Digits.{pick-both}
 use Rattle.lexer.specs.Decoded.{Tok, nameOf}
 use Rattle.lexer.specs.declared.Found.{Found}
@@ -18,11 +18,13 @@ use Rattle.lexer.proofs.Same.{same-bytes-true}
 use Rattle.parser.specs.Runs.{typeCell, variablesCells}
 use Rattle.functions.specs.Known.{signature, formalTypes}
 use Rattle.functions.specs.Functions.{Function, function}
-use Rattle.functions.specs.Rows.{rowAt, nameAt, retAt, typeAt, countAt, formalsAt, atMost16, typesAt, signedAt, headCells, rowCells}
+use Rattle.functions.specs.Rows.{rowAt, nameAt, typeAt}
+use Rattle.functions.specs.Rows.{signedAt, headCells, rowCells}
 use Rattle.functions.proofs.Stores.{sets-set}
 use Rattle.functions.proofs.Seen.{length-variables}
-use Rattle.functions.proofs.Standing.{cell-there, rest-there, row-name, row-ret, row-type, row-types, row-first, row-items}
-use Rattle.sema.specs.Typing.{Global, global}
+use Rattle.functions.proofs.Standing.{cell-there, rest-there, row-name, row-ret, row-type, row-types}
+use Rattle.functions.proofs.Standing.{row-first, row-items}
+use Rattle.sema.specs.Typing.{global}
 use Rattle.sema.specs.Globals.{rowGlobal, globalsIn}
 use Rattle.sema.specs.declared.FoundRow.the-variants as W
 use Rattle.elaborate.specs.Types.{calleeOf}
@@ -34,8 +36,10 @@ use Rattle.recheck.specs.Alone.{Places}
 use Rattle.recheck.specs.declared.Placed.{Placed}
 use Rattle.recheck.proofs.Ranges.{Tabled}
 use Rattle.recheck.proofs.Named.{spelled-found}
-use Rattle.recheck.proofs.Brought.{length-cells, put-below, put-cell, step-grows, step-length, grows, length-brought}
-use Rattle.recheck.proofs.Brought.{row-named, cell-same, global-same, globals-brought, callees-brought, Stands, place-brought}
+use Rattle.recheck.proofs.Brought.{put-below, put-cell, step-grows, step-length}
+use Rattle.recheck.proofs.Brought.{length-brought}
+use Rattle.recheck.proofs.Brought.{row-named, cell-same, global-same, globals-brought, callees-brought}
+use Rattle.recheck.proofs.Brought.{Stands, place-brought}
 use Rattle.recheck.proofs.Alike.{Alike, globals-alike, callees-alike, other-row}
 use Rattle.recheck.proofs.Keeping.{kept-same}
 
@@ -166,7 +170,8 @@ module _ (old rows new names : List ℕ) (known number : ℕ) (t : Tabled old ro
     stands =
         let n = t .in-range .each number (t .there) in
         place-brought old rows new names known number out₀ (f .head .name) t
-        (spelled-found new names known v (rowName old rows number) (row-named old rows number n) (f .head .name) (same .0))
+        (spelled-found new names known v (rowName old rows number) (row-named old rows number n) (f .head .name)
+        (same .0))
         r mid room brings
 
     pub place-below : r .place < r .count
@@ -205,7 +210,7 @@ module _ (old rows new names : List ℕ) (known number : ℕ) (t : Tabled old ro
           ∙ stored-there (padTo 45 row) mid (rowAt (r .place)) (omega (arith, long, mid-long, at, most, room))
           ∙ append-assoc row (replicate (45 - length row) 0) (drop (rowAt (r .place) + length (padTo 45 row)) mid)
 
-      -- Row by row the table answers as the old headers do. ------------------------------------------------------------
+      -- Row by row the table answers as the old headers do. -----------------------------------------------------------
 
       name-same : getD out (nameAt (r .place)) 0 ≡ getD mid (nameAt (r .place)) 0
       name-same = row-name ts names g 0 0 out (r .place) behind new-row ∙ sym (stands .name)
@@ -235,7 +240,8 @@ module _ (old rows new names : List ℕ) (known number : ℕ) (t : Tabled old ro
           by true e =
               let q : k ≡ r .place = eqb-true k (r .place) e in
               rw q (record { name = name-same; global = global-kept; type = type-same })
-          by false e = rw out-is (other-row (padTo 45 row) mid (r .place) k (omega (arith, long)) (eqb-false k (r .place) e))
+          by false e =
+              rw out-is (other-row (padTo 45 row) mid (r .place) k (omega (arith, long)) (eqb-false k (r .place) e))
 
       -- THE LAWS. A callee is found as its spelling finds it in the old table, with its function type ..
       pub globals-placed : (x : ℕ) → globalsIn out (r .count) x ≡ globalsSpelled old rows new names x
@@ -249,7 +255,7 @@ module _ (old rows new names : List ℕ) (known number : ℕ) (t : Tabled old ro
           callees-alike out mid x (r .count) alike
           ∙ callees-brought old rows new names known number out₀ r mid t v room brings x
 
-      -- What typing asks of the table. ---------------------------------------------------------------------------------
+      -- What typing asks of the table. --------------------------------------------------------------------------------
 
       mid-few : Few (headersBrought old rows new names known out₀)
       mid-few =

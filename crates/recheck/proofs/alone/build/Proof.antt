@@ -4,14 +4,14 @@ use borrow.Author.Needs.{needs}
 use borrow.Author.Tests.{not-true, not-false}
 use native.Mathlib.Omega.{arith}
 use Prim.Native.Nat.{_≤_}
-use mathlib.Core.Path.{_≡_, sym, _∙_}
+use mathlib.Core.Path.{sym, _∙_}
 use lib.ListN.{length}
 use denote.Ref.{now}
 use Rattle.lexer.specs.Decoded.{tokensOf}
 use Rattle.functions.specs.Answer.{slices}
 use Rattle.recheck.proofs.Ranges.{table-in-range}
-use Rattle.recheck.proofs.Building.{parsed-is, refused-whole, not-kept, parse-refuses, few, rows-fit, types-refuse}
-use Rattle.recheck.proofs.Building.{fine-whole}
+use Rattle.recheck.proofs.Building.{parsed-is, header-changed, parse-refused, typing-asks, types-refused}
+use Rattle.recheck.proofs.Building.{types-fine}
 use Rattle.recheck.proofs.alone.build.Statement.{statement}
 use Rattle.recheck.proofs.alone.build.Tie as tie
 
@@ -29,13 +29,12 @@ returns c =
     let back16 = back8 .before .before .before .before .before .before .before .before in
     let a = back16 .before .args in
     let keeps = c .before .before .before .before .keeps in
-    let changed = c .before .if1 in
+    let differs = c .before .if1 in
     let refuse = c .refuse in
-    refused-whole (now (a .old)) (now (a .rows)) (a .number) (now (a .new)) (tokensOf (now (a .tokens))) (now (a .names)) (now (a .functions))
-    (now (a .items)) (now (a .arguments)) (now (a .blocks)) (now (a .predecessors))
-    (not-kept (now (a .old)) (now (a .rows)) (a .number) (now (a .new)) (tokensOf (now (a .tokens))) (now (a .names)) (now (a .functions))
-    (now (a .items)) (now (a .arguments)) (now (a .blocks)) (now (a .predecessors))
-    (refuse .result) (refuse .ensures) (sym (keeps .ensures) ∙ not-true (keeps .result) (changed .taken))) _
+    header-changed (now (a .old)) (now (a .rows)) (a .number) (now (a .new)) (tokensOf (now (a .tokens)))
+    (now (a .names)) (now (a .functions)) (now (a .items)) (now (a .arguments)) (now (a .blocks))
+    (now (a .predecessors))
+    (refuse .result) (refuse .ensures) (sym (keeps .ensures) ∙ not-true (keeps .result) (differs .taken)) _
 
 place-alone-requires : tie.Need-place-alone-requires
 place-alone-requires c κs =
@@ -72,25 +71,20 @@ type-rows-requires c κs =
     let parsed =
     parsed-is (tokensOf (now (a .tokens))) (now (a .names)) (n .given .0 .0)
     (slices (now (a .functions)) (now (a .items)) (now (a .arguments)) (now (a .blocks)) (now (a .predecessors)))
-    (slices (parse .last .1 .1 .0) (parse .last .1 .1 .1 .0)
-    (parse .last .1 .1 .1 .1 .0) (parse .last .1 .1 .1 .1 .1 .0) (parse .last .1 .1 .1 .1 .1 .1 .0))
+    (slices (parse .last .1 .1 .0) (parse .last .1 .1 .1 .0) (parse .last .1 .1 .1 .1 .0)
+    (parse .last .1 .1 .1 .1 .1 .0)
+    (parse .last .1 .1 .1 .1 .1 .1 .0))
     (sym (n .given .1) ∙ parse .ensures .0) (parse .ensures .1) in
-    let room : 2881 ≤ length (keeps .last .1 .1 .1 .1 .1 .1 .0) = omega (arith, pre .5, keeps .kept .1 .1 .1 .1 .1 .1 .0) in
-    let m =
-    few (now (a .old)) (now (a .rows)) (a .number) (now (a .new)) (tokensOf (now (a .tokens))) (now (a .names)) (now (a .functions))
-    (now (a .items)) (now (a .arguments)) (now (a .blocks)) (now (a .predecessors)) kept (pre .0) (a .known)
-    (pre .1) (pre .3) (pre .4) (pre .6) (n .given .0 .0) (parse .last .1 .1 .0) (parse .last .1 .1 .1 .0)
-    (parse .last .1 .1 .1 .1 .0) (parse .last .1 .1 .1 .1 .1 .0) (parse .last .1 .1 .1 .1 .1 .1 .0) parsed
-    (keeps .last .1 .1 .1 .1 .1 .1 .0) (place .last .1 .1 .1 .1 .1 .1 .1 .0) (place .last .0) (place .result) room (place .ensures) in (
-      m .0,
-      m .1,
-      omega (arith, room, place .kept .1 .1 .1 .1 .1 .1 .1 .0),
-      rows-fit (now (a .old)) (now (a .rows)) (a .number) (now (a .new)) (tokensOf (now (a .tokens))) (now (a .names)) (now (a .functions))
-          (now (a .items)) (now (a .arguments)) (now (a .blocks)) (now (a .predecessors)) kept (pre .0) (a .known)
-          (pre .1) (pre .3) (pre .4) (pre .6) (n .given .0 .0) (parse .last .1 .1 .0) (parse .last .1 .1 .1 .0)
-          (parse .last .1 .1 .1 .1 .0) (parse .last .1 .1 .1 .1 .1 .0) (parse .last .1 .1 .1 .1 .1 .1 .0) parsed
-          (keeps .last .1 .1 .1 .1 .1 .1 .0) (place .last .1 .1 .1 .1 .1 .1 .1 .0) (place .last .0) (place .result) room (place .ensures),
-    )
+    let room : 2881 ≤ length (keeps .last .1 .1 .1 .1 .1 .1 .0) =
+    omega (arith, pre .5, keeps .kept .1 .1 .1 .1 .1 .1 .0) in
+    typing-asks (now (a .old)) (now (a .rows)) (a .number) (now (a .new)) (tokensOf (now (a .tokens)))
+    (now (a .names)) (now (a .functions)) (now (a .items)) (now (a .arguments)) (now (a .blocks))
+    (now (a .predecessors))
+    kept (pre .0) (a .known) (pre .1) (pre .3) (pre .4) (pre .6) (n .given .0 .0)
+    (parse .last .1 .1 .0) (parse .last .1 .1 .1 .0) (parse .last .1 .1 .1 .1 .0) (parse .last .1 .1 .1 .1 .1 .0)
+    (parse .last .1 .1 .1 .1 .1 .1 .0) parsed
+    (keeps .last .1 .1 .1 .1 .1 .1 .0) (place .last .1 .1 .1 .1 .1 .1 .1 .0) (place .last .0) (place .result) room
+    (place .ensures) (omega (arith, room, place .kept .1 .1 .1 .1 .1 .1 .1 .0))
 
 returns-2 : tie.Need-returns-2
 returns-2 c =
@@ -104,11 +98,10 @@ returns-2 c =
     let parse = back8 .before .before .before .before .before .parse-alone in
     let e = c .before .e in
     let kept = sym (keeps .ensures) ∙ not-false (keeps .result) (same .left) in
-    refused-whole (now (a .old)) (now (a .rows)) (a .number) (now (a .new)) (tokensOf (now (a .tokens))) (now (a .names)) (now (a .functions))
-    (now (a .items)) (now (a .arguments)) (now (a .blocks)) (now (a .predecessors))
-    (parse-refuses (now (a .old)) (now (a .rows)) (a .number) (now (a .new)) (tokensOf (now (a .tokens))) (now (a .names)) (now (a .functions))
-    (now (a .items)) (now (a .arguments)) (now (a .blocks)) (now (a .predecessors)) kept _
-    (sym (e .given .1) ∙ parse .ensures .0)) _
+    parse-refused (now (a .old)) (now (a .rows)) (a .number) (now (a .new)) (tokensOf (now (a .tokens)))
+    (now (a .names)) (now (a .functions)) (now (a .items)) (now (a .arguments)) (now (a .blocks))
+    (now (a .predecessors))
+    kept _ (sym (e .given .1) ∙ parse .ensures .0) _
 
 returns-3 : tie.Need-returns-3
 returns-3 c =
@@ -131,18 +124,22 @@ returns-3 c =
     let parsed =
     parsed-is (tokensOf (now (a .tokens))) (now (a .names)) (n .given .0 .0)
     (slices (now (a .functions)) (now (a .items)) (now (a .arguments)) (now (a .blocks)) (now (a .predecessors)))
-    (slices (parse .last .1 .1 .0) (parse .last .1 .1 .1 .0)
-    (parse .last .1 .1 .1 .1 .0) (parse .last .1 .1 .1 .1 .1 .0) (parse .last .1 .1 .1 .1 .1 .1 .0))
+    (slices (parse .last .1 .1 .0) (parse .last .1 .1 .1 .0) (parse .last .1 .1 .1 .1 .0)
+    (parse .last .1 .1 .1 .1 .1 .0)
+    (parse .last .1 .1 .1 .1 .1 .1 .0))
     (sym (n .given .1) ∙ parse .ensures .0) (parse .ensures .1) in
-    let room : 2881 ≤ length (keeps .last .1 .1 .1 .1 .1 .1 .0) = omega (arith, pre .5, keeps .kept .1 .1 .1 .1 .1 .1 .0) in
-    refused-whole (now (a .old)) (now (a .rows)) (a .number) (now (a .new)) (tokensOf (now (a .tokens))) (now (a .names)) (now (a .functions))
-    (now (a .items)) (now (a .arguments)) (now (a .blocks)) (now (a .predecessors))
-    (types-refuse (now (a .old)) (now (a .rows)) (a .number) (now (a .new)) (tokensOf (now (a .tokens))) (now (a .names)) (now (a .functions))
-    (now (a .items)) (now (a .arguments)) (now (a .blocks)) (now (a .predecessors)) kept (pre .0) (a .known)
-    (pre .1) (pre .3) (pre .4) (pre .6) (n .given .0 .0) (parse .last .1 .1 .0) (parse .last .1 .1 .1 .0)
-    (parse .last .1 .1 .1 .1 .0) (parse .last .1 .1 .1 .1 .1 .0) (parse .last .1 .1 .1 .1 .1 .1 .0) parsed
-    (keeps .last .1 .1 .1 .1 .1 .1 .0) (place .last .1 .1 .1 .1 .1 .1 .1 .0) (place .last .0) (place .result) room (place .ensures)
-    (types .result) (types .last .1 .1 .1 .1 .1 .0) (types .last .1 .1 .1 .1 .1 .1 .0) (types .ensures) _ (e .given .1)) _
+    let room : 2881 ≤ length (keeps .last .1 .1 .1 .1 .1 .1 .0) =
+    omega (arith, pre .5, keeps .kept .1 .1 .1 .1 .1 .1 .0) in
+    types-refused (now (a .old)) (now (a .rows)) (a .number) (now (a .new)) (tokensOf (now (a .tokens)))
+    (now (a .names)) (now (a .functions)) (now (a .items)) (now (a .arguments)) (now (a .blocks))
+    (now (a .predecessors))
+    kept (pre .0) (a .known) (pre .1) (pre .3) (pre .4) (pre .6) (n .given .0 .0)
+    (parse .last .1 .1 .0) (parse .last .1 .1 .1 .0) (parse .last .1 .1 .1 .1 .0) (parse .last .1 .1 .1 .1 .1 .0)
+    (parse .last .1 .1 .1 .1 .1 .1 .0) parsed
+    (keeps .last .1 .1 .1 .1 .1 .1 .0) (place .last .1 .1 .1 .1 .1 .1 .1 .0) (place .last .0) (place .result) room
+    (place .ensures)
+    (types .result) (types .last .1 .1 .1 .1 .1 .0) (types .last .1 .1 .1 .1 .1 .1 .0) (types .ensures) _
+    (e .given .1) _
 
 returns-4 : tie.Need-returns-4
 returns-4 c =
@@ -165,16 +162,23 @@ returns-4 c =
     let parsed =
     parsed-is (tokensOf (now (a .tokens))) (now (a .names)) (n .given .0 .0)
     (slices (now (a .functions)) (now (a .items)) (now (a .arguments)) (now (a .blocks)) (now (a .predecessors)))
-    (slices (parse .last .1 .1 .0) (parse .last .1 .1 .1 .0)
-    (parse .last .1 .1 .1 .1 .0) (parse .last .1 .1 .1 .1 .1 .0) (parse .last .1 .1 .1 .1 .1 .1 .0))
+    (slices (parse .last .1 .1 .0) (parse .last .1 .1 .1 .0) (parse .last .1 .1 .1 .1 .0)
+    (parse .last .1 .1 .1 .1 .1 .0)
+    (parse .last .1 .1 .1 .1 .1 .1 .0))
     (sym (n .given .1) ∙ parse .ensures .0) (parse .ensures .1) in
-    let room : 2881 ≤ length (keeps .last .1 .1 .1 .1 .1 .1 .0) = omega (arith, pre .5, keeps .kept .1 .1 .1 .1 .1 .1 .0) in
-    fine-whole (now (a .old)) (now (a .rows)) (a .number) (now (a .new)) (tokensOf (now (a .tokens))) (now (a .names)) (now (a .functions))
-    (now (a .items)) (now (a .arguments)) (now (a .blocks)) (now (a .predecessors)) kept (pre .0) (a .known)
-    (pre .1) (pre .3) (pre .4) (pre .6) (n .given .0 .0) (parse .last .1 .1 .0) (parse .last .1 .1 .1 .0)
-    (parse .last .1 .1 .1 .1 .0) (parse .last .1 .1 .1 .1 .1 .0) (parse .last .1 .1 .1 .1 .1 .1 .0) parsed
-    (keeps .last .1 .1 .1 .1 .1 .1 .0) (place .last .1 .1 .1 .1 .1 .1 .1 .0) (place .last .0) (place .result) room (place .ensures)
+    let room : 2881 ≤ length (keeps .last .1 .1 .1 .1 .1 .1 .0) =
+    omega (arith, pre .5, keeps .kept .1 .1 .1 .1 .1 .1 .0) in
+    types-fine (now (a .old)) (now (a .rows)) (a .number) (now (a .new)) (tokensOf (now (a .tokens)))
+    (now (a .names)) (now (a .functions)) (now (a .items)) (now (a .arguments)) (now (a .blocks))
+    (now (a .predecessors))
+    kept (pre .0) (a .known) (pre .1) (pre .3) (pre .4) (pre .6) (n .given .0 .0)
+    (parse .last .1 .1 .0) (parse .last .1 .1 .1 .0) (parse .last .1 .1 .1 .1 .0) (parse .last .1 .1 .1 .1 .1 .0)
+    (parse .last .1 .1 .1 .1 .1 .1 .0) parsed
+    (keeps .last .1 .1 .1 .1 .1 .1 .0) (place .last .1 .1 .1 .1 .1 .1 .1 .0) (place .last .0) (place .result) room
+    (place .ensures)
     (types .result) (types .last .1 .1 .1 .1 .1 .0) (types .last .1 .1 .1 .1 .1 .1 .0) (types .ensures) (fine .given .1)
+
+-- Lengths, where a slice went through several calls. ------------------------------------------------------------------
 
 same-length-8 : tie.Need-same-length-8
 same-length-8 c =
@@ -300,7 +304,8 @@ build-spec =
     place-alone-requires
     type-rows-requires
     (λ c. search needs) (λ c. search needs)
-    (λ c. search needs) (λ c. search needs) (λ c. search needs) (λ c. search needs) (λ c. search needs) (λ c. search needs)
+    (λ c. search needs) (λ c. search needs) (λ c. search needs) (λ c. search needs) (λ c. search needs)
+    (λ c. search needs)
     returns-2
     same-length-8 same-length-9 same-length-10 same-length-11 same-length-12 same-length-13
     returns-3

@@ -37,7 +37,8 @@ build-requires c κs =
       omega arith,
       zero-now
           (slices (now (a .functions)) (now (a .items)) (now (a .arguments)) (now (a .blocks)) (now (a .predecessors)))
-          (slices (cleared .last .0) (cleared .last .1 .0) (cleared .last .1 .1 .0) (cleared .last .1 .1 .1 .0) (cleared .last .1 .1 .1 .1 .0))
+          (slices (cleared .last .0) (cleared .last .1 .0) (cleared .last .1 .1 .0) (cleared .last .1 .1 .1 .0)
+          (cleared .last .1 .1 .1 .1 .0))
           (cleared .ensures),
     )
 
@@ -59,9 +60,12 @@ returns c =
             (calleesSpelled (now (a .old)) (now (a .rows)) (now (a .new)) (now (a .names)))
             (getD (now (a .rows)) (typeAt (a .number)) 0)
             (now (a .functions)) (now (a .items)) (now (a .arguments)) (now (a .blocks)) (now (a .predecessors))
-            (cleared .last .0) (cleared .last .1 .0) (cleared .last .1 .1 .0) (cleared .last .1 .1 .1 .0) (cleared .last .1 .1 .1 .1 .0)
-            (cleared .kept .0) (cleared .kept .1 .0) (cleared .kept .1 .1 .0) (cleared .kept .1 .1 .1 .0) (cleared .kept .1 .1 .1 .1 .0)
-            (verdictD (now (a .old)) (now (a .rows)) (a .number) (now (a .new)) (now (a .names)) (tokensOf (now (a .tokens))))
+            (cleared .last .0) (cleared .last .1 .0) (cleared .last .1 .1 .0) (cleared .last .1 .1 .1 .0)
+            (cleared .last .1 .1 .1 .1 .0)
+            (cleared .kept .0) (cleared .kept .1 .0) (cleared .kept .1 .1 .0) (cleared .kept .1 .1 .1 .0)
+            (cleared .kept .1 .1 .1 .1 .0)
+            (verdictD (now (a .old)) (now (a .rows)) (a .number) (now (a .new)) (now (a .names))
+            (tokensOf (now (a .tokens))))
             (n .given .0 .0) _ done (build .ensures .1 .0),
         subst Counted (n .given .1) (build .ensures .1 .1),
       ),
@@ -88,13 +92,16 @@ returns-2 c =
             (calleesSpelled (now (a .old)) (now (a .rows)) (now (a .new)) (now (a .names)))
             (getD (now (a .rows)) (typeAt (a .number)) 0)
             (now (a .functions)) (now (a .items)) (now (a .arguments)) (now (a .blocks)) (now (a .predecessors))
-            (build .last .1 .1 .1 .1 .1 .1 .1 .0) (build .last .1 .1 .1 .1 .1 .1 .1 .1 .0) (build .last .1 .1 .1 .1 .1 .1 .1 .1 .1 .0) (build .last .1 .1 .1 .1 .1 .1 .1 .1 .1 .1 .0) (build .last .1 .1 .1 .1 .1 .1 .1 .1 .1 .1 .1 .0)
+            (build .last .1 .1 .1 .1 .1 .1 .1 .0) (build .last .1 .1 .1 .1 .1 .1 .1 .1 .0)
+            (build .last .1 .1 .1 .1 .1 .1 .1 .1 .1 .0) (build .last .1 .1 .1 .1 .1 .1 .1 .1 .1 .1 .0)
+            (build .last .1 .1 .1 .1 .1 .1 .1 .1 .1 .1 .1 .0)
             (build .kept .1 .1 .1 .1 .1 .1 .1 .0 ∙ cleared .kept .0)
             (build .kept .1 .1 .1 .1 .1 .1 .1 .1 .0 ∙ cleared .kept .1 .0)
             (build .kept .1 .1 .1 .1 .1 .1 .1 .1 .1 .0 ∙ cleared .kept .1 .1 .0)
             (build .kept .1 .1 .1 .1 .1 .1 .1 .1 .1 .1 .0 ∙ cleared .kept .1 .1 .1 .0)
             (build .kept .1 .1 .1 .1 .1 .1 .1 .1 .1 .1 .1 .0 ∙ cleared .kept .1 .1 .1 .1 .0)
-            (verdictD (now (a .old)) (now (a .rows)) (a .number) (now (a .new)) (now (a .names)) (tokensOf (now (a .tokens))))
+            (verdictD (now (a .old)) (now (a .rows)) (a .number) (now (a .new)) (now (a .names))
+            (tokensOf (now (a .tokens))))
             _ _ refused (again .ensures),
         tt,
       ),
