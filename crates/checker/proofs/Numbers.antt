@@ -32,11 +32,11 @@ use Rattle.checker.proofs.Lexed.{within, lexed-itself}
 use Rattle.checker.proofs.ParsedNumbers.{Fine, FineC, Is, functions-fine}
 use Rattle.checker.proofs.TypedNumbers.{FineT, typed-fine}
 
-fine-listed : {e : Refusal} → Fine e → Listed (e .number)
+pub fine-listed : {e : Refusal} → Fine e → Listed (e .number)
 fine-listed (Fine.low h g) = inl (leb-true _ _ h, leb-true _ _ g)
 fine-listed (Fine.high h g) = inr (leb-true _ _ h, leb-true _ _ g)
 
-lexing-listed : (r : pieces.Refusal) → Listed (factsOf r .number)
+pub lexing-listed : (r : pieces.Refusal) → Listed (factsOf r .number)
 lexing-listed (R.NotAscii line) = inl (omega arith, omega arith)
 lexing-listed (R.CommentNotClosed c) = inl (omega arith, omega arith)
 lexing-listed (R.UnexpectedByte b c) = inl (omega arith, omega arith)

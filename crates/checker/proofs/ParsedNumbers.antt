@@ -265,7 +265,7 @@ module _ (ts : List Tok) (last : ℕ) (ends : tokenAt ts last .kind ≡ 38) wher
     found : (items : List Item) (i : ℕ) → i ≤ last → BuiltOn (built items i)
     refused : (e : Refusal) → Fine e → BuiltOn (notBuilt e)
 
-  data FunctionOn : FunctionAt → Type 0 where
+  pub data FunctionOn : FunctionAt → Type 0 where
     found : (f : Function) → f .next ≤ last → FunctionOn (function f)
     refused : (e : Refusal) → Fine e → FunctionOn (noFunction e)
 
@@ -330,7 +330,7 @@ module _ (ts : List Tok) (last : ℕ) (ends : tokenAt ts last .kind ≡ 38) wher
     after-header i k (Is.so (FineH.found h next)) l g = g h next (l .1)
     after-header i k (Is.so (FineH.refused e f)) l g = FunctionOn.refused e f
 
-    function-on : (full : Bool) (known : List Known) (types i : ℕ) → i ≤ last
+    pub function-on : (full : Bool) (known : List Known) (types i : ℕ) → i ≤ last
         → FunctionOn (functionD ts full known types i)
     unfolding functionD
     function-on full known types i h =
