@@ -14,3 +14,5 @@ pub mod Kept
 pub mod Parsed
 -- how a recheck ends
 pub mod Ends
+-- every number is one of document 01's for recheck
+pub mod Numbers

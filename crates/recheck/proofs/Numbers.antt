@@ -1,0 +1,231 @@
+-- Every number of `recheck` is one of document 01's: 0 for a new function that is accepted, 42 for a header table that
+-- isn't one, a listed number for any other, and 30 where a lent slice is too short. By cases over the table, over
+-- lexing, then over what parsing and typing make of the tokens.
+use Prim.Native.Nat.{ℕ, _≤_}
+use mathlib.Core.Path.{_≡_, refl, sym, ap, _∙_}
+use mathlib.Core.Logic.{_⊎_, inl, inr}
+use mathlib.Core.Bool.{Bool, true, false}
+use mathlib.Core.List.{List, []}
+use native.Mathlib.Omega.{arith}
+use borrow.Author.Tests.{leb-true, ne-eqb}
+use lib.Dec.{eqb}
+use lib.ListN.{getD}
+use Rattle.utils.specs.Bytes.{pick}
+use Rattle.pieces.specs.Refusals.{factsOf}
+use Rattle.pieces.specs.declared.Token.{Token}
+use Rattle.pieces.specs.declared.Refusal as pieces
+use Rattle.pieces.specs.declared.Refusal.the-variants as R
+use Rattle.pieces.proofs.Progress.{pick-either}
+use Rattle.lexer.specs.Numbered as lexes
+use Rattle.lexer.specs.Numbered.{Part, tokensCells, namesCells}
+use Rattle.lexer.specs.Read.{lexedFrom}
+use Rattle.lexer.specs.Decoded.{Tok, tokensOf, tokenAt}
+use Rattle.lexer.proofs.Sound.{never-cut}
+use Rattle.lexer.proofs.Accepted.{refusal-number}
+use Rattle.parser.specs.Step.{refusal, look}
+use Rattle.parser.specs.declared.Refusal.{Refusal}
+use Rattle.body.specs.Room.{Within}
+use Rattle.functions.specs.Functions.{Function, FunctionAt, function, noFunction, thenFunction}
+use Rattle.functions.specs.Answer.{Slices}
+use Rattle.sema.specs.Symbols.{Typed}
+use Rattle.sema.specs.Typing.{Global}
+use Rattle.typing.specs.Outcome.{untyped}
+use Rattle.checker.specs.Header.{lineAt}
+use Rattle.checker.specs.Promise.{allSized}
+use Rattle.checker.proofs.Lexed.{within, lexed-itself}
+use Rattle.checker.proofs.ParsedNumbers.{Fine, Is, FunctionOn, function-on}
+use Rattle.checker.proofs.TypedNumbers.{FineT, function-fine}
+use Rattle.recheck.specs.Table.{isTable}
+use Rattle.recheck.specs.Spelled.{globalsSpelled}
+use Rattle.recheck.specs.Recheck.{isWhole, Verdict, refuses, accepts, typedAs, aloneD, functionAlone, verdictD}
+use Rattle.recheck.specs.Recheck.{recheckOf}
+use Rattle.recheck.specs.Promise.{recheckDef}
+use Rattle.recheck.specs.Numbers.{Listed, Accepts, Numbered}
+use Rattle.recheck.proofs.Ends.{bad-table}
+
+low : {n : ℕ} → 1 ≤ n → n ≤ 22 → Listed n
+low h g = inl (h, g)
+
+lexing : {n : ℕ} → 31 ≤ n → n ≤ 34 → Listed n
+lexing h g = inr (inl (h, g))
+
+high : {n : ℕ} → 36 ≤ n → n ≤ 38 → Listed n
+high h g = inr (inr (inl (h, g)))
+
+own : {n : ℕ} → 40 ≤ n → n ≤ 41 → Listed n
+own h g = inr (inr (inr (h, g)))
+
+fine-listed : {e : Refusal} → Fine e → Listed (e .number)
+fine-listed (Fine.low h g) = low (leb-true _ _ h) (leb-true _ _ g)
+fine-listed (Fine.high h g) = high (leb-true _ _ h) (leb-true _ _ g)
+
+lexing-listed : (r : pieces.Refusal) → Listed (factsOf r .number)
+lexing-listed (R.NotAscii line) = low (omega arith) (omega arith)
+lexing-listed (R.CommentNotClosed c) = low (omega arith) (omega arith)
+lexing-listed (R.UnexpectedByte b c) = low (omega arith) (omega arith)
+lexing-listed (R.NumberExpected c) = low (omega arith) (omega arith)
+lexing-listed R.TooManyBytes = lexing (omega arith) (omega arith)
+lexing-listed (R.TooManyTokens c) = lexing (omega arith) (omega arith)
+lexing-listed (R.TooManyNames c) = lexing (omega arith) (omega arith)
+lexing-listed (R.NameTooLong c) = lexing (omega arith) (omega arith)
+
+-- What parsing and typing make of the tokens. ------------------------------------------------------------------------
+
+abbrev IfRefused : Verdict → Type 0
+IfRefused (accepts f symbols) = Unit
+IfRefused (refuses e) = Listed (e .number)
+
+typing-listed : (f : Function) {x : Typed} → Is FineT x → IfRefused (typedAs f x)
+typing-listed f (Is.so (FineT.fine t)) = tt
+typing-listed f (Is.so (FineT.refused t e h)) = fine-listed h
+
+-- a function or a listed refusal, and what follows it
+abbrev IfNone : FunctionAt → Type 0
+IfNone (function f) = Unit
+IfNone (noFunction e) = Listed (e .number)
+
+then-none : (x : FunctionAt) (k : Function → FunctionAt) → IfNone x → ((f : Function) → IfNone (k f))
+    → IfNone (thenFunction noFunction x k)
+unfolding thenFunction
+then-none (function f) k h g = g f
+then-none (noFunction e) k h g = h
+
+then-refused : (x : FunctionAt) (k : Function → Verdict) → IfNone x → ((f : Function) → IfRefused (k f))
+    → IfRefused (thenFunction refuses x k)
+unfolding thenFunction
+then-refused (function f) k h g = g f
+then-refused (noFunction e) k h g = h
+
+module _ (ts : List Tok) (w : Within ts 0) where
+  parsing-listed : {x : FunctionAt} → FunctionOn ts (w .last) (w .ends) false x → IfNone x
+  parsing-listed (FunctionOn.found f h) = tt
+  parsing-listed (FunctionOn.refused e h) = fine-listed h
+  parsing-listed (FunctionOn.many f e h) = absurd (let z : _≡_ {A = ℕ} 0 1 = cc in omega arith)
+
+  alone-listed : IfNone (aloneD ts)
+  unfolding aloneD look
+  alone-listed =
+      then-none _ _ (parsing-listed (function-on ts (w .last) (w .ends) (w .few) false [] 0 0 (w .reached))) (λ f.
+      pick-either IfNone (eqb (tokenAt ts (f .next) .kind) 38) _ _ (λ t. tt) (λ t.
+      pick-either IfNone (eqb (tokenAt ts (f .next) .kind) 2) _ _ (λ u. own (omega arith) (omega arith)) (λ u.
+      low (omega arith) (omega arith))))
+
+  function-listed : (globals : ℕ → Global) → IfRefused (functionAlone ts globals)
+  unfolding functionAlone
+  function-listed globals =
+      then-refused (aloneD ts) _ alone-listed (λ f. typing-listed f (function-fine ts globals f untyped))
+
+  verdict-listed : (old table : List ℕ) (number : ℕ) (new names : List ℕ)
+      → IfRefused (verdictD old table number new names ts)
+  verdict-listed old table number new names =
+      pick-either IfRefused _ _ _ (λ t. function-listed (globalsSpelled old table new names)) (λ t.
+      own (omega arith) (omega arith))
+
+-- The whole. ---------------------------------------------------------------------------------------------------------
+
+listed-above : (n : ℕ) → Listed n → 1 ≤ n
+listed-above n (inl h) = h .0
+listed-above n (inr (inl h)) = omega (arith, h .0)
+listed-above n (inr (inr (inl h))) = omega (arith, h .0)
+listed-above n (inr (inr (inr h))) = omega (arith, h .0)
+
+listed-below : (n : ℕ) → Listed n → n ≤ 41
+listed-below n (inl h) = omega (arith, h .1)
+listed-below n (inr (inl h)) = omega (arith, h .1)
+listed-below n (inr (inr (inl h))) = omega (arith, h .1)
+listed-below n (inr (inr (inr h))) = h .1
+
+listed-not-30 : (n : ℕ) → Listed n → n ≡ 30 → ⊥
+listed-not-30 n (inl h) z = omega (arith, h .1)
+listed-not-30 n (inr (inl h)) z = omega (arith, h .0)
+listed-not-30 n (inr (inr (inl h))) z = omega (arith, h .0)
+listed-not-30 n (inr (inr (inr h))) z = omega (arith, h .0)
+
+module _ (old table : List ℕ) (number : ℕ) (new : List ℕ) where
+  abbrev answered : ℕ
+  answered = recheckOf old table number new .answer .number
+
+  accepted-zero : Accepts old table number new → answered ≡ 0
+  unfolding recheckOf pick
+  accepted-zero a = rw (a .good, a .lexed, a .whole, a .typed)
+
+  refused-numbered : Listed answered ⊎ (answered ≡ 42) → Numbered old table number new answered
+  refused-numbered (inl l) = inr (λ a. omega (arith, accepted-zero a, listed-above _ l), inl l)
+  refused-numbered (inr e) = inr (λ a. omega (arith, accepted-zero a, e), inr e)
+
+  -- a table that is in range: accepted and 0, or a listed number
+  module _ (good : isTable old table number ≡ true) where
+    abbrev Answered : Type 0
+    Answered = (Accepts old table number new × (answered ≡ 0)) ⊎ Listed answered
+
+    module _ (toks : List Token) (ns : List Part)
+        (p : lexedFrom (getD table (lineAt number) 0) new ≡ lexes.Outcome.done toks ns) where
+      abbrev ts : List Tok
+      ts = tokensOf (tokensCells toks)
+
+      abbrev verdict : Verdict
+      verdict = verdictD old table number new (namesCells ns) ts
+
+      by-verdict : isWhole new ts ≡ true → (o : Verdict) → verdict ≡ o → IfRefused o → Answered
+      unfolding recheckOf pick
+      by-verdict h (accepts f symbols) q l =
+          inl (record {
+            tokens = toks;
+            names = ns;
+            function = f;
+            symbols = symbols;
+            good = good;
+            lexed = p;
+            whole = h;
+            typed = q;
+          }, rw (good, p, h, q))
+      by-verdict h (refuses e) q l = inr (rw (good, p, h, q) l)
+
+      by-whole : (b : Bool) → isWhole new ts ≡ b → Answered
+      unfolding recheckOf pick
+      by-whole true h =
+          by-verdict h verdict refl
+          (verdict-listed ts (rw p at (within (lexed-itself (getD table (lineAt number) 0) new (rw p)))) old table number
+          new (namesCells ns))
+      by-whole false h = inr (rw (good, p, h) (own (omega arith) (omega arith)))
+
+    by-lexing : (o : lexes.Outcome) → lexedFrom (getD table (lineAt number) 0) new ≡ o → Answered
+    unfolding recheckOf pick
+    by-lexing (lexes.Outcome.done toks ns) p = by-whole toks ns p (isWhole new (tokensOf (tokensCells toks))) refl
+    by-lexing (lexes.Outcome.refused r) p = inr (rw (good, p, ne-eqb _ _ (refusal-number r)) (lexing-listed r))
+    by-lexing lexes.Outcome.cut p = absurd (never-cut _ new p)
+
+    in-range-answered : Answered
+    in-range-answered = by-lexing (lexedFrom (getD table (lineAt number) 0) new) refl
+
+  by-answer : (b : Bool) → isTable old table number ≡ b → Numbered old table number new answered
+  by-answer true e = from (in-range-answered e)
+    where
+      from : (Accepts old table number new × (answered ≡ 0)) ⊎ Listed answered → Numbered old table number new answered
+      from (inl h) = inl h
+      from (inr l) = refused-numbered (inl l)
+  by-answer false e = refused-numbered (inr (bad-number e))
+    where
+      bad-number : isTable old table number ≡ false → answered ≡ 42
+      unfolding recheckOf pick
+      bad-number h = rw h
+
+  -- EVERY NUMBER IS LISTED OR 42, and is 0 exactly where the new function is accepted
+  pub every-number : Numbered old table number new answered
+  every-number = by-answer (isTable old table number) refl
+
+  -- 42 IS THE TABLE'S: it is given exactly where the header table isn't one
+  pub forty-two-is-the-table : answered ≡ 42 → isTable old table number ≡ false
+  forty-two-is-the-table = by (isTable old table number) refl
+    where
+      in-range : (Accepts old table number new × (answered ≡ 0)) ⊎ Listed answered → answered ≡ 42 → ⊥
+      in-range (inl h) z = omega (arith, h .1, z)
+      in-range (inr l) z = omega (arith, listed-below _ l, z)
+
+      by : (b : Bool) → isTable old table number ≡ b → answered ≡ 42 → b ≡ false
+      by true e z = absurd (in-range (in-range-answered e) z)
+      by false e z = refl
+
+  pub bad-table-gives-forty-two : isTable old table number ≡ false → answered ≡ 42
+  unfolding recheckOf pick
+  bad-table-gives-forty-two h = rw h
