@@ -16,3 +16,5 @@ pub mod Parsed
 pub mod Ends
 -- every number is one of document 01's for recheck
 pub mod Numbers
+-- equal answers; the table of an accepted check is never refused
+pub mod Laws

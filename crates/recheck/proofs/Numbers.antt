@@ -2,7 +2,7 @@
 -- isn't one, a listed number for any other, and 30 where a lent slice is too short. By cases over the table, over
 -- lexing, then over what parsing and typing make of the tokens.
 use Prim.Native.Nat.{ℕ, _≤_}
-use mathlib.Core.Path.{_≡_, refl, sym, ap, _∙_}
+use mathlib.Core.Path.{_≡_, refl, sym, ap, subst, _∙_}
 use mathlib.Core.Logic.{_⊎_, inl, inr}
 use mathlib.Core.Bool.{Bool, true, false}
 use mathlib.Core.List.{List, []}
@@ -18,7 +18,7 @@ use Rattle.pieces.specs.declared.Refusal.the-variants as R
 use Rattle.pieces.proofs.Progress.{pick-either}
 use Rattle.lexer.specs.Numbered as lexes
 use Rattle.lexer.specs.Numbered.{Part, tokensCells, namesCells}
-use Rattle.lexer.specs.Read.{lexedFrom}
+use Rattle.lexer.specs.Read.{Reading, lexedFrom, readingOf}
 use Rattle.lexer.specs.Decoded.{Tok, tokensOf, tokenAt}
 use Rattle.lexer.proofs.Sound.{never-cut}
 use Rattle.lexer.proofs.Accepted.{refusal-number}
@@ -26,22 +26,24 @@ use Rattle.parser.specs.Step.{refusal, look}
 use Rattle.parser.specs.declared.Refusal.{Refusal}
 use Rattle.body.specs.Room.{Within}
 use Rattle.functions.specs.Functions.{Function, FunctionAt, function, noFunction, thenFunction}
+use Rattle.functions.specs.Rows.{typeAt}
 use Rattle.functions.specs.Answer.{Slices}
 use Rattle.sema.specs.Symbols.{Typed}
 use Rattle.sema.specs.Typing.{Global}
 use Rattle.typing.specs.Outcome.{untyped}
 use Rattle.checker.specs.Header.{lineAt}
-use Rattle.checker.specs.Promise.{allSized}
+use Rattle.checker.specs.Check as check
+use Rattle.checker.specs.Check.{Checking}
+use Rattle.checker.specs.Promise.{checking, allSized}
 use Rattle.checker.proofs.Lexed.{within, lexed-itself}
 use Rattle.checker.proofs.ParsedNumbers.{Fine, Is, FunctionOn, function-on}
 use Rattle.checker.proofs.TypedNumbers.{FineT, function-fine}
 use Rattle.recheck.specs.Table.{isTable}
-use Rattle.recheck.specs.Spelled.{globalsSpelled}
+use Rattle.recheck.specs.Spelled.{globalsSpelled, calleesSpelled}
 use Rattle.recheck.specs.Recheck.{isWhole, Verdict, refuses, accepts, typedAs, aloneD, functionAlone, verdictD}
-use Rattle.recheck.specs.Recheck.{recheckOf}
+use Rattle.recheck.specs.Recheck.{verdictAs, recheckOf}
 use Rattle.recheck.specs.Promise.{recheckDef}
 use Rattle.recheck.specs.Numbers.{Listed, Accepts, Numbered}
-use Rattle.recheck.proofs.Ends.{bad-table}
 
 low : {n : ℕ} → 1 ≤ n → n ≤ 22 → Listed n
 low h g = inl (h, g)
@@ -123,6 +125,15 @@ module _ (ts : List Tok) (w : Within ts 0) where
 
 -- The whole. ---------------------------------------------------------------------------------------------------------
 
+abbrev numberOf : Verdict → ℕ
+numberOf (accepts f symbols) = 0
+numberOf (refuses e) = e .number
+
+number-as : (new : List ℕ) (r : Reading) (ts : List Tok) (callees : ℕ → ℕ) (type : ℕ) (o : Verdict)
+    → verdictAs new r ts callees type o .answer .number ≡ numberOf o
+number-as new r ts callees type (accepts f symbols) = refl
+number-as new r ts callees type (refuses e) = refl
+
 listed-above : (n : ℕ) → Listed n → 1 ≤ n
 listed-above n (inl h) = h .0
 listed-above n (inr (inl h)) = omega (arith, h .0)
@@ -142,90 +153,131 @@ listed-not-30 n (inr (inr (inl h))) z = omega (arith, h .0)
 listed-not-30 n (inr (inr (inr h))) z = omega (arith, h .0)
 
 module _ (old table : List ℕ) (number : ℕ) (new : List ℕ) where
-  abbrev answered : ℕ
-  answered = recheckOf old table number new .answer .number
-
-  accepted-zero : Accepts old table number new → answered ≡ 0
+  -- the number by the verdict on the new function
+  number-by : (toks : List Token) (ns : List Part) (o : Verdict) → isTable old table number ≡ true
+      → lexedFrom (getD table (lineAt number) 0) new ≡ lexes.Outcome.done toks ns
+      → isWhole new (tokensOf (tokensCells toks)) ≡ true
+      → verdictD old table number new (namesCells ns) (tokensOf (tokensCells toks)) ≡ o
+      → recheckOf old table number new .answer .number ≡ numberOf o
   unfolding recheckOf pick
-  accepted-zero a = rw (a .good, a .lexed, a .whole, a .typed)
+  number-by toks ns o good p h q =
+      let ts = tokensOf (tokensCells toks) in
+      let r : Reading = readingOf (lexes.Outcome.done toks ns) in
+      let callees : ℕ → ℕ = calleesSpelled old table new (namesCells ns) in
+      let said : Verdict → Checking = verdictAs new r ts callees (getD table (typeAt number) 0) in
+      ap (λ (x : Checking). x .answer .number) (as-verdict good p h) ∙ ap (λ (w : Verdict). said w .answer .number) q
+      ∙ number-as new r ts callees (getD table (typeAt number) 0) o
+    where
+      as-verdict : isTable old table number ≡ true
+          → lexedFrom (getD table (lineAt number) 0) new ≡ lexes.Outcome.done toks ns
+          → isWhole new (tokensOf (tokensCells toks)) ≡ true
+          → recheckOf old table number new
+          ≡ verdictAs new (readingOf (lexes.Outcome.done toks ns)) (tokensOf (tokensCells toks))
+          (calleesSpelled old table new (namesCells ns)) (getD table (typeAt number) 0)
+          (verdictD old table number new (namesCells ns) (tokensOf (tokensCells toks)))
+      as-verdict good p h = rw (good, p, h)
 
-  refused-numbered : Listed answered ⊎ (answered ≡ 42) → Numbered old table number new answered
-  refused-numbered (inl l) = inr (λ a. omega (arith, accepted-zero a, listed-above _ l), inl l)
-  refused-numbered (inr e) = inr (λ a. omega (arith, accepted-zero a, e), inr e)
+  accepted-zero : Accepts old table number new → recheckOf old table number new .answer .number ≡ 0
+  accepted-zero a =
+      number-by (a .tokens) (a .names) (accepts (a .function) (a .symbols)) (a .good) (a .lexed) (a .whole) (a .typed)
 
-  -- a table that is in range: accepted and 0, or a listed number
+  -- a table that isn't one
+  bad-number : isTable old table number ≡ false → recheckOf old table number new .answer .number ≡ 42
+  unfolding recheckOf pick
+  bad-number h = rw h
+
+  -- one that is: a new function that is accepted, or a listed number
   module _ (good : isTable old table number ≡ true) where
-    abbrev Answered : Type 0
-    Answered = (Accepts old table number new × (answered ≡ 0)) ⊎ Listed answered
+    by-verdict : (toks : List Token) (ns : List Part)
+        → lexedFrom (getD table (lineAt number) 0) new ≡ lexes.Outcome.done toks ns
+        → isWhole new (tokensOf (tokensCells toks)) ≡ true
+        → (o : Verdict) → verdictD old table number new (namesCells ns) (tokensOf (tokensCells toks)) ≡ o → IfRefused o
+        → Accepts old table number new ⊎ Listed (recheckOf old table number new .answer .number)
+    by-verdict toks ns p h (accepts f symbols) q l =
+        inl (record {
+          tokens = toks;
+          names = ns;
+          function = f;
+          symbols = symbols;
+          good = good;
+          lexed = p;
+          whole = h;
+          typed = q;
+        })
+    by-verdict toks ns p h (refuses e) q l = inr (subst Listed (sym (number-by toks ns (refuses e) good p h q)) l)
 
-    module _ (toks : List Token) (ns : List Part)
-        (p : lexedFrom (getD table (lineAt number) 0) new ≡ lexes.Outcome.done toks ns) where
-      abbrev ts : List Tok
-      ts = tokensOf (tokensCells toks)
+    by-whole : (toks : List Token) (ns : List Part)
+        → lexedFrom (getD table (lineAt number) 0) new ≡ lexes.Outcome.done toks ns
+        → (b : Bool) → isWhole new (tokensOf (tokensCells toks)) ≡ b
+        → Accepts old table number new ⊎ Listed (recheckOf old table number new .answer .number)
+    unfolding recheckOf pick
+    by-whole toks ns p true h =
+        by-verdict toks ns p h (verdictD old table number new (namesCells ns) (tokensOf (tokensCells toks))) refl
+        (verdict-listed _ (rw p at (within (lexed-itself (getD table (lineAt number) 0) new (rw p)))) old table number new
+        (namesCells ns))
+    by-whole toks ns p false h = inr (rw (good, p, h) (own (omega arith) (omega arith)))
 
-      abbrev verdict : Verdict
-      verdict = verdictD old table number new (namesCells ns) ts
-
-      by-verdict : isWhole new ts ≡ true → (o : Verdict) → verdict ≡ o → IfRefused o → Answered
-      unfolding recheckOf pick
-      by-verdict h (accepts f symbols) q l =
-          inl (record {
-            tokens = toks;
-            names = ns;
-            function = f;
-            symbols = symbols;
-            good = good;
-            lexed = p;
-            whole = h;
-            typed = q;
-          }, rw (good, p, h, q))
-      by-verdict h (refuses e) q l = inr (rw (good, p, h, q) l)
-
-      by-whole : (b : Bool) → isWhole new ts ≡ b → Answered
-      unfolding recheckOf pick
-      by-whole true h =
-          by-verdict h verdict refl
-          (verdict-listed ts (rw p at (within (lexed-itself (getD table (lineAt number) 0) new (rw p)))) old table number
-          new (namesCells ns))
-      by-whole false h = inr (rw (good, p, h) (own (omega arith) (omega arith)))
-
-    by-lexing : (o : lexes.Outcome) → lexedFrom (getD table (lineAt number) 0) new ≡ o → Answered
+    by-lexing : (o : lexes.Outcome) → lexedFrom (getD table (lineAt number) 0) new ≡ o
+        → Accepts old table number new ⊎ Listed (recheckOf old table number new .answer .number)
     unfolding recheckOf pick
     by-lexing (lexes.Outcome.done toks ns) p = by-whole toks ns p (isWhole new (tokensOf (tokensCells toks))) refl
     by-lexing (lexes.Outcome.refused r) p = inr (rw (good, p, ne-eqb _ _ (refusal-number r)) (lexing-listed r))
     by-lexing lexes.Outcome.cut p = absurd (never-cut _ new p)
 
-    in-range-answered : Answered
-    in-range-answered = by-lexing (lexedFrom (getD table (lineAt number) 0) new) refl
-
-  by-answer : (b : Bool) → isTable old table number ≡ b → Numbered old table number new answered
-  by-answer true e = from (in-range-answered e)
-    where
-      from : (Accepts old table number new × (answered ≡ 0)) ⊎ Listed answered → Numbered old table number new answered
-      from (inl h) = inl h
-      from (inr l) = refused-numbered (inl l)
-  by-answer false e = refused-numbered (inr (bad-number e))
-    where
-      bad-number : isTable old table number ≡ false → answered ≡ 42
-      unfolding recheckOf pick
-      bad-number h = rw h
+    good-number : Accepts old table number new ⊎ Listed (recheckOf old table number new .answer .number)
+    good-number = by-lexing (lexedFrom (getD table (lineAt number) 0) new) refl
 
   -- EVERY NUMBER IS LISTED OR 42, and is 0 exactly where the new function is accepted
-  pub every-number : Numbered old table number new answered
-  every-number = by-answer (isTable old table number) refl
+  pub every-number : Numbered old table number new (recheckOf old table number new .answer .number)
+  every-number = by-table (isTable old table number) refl
+    where
+      by-answer : Accepts old table number new ⊎ Listed (recheckOf old table number new .answer .number)
+          → Numbered old table number new (recheckOf old table number new .answer .number)
+      by-answer (inl a) = inl (a, accepted-zero a)
+      by-answer (inr l) = inr (λ a. omega (arith, accepted-zero a, listed-above _ l), inl l)
+
+      by-table : (b : Bool) → isTable old table number ≡ b
+          → Numbered old table number new (recheckOf old table number new .answer .number)
+      by-table true e = by-answer (good-number e)
+      by-table false e = inr (λ a. omega (arith, accepted-zero a, bad-number e), inr (bad-number e))
 
   -- 42 IS THE TABLE'S: it is given exactly where the header table isn't one
-  pub forty-two-is-the-table : answered ≡ 42 → isTable old table number ≡ false
-  forty-two-is-the-table = by (isTable old table number) refl
+  pub forty-two-is-the-table : recheckOf old table number new .answer .number ≡ 42 → isTable old table number ≡ false
+  forty-two-is-the-table = by-table (isTable old table number) refl
     where
-      in-range : (Accepts old table number new × (answered ≡ 0)) ⊎ Listed answered → answered ≡ 42 → ⊥
-      in-range (inl h) z = omega (arith, h .1, z)
-      in-range (inr l) z = omega (arith, listed-below _ l, z)
+      by-answer : Accepts old table number new ⊎ Listed (recheckOf old table number new .answer .number)
+          → recheckOf old table number new .answer .number ≡ 42 → ⊥
+      by-answer (inl a) z = omega (arith, accepted-zero a, z)
+      by-answer (inr l) z = omega (arith, listed-below _ l, z)
 
-      by : (b : Bool) → isTable old table number ≡ b → answered ≡ 42 → b ≡ false
-      by true e z = absurd (in-range (in-range-answered e) z)
-      by false e z = refl
+      by-table : (b : Bool) → isTable old table number ≡ b → recheckOf old table number new .answer .number ≡ 42
+          → b ≡ false
+      by-table true e z = absurd (by-answer (good-number e) z)
+      by-table false e z = refl
 
-  pub bad-table-gives-forty-two : isTable old table number ≡ false → answered ≡ 42
-  unfolding recheckOf pick
-  bad-table-gives-forty-two h = rw h
+  pub bad-table-gives-forty-two : isTable old table number ≡ false
+      → recheckOf old table number new .answer .number ≡ 42
+  bad-table-gives-forty-two h = bad-number h
+
+-- 30 is the gate's, as of check
+pub never-thirty : (old table : List ℕ) (number : ℕ) (new : List ℕ) (n : ℕ) → Numbered old table number new n
+    → n ≡ 30 → ⊥
+never-thirty old table number new n (inl h) z = omega (arith, h .1)
+never-thirty old table number new n (inr (f, inl l)) z = listed-not-30 n l z
+never-thirty old table number new n (inr (f, inr e)) z = omega (arith, e)
+
+module _ (old table : List ℕ) (number : ℕ) (new m t n : List ℕ) (u : Slices) where
+  -- 30 IS THE GATE'S: it is given exactly where a lent slice is shorter than its size ..
+  pub thirty-is-the-gate : recheckDef old table number new m t n u .answer .number ≡ 30 → allSized m t n u ≡ false
+  unfolding recheckDef pick
+  thirty-is-the-gate = by (allSized m t n u) refl
+    where
+      by : (b : Bool) → allSized m t n u ≡ b → recheckDef old table number new m t n u .answer .number ≡ 30 → b ≡ false
+      by true e h = absurd (never-thirty old table number new _ (every-number old table number new) (rw e at h))
+      by false e h = refl
+
+  -- .. and then nothing is written
+  pub gate-gives-thirty : allSized m t n u ≡ false
+      → recheckDef old table number new m t n u ≡ checking (check.refusal 30 0 0) m t n u
+  unfolding recheckDef pick
+  gate-gives-thirty e = rw e
