@@ -1,23 +1,22 @@
 -- The laws of `recheck`: two permitted answers are equal, whatever the slices held before; and the header table that an
 -- accepted check left, with its text, is never refused with 42.
-use Prim.Native.Nat.{ℕ, _+_, _-_, _≤_, _<_}
+use Prim.Native.Nat.{ℕ, _-_, _≤_, _<_}
 use mathlib.Core.Path.{_≡_, refl, sym, ap, _∙_}
 use mathlib.Core.Logic.{inl, inr}
-use mathlib.Core.List.{List, _++_}
+use mathlib.Core.List.{List}
 use mathlib.Core.Bool.{Bool, true, false}
 use native.Mathlib.Nat.{zero-add}
 use native.Mathlib.Omega.{arith}
 use borrow.Author.Tests.{ltb-false}
-use lib.Dec.{ltb}
 use lib.ListN.{length, getD, replicate, length-append, length-replicate}
 use Rattle.utils.specs.Bytes.{pick, padTo}
 use Rattle.lexer.specs.Read.{readOf}
 use Rattle.lexer.proofs.Sound.{read-sound}
 use Rattle.functions.specs.Answer.{Slices}
 use Rattle.functions.proofs.Laid.{functions-counted}
-use Rattle.typing.specs.Outcome.{none, asLong}
+use Rattle.typing.specs.Outcome.{none}
 use Rattle.checker.specs.Check.{Checking, refusal, checkOf}
-use Rattle.checker.specs.Promise.{checking, padded, sized, sizedUnit, allSized, gated, checkDef, Gives, Checks}
+use Rattle.checker.specs.Promise.{checking, padded, sized, sizedUnit, allSized, checkDef, Checks}
 use Rattle.checker.specs.Numbers.{Accepts, Numbered}
 use Rattle.checker.specs.declared.CheckAnswer.{CheckAnswer}
 use Rattle.checker.proofs.Ends.{as-whole, SameLengths, same-gated}
@@ -39,7 +38,8 @@ module _ (old table : List ℕ) (number : ℕ) (new : List ℕ) where
   permitted-equal m₀ t₀ n₀ u₀ a b = check.permitted-equal a b
 
   -- EQUAL INPUTS AND LENGTHS GIVE EQUAL ANSWERS, whatever the slices held before
-  pub same-inputs : {m₀ t₀ n₀ m₁ t₁ n₁ : List ℕ} {u₀ u₁ : Slices} {r r′ : CheckAnswer} {m t n m′ t′ n′ : List ℕ} {u u′ : Slices}
+  pub same-inputs : {m₀ t₀ n₀ m₁ t₁ n₁ : List ℕ} {u₀ u₁ : Slices} {r r′ : CheckAnswer} {m t n m′ t′ n′ : List ℕ}
+      {u u′ : Slices}
       → allSized m₀ t₀ n₀ u₀ ≡ true → SameLengths m₀ t₀ n₀ u₀ m₁ t₁ n₁ u₁
       → Rechecks old table number new m₀ t₀ n₀ u₀ r m t n u → Rechecks old table number new m₁ t₁ n₁ u₁ r′ m′ t′ n′ u′
       → checking r m t n u ≡ checking r′ m′ t′ n′ u′
@@ -134,8 +134,8 @@ module _ (text m₀ t₀ n₀ : List ℕ) (u₀ : Slices) (r : CheckAnswer) (m t
       not-both p q = let z : _≡_ {A = ℕ} 0 1 = cc in omega arith
 
   -- .. in any answer that is permitted
-  pub never-answered-42 : (number : ℕ) → number < r .functions → (new m₁ t₁ n₁ : List ℕ) (u₁ : Slices) {r′ : CheckAnswer}
-      {m′ t′ n′ : List ℕ} {u′ : Slices}
+  pub never-answered-42 : (number : ℕ) → number < r .functions → (new m₁ t₁ n₁ : List ℕ) (u₁ : Slices)
+      {r′ : CheckAnswer} {m′ t′ n′ : List ℕ} {u′ : Slices}
       → Rechecks text (u .functions) number new m₁ t₁ n₁ u₁ r′ m′ t′ n′ u′ → r′ .number ≡ 42 → ⊥
   unfolding recheckDef pick
   never-answered-42 number l new m₁ t₁ n₁ u₁ g e =

@@ -18,7 +18,7 @@ use Rattle.pieces.specs.declared.Refusal.the-variants as R
 use Rattle.pieces.proofs.Progress.{pick-either}
 use Rattle.lexer.specs.Numbered as lexes
 use Rattle.lexer.specs.Numbered.{Part, tokensCells, namesCells}
-use Rattle.lexer.specs.Read.{Reading, lexedFrom, readingOf}
+use Rattle.lexer.specs.Read.{lexedFrom, readingOf}
 use Rattle.lexer.specs.Decoded.{Tok, tokensOf, tokenAt}
 use Rattle.lexer.proofs.Sound.{never-cut}
 use Rattle.lexer.proofs.Accepted.{refusal-number}
@@ -129,11 +129,6 @@ abbrev numberOf : Verdict → ℕ
 numberOf (accepts f symbols) = 0
 numberOf (refuses e) = e .number
 
-number-as : (new : List ℕ) (r : Reading) (ts : List Tok) (callees : ℕ → ℕ) (type : ℕ) (o : Verdict)
-    → verdictAs new r ts callees type o .answer .number ≡ numberOf o
-number-as new r ts callees type (accepts f symbols) = refl
-number-as new r ts callees type (refuses e) = refl
-
 listed-above : (n : ℕ) → Listed n → 1 ≤ n
 listed-above n (inl h) = h .0
 listed-above n (inr (inl h)) = omega (arith, h .0)
@@ -153,47 +148,40 @@ listed-not-30 n (inr (inr (inl h))) z = omega (arith, h .0)
 listed-not-30 n (inr (inr (inr h))) z = omega (arith, h .0)
 
 module _ (old table : List ℕ) (number : ℕ) (new : List ℕ) where
-  -- the number by the verdict on the new function
-  number-by : (toks : List Token) (ns : List Part) (o : Verdict) → isTable old table number ≡ true
-      → lexedFrom (getD table (lineAt number) 0) new ≡ lexes.Outcome.done toks ns
-      → isWhole new (tokensOf (tokensCells toks)) ≡ true
-      → verdictD old table number new (namesCells ns) (tokensOf (tokensCells toks)) ≡ o
-      → recheckOf old table number new .answer .number ≡ numberOf o
+  -- 42 IS THE TABLE'S: it is given where the header table isn't one ..
+  pub bad-table-gives-forty-two : isTable old table number ≡ false
+      → recheckOf old table number new .answer .number ≡ 42
   unfolding recheckOf pick
-  number-by toks ns o good p h q =
-      let ts = tokensOf (tokensCells toks) in
-      let r : Reading = readingOf (lexes.Outcome.done toks ns) in
-      let callees : ℕ → ℕ = calleesSpelled old table new (namesCells ns) in
-      let said : Verdict → Checking = verdictAs new r ts callees (getD table (typeAt number) 0) in
-      ap (λ (x : Checking). x .answer .number) (as-verdict good p h) ∙ ap (λ (w : Verdict). said w .answer .number) q
-      ∙ number-as new r ts callees (getD table (typeAt number) 0) o
-    where
-      as-verdict : isTable old table number ≡ true
-          → lexedFrom (getD table (lineAt number) 0) new ≡ lexes.Outcome.done toks ns
-          → isWhole new (tokensOf (tokensCells toks)) ≡ true
-          → recheckOf old table number new
-          ≡ verdictAs new (readingOf (lexes.Outcome.done toks ns)) (tokensOf (tokensCells toks))
-          (calleesSpelled old table new (namesCells ns)) (getD table (typeAt number) 0)
-          (verdictD old table number new (namesCells ns) (tokensOf (tokensCells toks)))
-      as-verdict good p h = rw (good, p, h)
+  bad-table-gives-forty-two h = rw h
 
-  accepted-zero : Accepts old table number new → recheckOf old table number new .answer .number ≡ 0
-  accepted-zero a =
-      number-by (a .tokens) (a .names) (accepts (a .function) (a .symbols)) (a .good) (a .lexed) (a .whole) (a .typed)
+  -- a table that is one, and a new text that is lexed
+  module _ (good : isTable old table number ≡ true) (toks : List Token) (ns : List Part)
+      (p : lexedFrom (getD table (lineAt number) 0) new ≡ lexes.Outcome.done toks ns) where
+    abbrev ts : List Tok
+    ts = tokensOf (tokensCells toks)
 
-  -- a table that isn't one
-  bad-number : isTable old table number ≡ false → recheckOf old table number new .answer .number ≡ 42
-  unfolding recheckOf pick
-  bad-number h = rw h
+    abbrev verdictThen : Verdict → Checking
+    verdictThen =
+        verdictAs new (readingOf (lexes.Outcome.done toks ns)) ts (calleesSpelled old table new (namesCells ns))
+        (getD table (typeAt number) 0)
 
-  -- one that is: a new function that is accepted, or a listed number
-  module _ (good : isTable old table number ≡ true) where
-    by-verdict : (toks : List Token) (ns : List Part)
-        → lexedFrom (getD table (lineAt number) 0) new ≡ lexes.Outcome.done toks ns
-        → isWhole new (tokensOf (tokensCells toks)) ≡ true
-        → (o : Verdict) → verdictD old table number new (namesCells ns) (tokensOf (tokensCells toks)) ≡ o → IfRefused o
-        → Accepts old table number new ⊎ Listed (recheckOf old table number new .answer .number)
-    by-verdict toks ns p h (accepts f symbols) q l =
+    goes-on : isWhole new ts ≡ true
+        → recheckOf old table number new ≡ verdictThen (verdictD old table number new (namesCells ns) ts)
+    unfolding recheckOf pick
+    goes-on h = rw (good, p, h)
+
+    number-then : (o : Verdict) → verdictThen o .answer .number ≡ numberOf o
+    number-then (accepts f symbols) = refl
+    number-then (refuses e) = refl
+
+    number-by : isWhole new ts ≡ true → (o : Verdict) → verdictD old table number new (namesCells ns) ts ≡ o
+        → recheckOf old table number new .answer .number ≡ numberOf o
+    number-by h o q =
+        ap (λ (x : Checking). x .answer .number) (goes-on h ∙ ap verdictThen q) ∙ number-then o
+
+    by-verdict : isWhole new ts ≡ true → (o : Verdict) → verdictD old table number new (namesCells ns) ts ≡ o
+        → IfRefused o → Accepts old table number new ⊎ Listed (recheckOf old table number new .answer .number)
+    by-verdict h (accepts f symbols) q l =
         inl (record {
           tokens = toks;
           names = ns;
@@ -204,23 +192,27 @@ module _ (old table : List ℕ) (number : ℕ) (new : List ℕ) where
           whole = h;
           typed = q;
         })
-    by-verdict toks ns p h (refuses e) q l = inr (subst Listed (sym (number-by toks ns (refuses e) good p h q)) l)
+    by-verdict h (refuses e) q l = inr (subst Listed (sym (number-by h (refuses e) q)) l)
 
-    by-whole : (toks : List Token) (ns : List Part)
-        → lexedFrom (getD table (lineAt number) 0) new ≡ lexes.Outcome.done toks ns
-        → (b : Bool) → isWhole new (tokensOf (tokensCells toks)) ≡ b
+    by-whole : (b : Bool) → isWhole new ts ≡ b
         → Accepts old table number new ⊎ Listed (recheckOf old table number new .answer .number)
     unfolding recheckOf pick
-    by-whole toks ns p true h =
-        by-verdict toks ns p h (verdictD old table number new (namesCells ns) (tokensOf (tokensCells toks))) refl
-        (verdict-listed _ (rw p at (within (lexed-itself (getD table (lineAt number) 0) new (rw p)))) old table number new
+    by-whole true h =
+        by-verdict h (verdictD old table number new (namesCells ns) ts) refl
+        (verdict-listed ts (rw p at (within (lexed-itself (getD table (lineAt number) 0) new (rw p)))) old table number new
         (namesCells ns))
-    by-whole toks ns p false h = inr (rw (good, p, h) (own (omega arith) (omega arith)))
+    by-whole false h = inr (rw (good, p, h) (own (omega arith) (omega arith)))
 
+  accepted-zero : Accepts old table number new → recheckOf old table number new .answer .number ≡ 0
+  accepted-zero a =
+      number-by (a .good) (a .tokens) (a .names) (a .lexed) (a .whole) (accepts (a .function) (a .symbols)) (a .typed)
+
+  -- a table that is one: a new function that is accepted, or a listed number
+  module _ (good : isTable old table number ≡ true) where
     by-lexing : (o : lexes.Outcome) → lexedFrom (getD table (lineAt number) 0) new ≡ o
         → Accepts old table number new ⊎ Listed (recheckOf old table number new .answer .number)
     unfolding recheckOf pick
-    by-lexing (lexes.Outcome.done toks ns) p = by-whole toks ns p (isWhole new (tokensOf (tokensCells toks))) refl
+    by-lexing (lexes.Outcome.done toks ns) p = by-whole good toks ns p (isWhole new (tokensOf (tokensCells toks))) refl
     by-lexing (lexes.Outcome.refused r) p = inr (rw (good, p, ne-eqb _ _ (refusal-number r)) (lexing-listed r))
     by-lexing lexes.Outcome.cut p = absurd (never-cut _ new p)
 
@@ -239,9 +231,10 @@ module _ (old table : List ℕ) (number : ℕ) (new : List ℕ) where
       by-table : (b : Bool) → isTable old table number ≡ b
           → Numbered old table number new (recheckOf old table number new .answer .number)
       by-table true e = by-answer (good-number e)
-      by-table false e = inr (λ a. omega (arith, accepted-zero a, bad-number e), inr (bad-number e))
+      by-table false e =
+          inr (λ a. omega (arith, accepted-zero a, bad-table-gives-forty-two e), inr (bad-table-gives-forty-two e))
 
-  -- 42 IS THE TABLE'S: it is given exactly where the header table isn't one
+  -- .. and nowhere else
   pub forty-two-is-the-table : recheckOf old table number new .answer .number ≡ 42 → isTable old table number ≡ false
   forty-two-is-the-table = by-table (isTable old table number) refl
     where
@@ -255,12 +248,7 @@ module _ (old table : List ℕ) (number : ℕ) (new : List ℕ) where
       by-table true e z = absurd (by-answer (good-number e) z)
       by-table false e z = refl
 
-  pub bad-table-gives-forty-two : isTable old table number ≡ false
-      → recheckOf old table number new .answer .number ≡ 42
-  bad-table-gives-forty-two h = bad-number h
-
--- 30 is the gate's, as of check
-pub never-thirty : (old table : List ℕ) (number : ℕ) (new : List ℕ) (n : ℕ) → Numbered old table number new n
+never-thirty : (old table : List ℕ) (number : ℕ) (new : List ℕ) (n : ℕ) → Numbered old table number new n
     → n ≡ 30 → ⊥
 never-thirty old table number new n (inl h) z = omega (arith, h .1)
 never-thirty old table number new n (inr (f, inl l)) z = listed-not-30 n l z

@@ -29,7 +29,8 @@ pub record Accepts (old table : List ℕ) (number : ℕ) (new : List ℕ) : Type
   pub good : isTable old table number ≡ true
   pub lexed : lexedFrom (getD table (lineAt number) 0) new ≡ Outcome.done tokens names
   pub whole : isWhole new (tokensOf (tokensCells tokens)) ≡ true
-  pub typed : verdictD old table number new (namesCells names) (tokensOf (tokensCells tokens)) ≡ accepts function symbols
+  pub typed : verdictD old table number new (namesCells names) (tokensOf (tokensCells tokens))
+      ≡ accepts function symbols
 
 -- 0 exactly for a new function that is accepted, a listed number or 42 for every other
 abbrev pub Numbered : List ℕ → List ℕ → ℕ → List ℕ → ℕ → Type 0
