@@ -29,12 +29,12 @@ use Rattle.checker.specs.Check.{checkOf}
 use Rattle.checker.specs.Promise.{allSized, checkDef}
 use Rattle.checker.specs.Numbers.{Listed, Accepts, Numbered}
 use Rattle.checker.proofs.Lexed.{within, lexed-itself}
-use Rattle.checker.proofs.ParsedNumbers.{Fine, FineC, Is, functions-fine}
+use Rattle.checker.proofs.ParsedNumbers.{Fine, FineEnd, Is, functions-fine}
 use Rattle.checker.proofs.TypedNumbers.{FineT, typed-fine}
 
 fine-listed : {e : Refusal} → Fine e → Listed (e .number)
-fine-listed (Fine.low h g) = inl (leb-true _ _ h, leb-true _ _ g)
-fine-listed (Fine.high h g) = inr (leb-true _ _ h, leb-true _ _ g)
+fine-listed {e} (Fine.low h g) = inl (leb-true _ _ h, leb-true _ _ g)
+fine-listed {e} (Fine.high h g) = inr (omega (arith, leb-true 36 (e .number) h), leb-true _ _ g)
 
 lexing-listed : (r : pieces.Refusal) → Listed (factsOf r .number)
 lexing-listed (R.NotAscii line) = inl (omega arith, omega arith)
@@ -56,9 +56,10 @@ typing-listed : (fs : List Function) {x : Typed} → Is FineT x → IfRefused (a
 typing-listed fs (Is.so (FineT.fine t)) = tt
 typing-listed fs (Is.so (FineT.refused t e h)) = fine-listed h
 
-parsing-listed : (ts : List Tok) (fs : List Function) {c : Consumed} → FineC c → IfRefused (afterParsing ts fs c)
-parsing-listed ts fs (FineC.found i) = typing-listed fs (typed-fine ts fs fs untyped)
-parsing-listed ts fs (FineC.refused e h) = fine-listed h
+parsing-listed : (ts : List Tok) (fs : List Function) {c : Consumed} → FineEnd c → IfRefused (afterParsing ts fs c)
+parsing-listed ts fs (FineEnd.found i) = typing-listed fs (typed-fine ts fs fs untyped)
+parsing-listed ts fs (FineEnd.refused e h) = fine-listed h
+parsing-listed ts fs (FineEnd.many e h) = inr (omega (arith, h), omega (arith, h))
 
 unit-listed : (ts : List Tok) → Within ts 0 → IfRefused (unitD ts)
 unfolding unitD

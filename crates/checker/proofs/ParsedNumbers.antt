@@ -12,7 +12,7 @@ use Rattle.pieces.proofs.Progress.{pick-either}
 use Rattle.pieces.specs.declared.Identifier.{Identifier}
 use Rattle.lexer.specs.Decoded.{Tok, tokenAt}
 use Rattle.lexer.specs.declared.TokenAt.{TokenAt}
-use Rattle.parser.specs.Step.{look, thenAt, thenNamed, thenType, thenDefined}
+use Rattle.parser.specs.Step.{refusal, look, thenAt, thenNamed, thenType, thenDefined}
 use Rattle.parser.specs.Grammar.{consumeD, namedD, typeD, printD, retD, jumpD, branchD, nopD, definedD, constD, unaryD}
 use Rattle.parser.specs.Grammar.{binaryD, valueD, definitionD, instructionD}
 use Rattle.parser.specs.Runs.{Variables, ended, andThen, Calling, calling, formalD, formalsFromD, formalsD, argumentsD}
@@ -50,10 +50,10 @@ use Rattle.functions.specs.declared.Entered.the-variants as E
 
 -- Refusals, and answers that may be one. ----------------------------------------------------------------------------
 
--- `Listed` as tests, which a search can compute
+-- `Listed` as tests, which a search can compute; 31 to 34 are lexing's, and 35 stands apart
 pub data Fine (e : Refusal) : Type 0 where
   low : leb 1 (e .number) ≡ true → leb (e .number) 22 ≡ true → Fine e
-  high : leb 31 (e .number) ≡ true → leb (e .number) 38 ≡ true → Fine e
+  high : leb 36 (e .number) ≡ true → leb (e .number) 38 ≡ true → Fine e
 
 -- for each type of answers: found, or a refusal that is fine
 pub data FineC : Consumed → Type 0 where
@@ -90,9 +90,17 @@ data FineE : Entered → Type 0 where
   found : (type i : ℕ) → FineE (E.At type i)
   refused : (e : Refusal) → Fine e → FineE (E.Refused e)
 
-data FineH : HeaderAt → Type 0 where
-  found : (h : Header) (i : ℕ) → FineH (header h i)
-  refused : (e : Refusal) → Fine e → FineH (noHeader e)
+-- 35 comes only where there are 64 functions already
+data FineH (full : Bool) : HeaderAt → Type 0 where
+  found : (h : Header) (i : ℕ) → FineH full (header h i)
+  refused : (e : Refusal) → Fine e → FineH full (noHeader e)
+  many : full ≡ true → (at : ℕ) → FineH full (noHeader (refusal 35 at 0))
+
+-- all functions
+pub data FineEnd : Consumed → Type 0 where
+  found : (i : ℕ) → FineEnd (C.At i)
+  refused : (e : Refusal) → Fine e → FineEnd (C.Refused e)
+  many : (e : Refusal) → e .number ≡ 35 → FineEnd (C.Refused e)
 
 -- An answer of which T holds; a family of its own, so that a search can read T off.
 pub data Is {A : Type 0} (T : A → Type 0) (x : A) : Type 0 where
@@ -237,9 +245,15 @@ module _ (ts : List Tok) where
   unfolding itemD
   itemF i = parsedF (instructionF i)
 
-  headerF : (full : Bool) (known : List Known) (types i : ℕ) → Is FineH (headerD ts full known types i)
-  unfolding headerD signatureD optionalFormals formalsD optionalType enteredD
-  headerF full known types i = search (steps, formalsFromF) depth 24
+  signatureF : (full : Bool) (known : List Known) (types token : ℕ) (name : Identifier) (i : ℕ)
+      → Is (FineH full) (signatureD ts known types token name i)
+  unfolding signatureD optionalFormals formalsD optionalType enteredD
+  signatureF full known types token name i = search (steps, formalsFromF) depth 24
+
+  headerF : (full : Bool) (known : List Known) (types i : ℕ) → Is (FineH full) (headerD ts full known types i)
+  unfolding headerD pick
+  headerF true known types i = search (steps, FineH.many) depth 14
+  headerF false known types i = search (steps, signatureF) depth 14
 
 -- Labels. -----------------------------------------------------------------------------------------------------------
 
@@ -265,9 +279,10 @@ module _ (ts : List Tok) (last : ℕ) (ends : tokenAt ts last .kind ≡ 38) wher
     found : (items : List Item) (i : ℕ) → i ≤ last → BuiltOn (built items i)
     refused : (e : Refusal) → Fine e → BuiltOn (notBuilt e)
 
-  data FunctionOn : FunctionAt → Type 0 where
-    found : (f : Function) → f .next ≤ last → FunctionOn (function f)
-    refused : (e : Refusal) → Fine e → FunctionOn (noFunction e)
+  pub data FunctionOn (full : Bool) : FunctionAt → Type 0 where
+    found : (f : Function) → f .next ≤ last → FunctionOn full (function f)
+    refused : (e : Refusal) → Fine e → FunctionOn full (noFunction e)
+    many : full ≡ true → (e : Refusal) → e .number ≡ 35 → FunctionOn full (noFunction e)
 
   -- what follows a label, an item
   after-label : (i n : ℕ) {x : Named} (k : Identifier → ℕ → Body) → Is FineN x → LabelIn i last n x
@@ -318,38 +333,43 @@ module _ (ts : List Tok) (last : ℕ) (ends : tokenAt ts last .kind ≡ 38) wher
         after-body _ (body-on 4096 [] afterBrace i h (omega arith)) (λ next l.
         resolved-on _ next l (resolveF _ name _))
 
-    after-built : {x : BuiltAt} (k : List Item → ℕ → FunctionAt) → BuiltOn x
-        → ((items : List Item) (i : ℕ) → i ≤ last → FunctionOn (k items i)) → FunctionOn (thenBuilt noFunction x k)
-    unfolding thenBuilt
-    after-built k (BuiltOn.found items i h) g = g items i h
-    after-built k (BuiltOn.refused e f) g = FunctionOn.refused e f
+    module _ {full : Bool} where
+      after-built : {x : BuiltAt} (k : List Item → ℕ → FunctionAt) → BuiltOn x
+          → ((items : List Item) (i : ℕ) → i ≤ last → FunctionOn full (k items i))
+          → FunctionOn full (thenBuilt noFunction x k)
+      unfolding thenBuilt
+      after-built k (BuiltOn.found items i h) g = g items i h
+      after-built k (BuiltOn.refused e f) g = FunctionOn.refused e f
 
-    after-header : (i : ℕ) {x : HeaderAt} (k : Header → ℕ → FunctionAt) → Is FineH x → HeaderIn i last x
-        → ((h : Header) (next : ℕ) → next ≤ last → FunctionOn (k h next)) → FunctionOn (thenHeader noFunction x k)
-    unfolding thenHeader
-    after-header i k (Is.so (FineH.found h next)) l g = g h next (l .1)
-    after-header i k (Is.so (FineH.refused e f)) l g = FunctionOn.refused e f
+      after-header : (i : ℕ) {x : HeaderAt} (k : Header → ℕ → FunctionAt) → Is (FineH full) x → HeaderIn i last x
+          → ((h : Header) (next : ℕ) → next ≤ last → FunctionOn full (k h next))
+          → FunctionOn full (thenHeader noFunction x k)
+      unfolding thenHeader
+      after-header i k (Is.so (FineH.found h next)) l g = g h next (l .1)
+      after-header i k (Is.so (FineH.refused e f)) l g = FunctionOn.refused e f
+      after-header i k (Is.so (FineH.many f token)) l g = FunctionOn.many f (refusal 35 token 0) refl
 
-    function-on : (full : Bool) (known : List Known) (types i : ℕ) → i ≤ last
-        → FunctionOn (functionD ts full known types i)
+      after-function : {x : FunctionAt} (k : Function → Program) → FunctionOn full x
+          → ((f : Function) → f .next ≤ last → FineEnd (k f .end)) → FineEnd (thenFunction programStop x k .end)
+      unfolding thenFunction
+      after-function k (FunctionOn.found f h) g = g f h
+      after-function k (FunctionOn.refused e h) g = FineEnd.refused e h
+      after-function k (FunctionOn.many f e h) g = FineEnd.many e h
+
+    pub function-on : (full : Bool) (known : List Known) (types i : ℕ) → i ≤ last
+        → FunctionOn full (functionD ts full known types i)
     unfolding functionD
     function-on full known types i h =
         after-header i _ (headerF ts full known types i) (header-in ts last ends full known types i h) (λ head next l.
         after-built _ (built-on (isVoid (head .ret)) i next l) (λ items m g. FunctionOn.found _ g))
 
-    after-function : {x : FunctionAt} (k : Function → Program) → FunctionOn x
-        → ((f : Function) → f .next ≤ last → FineC (k f .end)) → FineC (thenFunction programStop x k .end)
-    unfolding thenFunction
-    after-function k (FunctionOn.found f h) g = g f h
-    after-function k (FunctionOn.refused e h) g = FineC.refused e h
-
     pub functions-fine : (room : ℕ) (known : List Known) (types i : ℕ) → i ≤ last
-        → FineC (functionsD ts room known types i .end)
+        → FineEnd (functionsD ts room known types i .end)
     unfolding functionsD look
     functions-fine zero known types i h =
-        pick-either (λ (u : Program). FineC (u .end)) (eqb (tokenAt ts i .kind) 38) _ _ (λ t. FineC.found i) (λ t.
-        after-function _ (function-on true known types i h) (λ f l. FineC.refused _ (Fine.high refl refl)))
+        pick-either (λ (u : Program). FineEnd (u .end)) (eqb (tokenAt ts i .kind) 38) _ _ (λ t. FineEnd.found i) (λ t.
+        after-function _ (function-on true known types i h) (λ f l. FineEnd.many _ refl))
     functions-fine (suc room) known types i h =
-        pick-either (λ (u : Program). FineC (u .end)) (eqb (tokenAt ts i .kind) 38) _ _ (λ t. FineC.found i) (λ t.
+        pick-either (λ (u : Program). FineEnd (u .end)) (eqb (tokenAt ts i .kind) 38) _ _ (λ t. FineEnd.found i) (λ t.
         after-function _ (function-on false known types i h) (λ f l.
         functions-fine room (known ++ (knownOf (f .head) ∷ [])) (typesAfter types (f .head .type)) (f .next) l))

@@ -13,7 +13,7 @@ use Rattle.sema.specs.Symbols.{Typed, typed, thenTyped, thenEnd, enterD, thenLo
 use Rattle.sema.specs.Typing.{thenThree, operandsD, binaryD, operandD, unaryD, constD, retValueD, retD, Global, absent}
 use Rattle.sema.specs.Typing.{global, presentD, sameAll, argumentsD, thenGlobal, callD, callIntoD, plainD, analyzeD}
 use Rattle.sema.specs.Blocks.{itemsD, endD, blockD, formalsD, blocksD, typeFunctionD}
-use Rattle.sema.specs.Program.{programD}
+use Rattle.sema.specs.Program.{functionTyped, programD}
 use Rattle.sema.specs.declared.Checked.the-variants as K
 use Rattle.checker.proofs.ParsedNumbers.{Fine, Is, pickF}
 
@@ -108,8 +108,12 @@ module _ (ts : List Tok) (globals : ℕ → Global) (ret : ℕ) where
   blocksF t [] = search steps
   blocksF t (b ∷ bs) = thenTypedF _ (thenTypedF _ (itemsF t b) (λ t1. endF t1 b)) (λ t1. blocksF t1 bs)
 
+pub function-fine : (ts : List Tok) (globals : ℕ → Global) (f : Function) (blank : List ℕ)
+    → Is FineT (functionTyped ts globals f blank)
+unfolding typeFunctionD
+function-fine ts globals f blank = thenTypedF _ (formalsF blank _ _) (λ t. blocksF ts _ _ t _)
+
 pub typed-fine : (ts : List Tok) (all fs : List Function) (blank : List ℕ) → Is FineT (programD ts all fs blank)
-unfolding programD typeFunctionD
+unfolding programD
 typed-fine ts all [] blank = search steps
-typed-fine ts all (f ∷ fs) blank =
-    thenTypedF _ (thenTypedF _ (formalsF blank _ _) (λ t. blocksF ts _ _ t _)) (λ t. typed-fine ts all fs blank)
+typed-fine ts all (f ∷ fs) blank = thenTypedF _ (function-fine ts _ f blank) (λ t. typed-fine ts all fs blank)

@@ -20,3 +20,7 @@ pub mod Placing
 pub mod Building
 -- how a recheck ends
 pub mod Ends
+-- every number is one of document 01's for recheck
+pub mod Numbers
+-- equal answers; the table of an accepted check is never refused
+pub mod Laws

@@ -17,7 +17,7 @@ use Rattle.recheck.specs.Table.{between, formalsFit, nameFits, typeFits,
 
 -- Both of two tests, one after the other. ----------------------------------------------------------------------------
 
-neither : (a b : Bool) → pick a false b ≡ true → (a ≡ false) × (b ≡ true)
+pub neither : (a b : Bool) → pick a false b ≡ true → (a ≡ false) × (b ≡ true)
 unfolding pick
 neither true b h = absurd (let z : _≡_ {A = ℕ} 0 1 = cc in omega arith)
 neither false b h = (refl, h)

@@ -7,6 +7,8 @@ pub mod Spelled
 pub mod Recheck
 -- the gate, the padding, and the promise
 pub mod Promise
+-- document 01's numbers
+pub mod Numbers
 -- document 01's cases, of check and of recheck: one table, one claim
 pub mod Cases
 -- the old headers in the new text's numbers: the code's step, which a reader of document 01 may pass over
