@@ -41,7 +41,7 @@ fn headers_are_a_value_of_their_own() {
     let headers = headers_of(OLD);
     assert_eq!((headers.len(), headers.is_empty(), headers.text()), (4, false, OLD));
     assert_eq!(headers.names().collect::<Vec<_>>(), ["@i", "@v", "@f", "@b"]);
-    assert_eq!(headers.names().rev().next(), Some("@b"));
+    assert_eq!(headers.names().next_back(), Some("@b"));
     assert_eq!([I, V, F, B].map(|number| headers.name(number)), ["@i", "@v", "@f", "@b"].map(Some));
     assert_eq!([I, V, F, B].map(|number| headers.line(number)), [1, 2, 2, 4].map(Some));
     assert_eq!((headers.name(4), headers.line(4), headers.name(usize::MAX)), (None, None, None));
