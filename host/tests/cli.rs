@@ -578,7 +578,7 @@ fn a_stream_of_checks_answers_every_text() {
 /// The same of rechecks: many functions, numbers that no function has, and old texts that are refused.
 #[test]
 fn a_stream_of_rechecks_answers_each() {
-    let edits: Vec<Edit> = edits::generated(2, 0..2000).collect();
+    let edits: Vec<Edit> = edits::generated(2, 0..600).collect();
     let asked: Vec<(&[u8], usize, &[u8])> = edits
         .iter()
         .flat_map(|Edit { old, number, new, .. }| {
@@ -620,7 +620,7 @@ fn a_stream_of_rechecks_answers_each() {
             Said::Refused { .. } => refused += 1,
         }
     }
-    assert!(accepted > 300 && refused > 300 && old_refused > 300, "{accepted}, {refused}, {old_refused}");
+    assert!(accepted > 100 && refused > 100 && old_refused > 100, "{accepted}, {refused}, {old_refused}");
 }
 
 /// A recheck as a stream has it.
