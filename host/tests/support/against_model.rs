@@ -5,7 +5,7 @@ use pitchsleet::raw::{self, CheckAnswer, ReadAnswer};
 use pitchsleet::{Headers, Reader};
 
 use super::by_crate::{by_checker, by_reader, by_rechecker};
-use super::edits::{Edit, Quadruple, cells_of};
+use super::edits::{Edit, Quadruple, cells_of, table_of};
 use super::model::{self, Checked};
 use super::records::Cells;
 use super::said::Said;
@@ -55,10 +55,13 @@ impl Lent {
     /// The same of an edit that is rechecked, with the table that check wrote for the old text. The reader is handed that as
     /// headers, and the C function as bytes.
     pub fn compare_edit(&mut self, edit: &Edit) -> Result<Said, String> {
-        let Edit { old, number, new, .. } = edit;
+        let Edit { old, before, number, new } = edit;
         let headers = self.headers(old)?;
-        let said = by_rechecker(&mut self.reader, &headers, *number, new);
         let table = headers.table().to_vec();
+        if Some(cells_of(&table)) != table_of(before) {
+            return Err("the old text's header table is not what the model says".to_owned());
+        }
+        let said = by_rechecker(&mut self.reader, &headers, *number, new);
         let quadruple = Quadruple { old: old.clone(), table, number: *number as u32, new: new.clone() };
         same(&said, &self.compare_recheck(&quadruple)?)?;
         Ok(said)
