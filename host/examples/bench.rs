@@ -4,10 +4,10 @@
 //! cargo run --release --example bench
 //! ```
 //!
-//! A text is read and checked again and again, and the shortest time of all rounds counts, on both sides alike. Beside them
-//! stands the time of a memset of the slices that are lent, which each call must fill: nothing can be faster. Where the Rust
-//! files are not to be had, its columns are empty. Then one function of a text is changed and rechecked, beside a check of
-//! the edited text. A time is no promise: nothing here fails because of one.
+//! A text is read and checked again and again, and the shortest time of all rounds counts, on both sides alike. Beside
+//! them stands the time of a memset of the slices that are lent, which each call must fill: nothing can be faster.
+//! Where the Rust files are not to be had, its columns are empty. Then one function of a text is changed and rechecked,
+//! beside a check of the edited text. A time is no promise: nothing here fails because of one.
 #[path = "../tests/support/mod.rs"]
 mod support;
 

@@ -3,7 +3,7 @@
 //! ```text
 //! cargo run --release --example fuzz -- check SEED COUNT          compares so many generated texts, checked
 //! cargo run --release --example fuzz -- read SEED COUNT           the same, read and no more
-//! cargo run --release --example fuzz -- recheck SEED COUNT        so many edits, and as many tables that check didn't write
+//! cargo run --release --example fuzz -- recheck SEED COUNT        so many edits, and as many tables of another hand
 //! cargo run --release --example fuzz -- check --texts SEED COUNT  writes them, as a stream that other programs read
 //! ```
 //!

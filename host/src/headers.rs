@@ -6,8 +6,8 @@ use crate::records::{cell, index, record};
 
 /// The headers of an accepted text: the text, and the table of its functions as a check wrote it.
 ///
-/// [`Unit::headers`](crate::Unit::headers) makes them. They are a value of their own, so that they outlive the reader's next
-/// call, and [`Reader::recheck`](crate::Reader::recheck) holds a new function to them.
+/// [`Unit::headers`](crate::Unit::headers) makes them. They are a value of their own, so that they outlive the reader's
+/// next call, and [`Reader::recheck`](crate::Reader::recheck) holds a new function to them.
 ///
 /// ```
 /// use pitchsleet::Reader;
@@ -51,8 +51,8 @@ impl Headers {
         Some(&self.text[index(row, raw::FUNCTION_PLACE)..][..index(row, raw::FUNCTION_LENGTH)])
     }
 
-    /// The line of the name of the function with a number, on which lines start where it is replaced. Newlines in comments
-    /// are not counted.
+    /// The line of the name of the function with a number, on which lines start where it is replaced. Newlines in
+    /// comments are not counted.
     #[must_use]
     pub fn line(&self, number: usize) -> Option<u32> {
         self.row(number).map(|row| cell(row, raw::FUNCTION_LINE))
@@ -64,8 +64,8 @@ impl Headers {
         (0..self.len()).map(|number| self.name(number).expect("the count is the table's"))
     }
 
-    /// The number of the function with a name, its `@` with it: of several the first, which is the one that a call of this
-    /// name means.
+    /// The number of the function with a name, its `@` with it: of several the first, which is the one that a call of
+    /// this name means.
     #[must_use]
     pub fn position(&self, name: &str) -> Option<usize> {
         self.names().position(|known| known == name)

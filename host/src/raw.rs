@@ -1,8 +1,8 @@
 //! The C functions, with the sizes and offsets that docs/INTERFACE.md fixes.
 //!
-//! [`crate::Reader`] is the comfortable way in. This module is for a host that keeps buffers of its own: [`read`], [`check`]
-//! and [`recheck`] lend them to the proved functions as they are. They are safe to call with slices of any length, since
-//! the functions trust no caller.
+//! [`crate::Reader`] is the comfortable way in. This module is for a host that keeps buffers of its own: [`read`],
+//! [`check`] and [`recheck`] lend them to the proved functions as they are. They are safe to call with slices of any
+//! length, since the functions trust no caller.
 //!
 //! The crate's only `unsafe` code stands here, and a test holds every number below against the document.
 #![allow(unsafe_code)]
@@ -269,9 +269,10 @@ pub fn check(text: &[u8], out: &mut [u8], message: &mut [u8]) -> CheckAnswer {
 /// Checks a new text in the place of a function of an old text, against the old text's headers: the same records as
 /// [`check`]'s, of the new text alone, or a message.
 ///
-/// `table` is what [`check`] wrote for the old text: the [`TABLE_BYTES`] of its `out` from [`FUNCTIONS_OFFSET`] on. A shorter
-/// one is refused with 42, and of a longer one so much is read; so is one refused that isn't a text's, where that shows.
-/// `out` and `message` are as for [`check`]. The call allocates nothing, and has all of its room on the stack.
+/// `table` is what [`check`] wrote for the old text: the [`TABLE_BYTES`] of its `out` from [`FUNCTIONS_OFFSET`] on. A
+/// shorter one is refused with 42, and so is one with a cell out of the ranges that docs/INTERFACE.md gives; of a longer
+/// one no more is read. `out` and `message` are as for [`check`]. The call allocates nothing, and has all of its room on
+/// the stack.
 ///
 /// ```
 /// use pitchsleet::raw;

@@ -14,8 +14,8 @@ use crate::unit::Unit;
 /// Reads, checks and rechecks texts, one after the other, in buffers of its own.
 ///
 /// The buffers are taken once, by [`Reader::new`]: 252,228 bytes for the records and 512 for a message. No call of
-/// [`Reader::read`], [`Reader::check`] or [`Reader::recheck`] allocates: the room that they need is on the stack, less than
-/// 76 KiB for a reading, less than 264 KiB for a check, and for a recheck what docs/INTERFACE.md says.
+/// [`Reader::read`], [`Reader::check`] or [`Reader::recheck`] allocates: the room that they need is on the stack, less
+/// than 76 KiB for a reading, less than 264 KiB for a check, and for a recheck what docs/INTERFACE.md says.
 ///
 /// ```
 /// use pitchsleet::Reader;
@@ -104,15 +104,16 @@ impl Reader {
         self.unit(text, &answer)
     }
 
-    /// A new function in the place of one of an accepted text: what a check of the new function says with the headers of
-    /// all others, or why it is refused.
+    /// A new function in the place of one of an accepted text: what a check of the new function says with the headers
+    /// of all others, or why it is refused.
     ///
-    /// The new text runs from the function's name to its closing brace, with nothing before or behind, and keeps the name and
-    /// the types of its formals and of its result. Then the edited text is accepted by a check exactly when the new function
-    /// is accepted here, as long as it stays inside the limits; otherwise both give the same number for the same token.
+    /// The new text runs from the function's name to its closing brace, with nothing before or behind, and keeps the
+    /// name and the types of its formals and of its result. Then the edited text is accepted by a check exactly when
+    /// the new function is accepted here, as long as it stays inside the limits; otherwise both give the same number
+    /// for the same token.
     ///
-    /// What comes back has that one function, and its tokens and names are those of the new text: places count from the new
-    /// text's first byte. Lines start at that of the function that is replaced, [`Headers::line`], and a
+    /// What comes back has that one function, and its tokens and names are those of the new text: places count from the
+    /// new text's first byte. Lines start at that of the function that is replaced, [`Headers::line`], and a
     /// [`Type::Fn`](crate::Type::Fn) has the number that it has in the old text.
     ///
     /// ```
@@ -137,8 +138,8 @@ impl Reader {
     ///
     /// # Errors
     ///
-    /// A [`Refusal`] with its number, line, place and message: those of [`Reader::check`], 40 where the new text isn't one
-    /// function, 41 where its header has changed, and 42 where no function has the number.
+    /// A [`Refusal`] with its number, line, place and message: those of [`Reader::check`], 40 where the new text isn't
+    /// one function, 41 where its header has changed, and 42 where no function has the number.
     #[allow(clippy::result_large_err, reason = "a refusal carries its message, so that refused texts allocate nothing")]
     pub fn recheck<'a>(&'a mut self, headers: &Headers, number: usize, new: &'a [u8]) -> Result<Unit<'a>, Refusal> {
         // A number beyond 32 bits is no function's, and neither is the highest.

@@ -104,11 +104,11 @@ impl<'a> Unit<'a> {
         (0..self.len()).map(move |index| unit.function(index).expect("the count is the table's"))
     }
 
-    /// The text's headers, as a value of its own: what [`Reader::recheck`](crate::Reader::recheck) holds a new function to.
-    /// They take a copy of the text and 11,524 bytes.
+    /// The text's headers, as a value of its own: what [`Reader::recheck`](crate::Reader::recheck) holds a new function
+    /// to. They take a copy of the text and 11,524 bytes.
     ///
-    /// Of a new function that was rechecked these are its own header and no other. Those of the edited text come from a check
-    /// of the edited text.
+    /// Of a new function that was rechecked these are its own header and no other. Those of the edited text come from a
+    /// check of the edited text.
     #[must_use]
     pub fn headers(&self) -> Headers {
         Headers::new(self.tokens.text(), self.table)

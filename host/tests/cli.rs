@@ -459,7 +459,8 @@ fn a_function_that_is_none_or_another() {
     assert_eq!(rechecked("long.bril", "start", &b" ".repeat(20_000), 1), too_long);
 }
 
-/// The old text's refusal is check's, with its exit status; the function isn't looked for, nor is the new text read as one.
+/// The old text's refusal is check's, with its exit status; the function isn't looked for, nor is the new text read as
+/// one.
 #[test]
 fn an_old_text_that_is_refused() {
     let old = Scratch::new("old-refused.bril", b"@f {\n  ret x;\n}\n");

@@ -1,8 +1,9 @@
-//! The safe interface of rechecking: headers, spans, and what `Reader::recheck` gives for new functions, one after the other.
+//! The safe interface of rechecking: headers, spans, and what `Reader::recheck` gives for new functions, one after the
+//! other.
 use pitchsleet::{Headers, OperationValue, Reader, Refusal, Type};
 
-/// Four functions of four types, with comments between and within. The last two stand on lines 3 and 5 of the file, which
-/// are counted as 2 and 4, since the comment behind `@v` runs through a newline.
+/// Four functions of four types, with comments between and within. The last two stand on lines 3 and 5 of the file,
+/// which are counted as 2 and 4, since the comment behind `@v` runs through a newline.
 const OLD: &str = "@i(a: int): int { ret a; }
 @v { nop; } # } not the end
 @f(n: int, c: bool) /* { } */ {

@@ -1,5 +1,6 @@
-//! Recheck: this crate against the model of document 01, edit by edit and table by table; the model, by demand 3, against a
-//! check of the whole edited text and against the Rust original; and answers of the model that are written down here.
+//! Recheck: this crate against the model of document 01, edit by edit and table by table; the model, by demand 3,
+//! against a check of the whole edited text and against the Rust original; and answers of the model that are written
+//! down here.
 //!
 //! `PITCHSLEET_EDITS` says how many edits are generated, and how many rechecks with a table that check didn't write;
 //! `PITCHSLEET_SEED` from which seed. Both are printed, with what came of them. Where the Rust files are not to be had
@@ -27,8 +28,8 @@ fn from_environment(name: &str, default: u64) -> u64 {
 
 // ---- demand 3 ----------------------------------------------------------------------------------------------------------
 
-/// A run of the usual size reaches every answer that recheck can have, with a table as check wrote it and with others, and
-/// breaks every premise.
+/// A run of the usual size reaches every answer that recheck can have, with a table as check wrote it and with others,
+/// and breaks every premise.
 #[test]
 fn generated_edits() {
     let (seed, count) = (from_environment("PITCHSLEET_SEED", SEED), from_environment("PITCHSLEET_EDITS", EDITS));

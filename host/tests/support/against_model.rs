@@ -52,8 +52,8 @@ impl Lent {
         Ok(expected)
     }
 
-    /// The same of an edit that is rechecked, with the table that check wrote for the old text. The reader is handed that as
-    /// headers, and the C function as bytes.
+    /// The same of an edit that is rechecked, with the table that check wrote for the old text. The reader is handed
+    /// that as headers, and the C function as bytes.
     pub fn compare_edit(&mut self, edit: &Edit) -> Result<Said, String> {
         let Edit { old, before, number, new } = edit;
         let headers = self.headers(old)?;

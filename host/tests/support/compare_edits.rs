@@ -1,5 +1,5 @@
-//! The comparison of edits: this crate's recheck against the model's, the model's against a check of the edited text, and
-//! that against the Rust.
+//! The comparison of edits: this crate's recheck against the model's, the model's against a check of the edited text,
+//! and that against the Rust.
 use std::collections::BTreeMap;
 use std::fmt::{self, Display, Formatter};
 

@@ -1,6 +1,6 @@
-//! Edits: an accepted text of several functions, one of them, and a text to stand in its place. Most keep the function's
-//! header; some are what a premise of demand 3 leaves out. And what recheck may be called with beside these: tables that
-//! check didn't write, or not for that text. A seed gives the same ones each time.
+//! Edits: an accepted text of several functions, one of them, and a text to stand in its place. Most keep the
+//! function's header; some are what a premise of demand 3 leaves out. And what recheck may be called with beside these:
+//! tables that check didn't write, or not for that text. A seed gives the same ones each time.
 use super::dice::Dice;
 use super::model::{self, BYTES, NAMES, ROW, TABLE, TOKENS};
 use super::programs::{Functions, chain, slip};
@@ -32,8 +32,8 @@ pub struct Quadruple {
     pub new: Vec<u8>,
 }
 
-/// The edits of a run once more, each with something changed beside the new text: a table that check didn't write, another
-/// old text, a number that no function has.
+/// The edits of a run once more, each with something changed beside the new text: a table that check didn't write,
+/// another old text, a number that no function has.
 pub fn with_other_tables(seed: u64, numbers: std::ops::Range<u64>) -> impl Iterator<Item = Quadruple> {
     numbers.map(move |number| {
         let mut dice = Dice::new(seed, number);
@@ -286,7 +286,8 @@ fn with_another_table(dice: &mut Dice, edit: Edit) -> Quadruple {
     Quadruple { old, table: of_another_length(dice, table), number, new }
 }
 
-/// A cell of a row, most times one that recheck looks at, and a value that is in its range, at its edge, or far outside.
+/// A cell of a row, most times one that recheck looks at, and a value that is in its range, at its edge, or far
+/// outside.
 fn change_a_cell(dice: &mut Dice, table: &mut [u32], number: usize, length: usize) {
     let row = if dice.once_in(2) { number } else { dice.below(table[0].clamp(1, 64) as usize + 1).min(63) };
     let row = &mut table[1 + ROW * row..][..ROW];

@@ -17,10 +17,10 @@ pitchsleet: a verified reader and type checker of Bril text
     pitchsleet --help
     pitchsleet --version
 
-FILE, OLD and NEW are files' names, or - for standard input; after -- a name may begin with a dash. OLD is a whole text that
-check accepts. FUNCTION is the name of one of its functions, with or without the @, of several of a name the first; or a
-number, from 0 in the order of the text. NEW is what replaces that function, from the first byte of its name to its closing
-brace, with nothing before or behind, not even a newline. It keeps the name and the types.
+FILE, OLD and NEW are files' names, or - for standard input; after -- a name may begin with a dash. OLD is a whole text
+that check accepts. FUNCTION is the name of one of its functions, with or without the @, of several of a name the first;
+or a number, from 0 in the order of the text. NEW is what replaces that function, from the first byte of its name to its
+closing brace, with nothing before or behind, not even a newline. It keeps the name and the types.
 
 read shows a token as LINE:COLUMN, its kind and its text. check shows a function's blocks by their numbers, each with its
 labels, the blocks that it comes from and goes to, and dead where it isn't block 0 and no edge enters it; then its
@@ -46,14 +46,14 @@ JSON: {\"number\":0,\"line\":0,\"place\":0,\"message\":\"\",\"tokens\":[[KIND,VA
     N is a name's number, T a token's index, F a function type's number, BLOCK a block's number in its function. TYPE is
     int, bool, void, placeholder, or fn and the number of a callee's function type. KIND is binary, unary, const, jmp,
     br, call, ret, print or nop. result and callee may be null.
-    recheck has check's form, of NEW: LINE starts at the replaced function's, PLACE counts from NEW's first byte, and F is
-    the number in OLD. Where it is OLD that check refuses, the refusal is OLD's, with \"old\":true behind its message.
+    recheck has check's form, of NEW: LINE starts at the replaced function's, PLACE counts from NEW's first byte, and F
+    is the number in OLD. Where it is OLD that check refuses, the refusal is OLD's, with \"old\":true behind its message.
 
-A stream is, again and again, a text's length in decimal, a newline, and that many bytes; of recheck, OLD in this form, the
-function's number in decimal and a newline, and NEW in this form.
+A stream is, again and again, a text's length in decimal, a newline, and that many bytes; of recheck, OLD in this form,
+the function's number in decimal and a newline, and NEW in this form.
 
-Exit status: 0 the text is accepted, or the stream was whole; 1 the text is refused, of recheck OLD or NEW; 2 it could not
-be run: no such file, no function of that name, bad usage, or a bad stream (the texts that were whole are answered).
+Exit status: 0 the text is accepted, or the stream was whole; 1 the text is refused, of recheck OLD or NEW; 2 it could
+not be run: no such file, no function of that name, bad usage, or a bad stream (the texts that were whole are answered).
 ";
 
 /// What is asked for.

@@ -1,5 +1,5 @@
-//! The command-line tool: `pitchsleet read FILE`, `pitchsleet check FILE`, `pitchsleet recheck OLD FUNCTION NEW`, and the same
-//! as JSON for other programs.
+//! The command-line tool: `pitchsleet read FILE`, `pitchsleet check FILE`, `pitchsleet recheck OLD FUNCTION NEW`, and
+//! the same as JSON for other programs.
 #![forbid(unsafe_code)]
 
 mod args;

@@ -47,8 +47,8 @@ fn old_refused(out: &mut impl Write, file: &OsStr, old: &[u8], form: Form, refus
     }
 }
 
-/// The number of the function that a word names, by its number or by its name with or without the sigil. Digits are no name,
-/// and more of them than a number may have are a number that no function has.
+/// The number of the function that a word names, by its number or by its name with or without the sigil. Digits are no
+/// name, and more of them than a number may have are a number that no function has.
 fn number_of(headers: &Headers, word: &OsStr) -> Option<usize> {
     let word = word.to_str()?;
     match word.bytes().all(|byte| byte.is_ascii_digit()) && !word.is_empty() {

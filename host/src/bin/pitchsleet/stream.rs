@@ -1,5 +1,5 @@
-//! Many texts on one input: for each its length in decimal, a newline, and that many bytes. Where a function is rechecked, the
-//! old text in this form, the function's number in decimal and a newline, and the new text in this form.
+//! Many texts on one input: for each its length in decimal, a newline, and that many bytes. Where a function is
+//! rechecked, the old text in this form, the function's number in decimal and a newline, and the new text in this form.
 use std::io::{self, BufRead, BufReader, Read, Write};
 
 use pitchsleet::Reader;
