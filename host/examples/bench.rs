@@ -4,9 +4,10 @@
 //! cargo run --release --example bench
 //! ```
 //!
-//! A text is read and checked again and again, and the shortest time of all rounds counts, on both sides alike. Beside them
-//! stands the time of a memset of the slices that are lent, which each call must fill: nothing can be faster. Where the Rust
-//! files are not to be had, its columns are empty. A time is no promise: nothing here fails because of one.
+//! A text is read and checked again and again, and the shortest time of all rounds counts, on both sides alike. Beside
+//! them stands the time of a memset of the slices that are lent, which each call must fill: nothing can be faster.
+//! Where the Rust files are not to be had, its columns are empty. Then one function of a text is changed and rechecked,
+//! beside a check of the edited text. A time is no promise: nothing here fails because of one.
 #[path = "../tests/support/mod.rs"]
 mod support;
 
@@ -26,12 +27,18 @@ const ROUNDS: u32 = 5;
 /// How many times faster than the Rust it shall be, on ordinary rules of so many bytes.
 const AIMS: [(usize, u64); 3] = [(1_024, 5), (4_096, 20), (16_384, 50)];
 
+/// How many times faster than a check of the edited text a recheck shall be, in so many bytes.
+const RECHECK_AIM: (usize, u64) = (16_384, 3);
+
+/// About how long the function is that is changed.
+const FUNCTION: usize = 300;
+
 fn main() -> ExitCode {
     if cfg!(debug_assertions) {
         eprintln!("bench: cargo run --release --example bench: without --release the times say nothing");
         return ExitCode::from(2);
     }
-    println!("{:<26} {:>6} {:>7}   {}   {}", "", "", "", head("read"), head("check"));
+    println!("{:<26} {:>6} {:>7}   {}   {}", "", "", "", head("read", "the Rust"), head("check", "the Rust"));
     for (name, text, number) in texts() {
         let mut reader = Reader::new();
         let answered = reader.check(&text).map_or_else(|refusal| refusal.number(), |_| 0);
@@ -41,12 +48,12 @@ fn main() -> ExitCode {
         let read = Row {
             floor: floor(OUT_BYTES),
             ours: shortest(|| reader.read(black_box(&text)).is_ok()),
-            rust: rust.map(|(read, _)| read),
+            other: rust.map(|(read, _)| read),
         };
         let check = Row {
             floor: floor(CHECK_OUT_BYTES),
             ours: shortest(|| reader.check(black_box(&text)).is_ok()),
-            rust: rust.map(|(_, check)| check),
+            other: rust.map(|(_, check)| check),
         };
         println!(
             "{name:<26} {:>6} {tokens:>7}   {}   {}{}",
@@ -56,46 +63,74 @@ fn main() -> ExitCode {
             aims(&name, &text, &read, &check)
         );
     }
-    println!("times in microseconds, the shortest of all rounds; x: how many times faster than the Rust");
+    println!("{:<26} {:>6} {:>7}   {}", "", "", "", head("recheck", "check"));
+    [1_024, 4_096, TEXT_BYTES].into_iter().for_each(recheck);
+    println!(
+        "times in microseconds, the shortest of all rounds; x: how many times faster than the Rust, or than the check"
+    );
     ExitCode::SUCCESS
 }
 
-fn head(command: &str) -> String {
-    format!("{:>8} {:>9} {:>9} {:>7}", "memset", command, "the Rust", "x")
+/// One function of ordinary rules changed: rechecked, beside a check of the edited text.
+fn recheck(bytes: usize) {
+    let old = ordinary(bytes, "");
+    let mut reader = Reader::new();
+    let unit = reader.check(&old).expect("accepted");
+    let headers = unit.headers();
+    let (number, function) =
+        unit.functions().enumerate().min_by_key(|(_, f)| f.span().len().abs_diff(FUNCTION)).expect("a function");
+    let span = function.span();
+    let new = String::from_utf8_lossy(&old[span.clone()]).replace("const -2", "const -3").into_bytes();
+    let edited = [&old[..span.start], &new, &old[span.end..]].concat();
+    assert!(edited != old && edited.len() == bytes && reader.recheck(&headers, number, &new).is_ok());
+    let tokens = reader.check(&edited).expect("accepted").tokens().len();
+    let row = Row {
+        floor: floor(CHECK_OUT_BYTES),
+        ours: shortest(|| reader.recheck(black_box(&headers), number, black_box(&new)).is_ok()),
+        other: Some(shortest(|| reader.check(black_box(&edited)).is_ok())),
+    };
+    let name = format!("a function of {} bytes", new.len());
+    let aim = Some(RECHECK_AIM).filter(|(of, _)| *of == bytes).map(|(_, times)| times);
+    println!("{name:<26} {bytes:>6} {tokens:>7}   {}{}", row.shown(), row.misses("recheck", aim));
 }
 
-/// What was measured of a text, in nanoseconds.
+fn head(command: &str, other: &str) -> String {
+    format!("{:>8} {:>9} {:>9} {:>7}", "memset", command, other, "x")
+}
+
+/// What was measured of a text, in nanoseconds, and what it is held against.
 struct Row {
     floor: u64,
     ours: u64,
-    rust: Option<u64>,
+    other: Option<u64>,
 }
 
 impl Row {
     fn shown(&self) -> String {
         let micros = |nanoseconds: u64| format!("{:.1}", nanoseconds as f64 / 1000.0);
-        let rust = self.rust.map(micros).unwrap_or_default();
+        let other = self.other.map(micros).unwrap_or_default();
         let times = self.times().map(|times| format!("{times:.1}")).unwrap_or_default();
-        format!("{:>8} {:>9} {rust:>9} {times:>7}", micros(self.floor), micros(self.ours))
+        format!("{:>8} {:>9} {other:>9} {times:>7}", micros(self.floor), micros(self.ours))
     }
 
     fn times(&self) -> Option<f64> {
-        self.rust.map(|rust| rust as f64 / self.ours as f64)
+        self.other.map(|other| other as f64 / self.ours as f64)
+    }
+
+    /// Where an aim is missed, a word on it.
+    fn misses(&self, command: &str, aim: Option<u64>) -> String {
+        match (aim, self.times()) {
+            (Some(aim), Some(times)) if times < aim as f64 => format!("  {command} misses its aim, {aim}"),
+            _ => String::new(),
+        }
     }
 }
 
 /// Where an aim is missed, a word on it.
 fn aims(name: &str, text: &[u8], read: &Row, check: &Row) -> String {
-    let mut words = String::new();
     let aim = AIMS.iter().find(|(bytes, _)| name.starts_with("ordinary") && *bytes == text.len());
-    for (row, command) in [(read, "read"), (check, "check")] {
-        if let (Some((_, aim)), Some(times)) = (aim, row.times())
-            && times < *aim as f64
-        {
-            write!(words, "  {command} misses its aim, {aim}").expect("a String takes all");
-        }
-    }
-    words
+    let aim = aim.map(|(_, times)| *times);
+    read.misses("read", aim) + &check.misses("check", aim)
 }
 
 fn shortest<T>(mut round: impl FnMut() -> T) -> u64 {

@@ -3,7 +3,7 @@
 //! ```text
 //! cargo run --release --example fuzz -- check SEED COUNT          compares so many generated texts, checked
 //! cargo run --release --example fuzz -- read SEED COUNT           the same, read and no more
-//! cargo run --release --example fuzz -- recheck SEED COUNT        so many edits: recheck by the model against a check
+//! cargo run --release --example fuzz -- recheck SEED COUNT        so many edits, and as many tables of another hand
 //! cargo run --release --example fuzz -- check --texts SEED COUNT  writes them, as a stream that other programs read
 //! ```
 //!
@@ -73,7 +73,8 @@ fn compare(depth: Depth, seed: u64, count: u64) -> ExitCode {
 fn compare_edits(seed: u64, count: u64) -> ExitCode {
     let mut comparison = EditComparison::new();
     for numbers in strides(count) {
-        comparison.all(edits::generated(seed, numbers));
+        comparison.all(edits::generated(seed, numbers.clone()));
+        comparison.by_other_tables(edits::with_other_tables(seed, numbers));
         eprintln!("fuzz: seed {seed}: {}", comparison.report);
     }
     let report = comparison.report;

@@ -2,8 +2,10 @@
 //!
 //! Bril is a small intermediate language for compilers. This crate turns a text in its written form into tokens and names
 //! ([`Reader::read`]), or into functions with blocks, edges and typed operations ([`Reader::check`]), or refuses it with a
-//! number, a line, a place and a message. The functions that do it are written in Rattle and proved: for every input they
-//! end, stay inside the buffers that they are lent, and answer what a definition of Bril's lexing, grammar and typing says.
+//! number, a line, a place and a message. Where one function of an accepted text is changed, the new one is checked by
+//! itself against the headers of the others ([`Reader::recheck`]). The functions that do it are written in Rattle and
+//! proved: for every input they end, stay inside the buffers that they are lent, and answer what a definition of Bril's
+//! lexing, grammar and typing says.
 //! This crate links the archive that is built from the proved functions, and adds buffers, types and a command-line tool.
 //!
 //! ```
@@ -27,6 +29,11 @@
 //!         println!("{}, block {}: {} operations", function.name().spelling, block.number(), block.operations().len());
 //!     }
 //! }
+//!
+//! let headers = unit.headers();
+//! let main = headers.position("@main").expect("there is one");
+//! let unit = reader.recheck(&headers, main, b"@main { v: int = const 6; print v; }")?;
+//! assert_eq!(unit.len(), 1);
 //! # Ok::<(), pitchsleet::Refusal>(())
 //! ```
 //!
@@ -53,6 +60,7 @@
 #![warn(missing_docs)]
 #![deny(unsafe_code, unsafe_op_in_unsafe_fn)]
 
+mod headers;
 mod iter;
 mod operation;
 mod printable;
@@ -64,6 +72,7 @@ mod token;
 mod types;
 mod unit;
 
+pub use headers::Headers;
 pub use iter::Iter;
 pub use operation::{Arguments, Operation, OperationValue};
 pub use printable::Printable;

@@ -1,8 +1,8 @@
 //! The C functions, with the sizes and offsets that docs/INTERFACE.md fixes.
 //!
-//! [`crate::Reader`] is the comfortable way in. This module is for a host that keeps buffers of its own: [`read`] and
-//! [`check`] lend them to the proved functions as they are. They are safe to call with slices of any length, since the
-//! functions trust no caller.
+//! [`crate::Reader`] is the comfortable way in. This module is for a host that keeps buffers of its own: [`read`],
+//! [`check`] and [`recheck`] lend them to the proved functions as they are. They are safe to call with slices of any
+//! length, since the functions trust no caller.
 //!
 //! The crate's only `unsafe` code stands here, and a test holds every number below against the document.
 #![allow(unsafe_code)]
@@ -49,6 +49,8 @@ pub const FUNCTIONS: usize = 64;
 pub const FORMALS: usize = 16;
 /// Where the functions begin in [`check`]'s `out`: a cell with their count, and the function records behind it.
 pub const FUNCTIONS_OFFSET: usize = 73_728;
+/// The size of a header table, [`recheck`]'s `table`: the count of functions, and the room of all their records.
+pub const TABLE_BYTES: usize = 11_524;
 /// Where the first function record stands.
 pub const FUNCTION_RECORDS_OFFSET: usize = 73_732;
 /// The size of a function record: 45 cells.
@@ -134,7 +136,7 @@ pub const PREDECESSORS_OFFSET: usize = 244_036;
 /// The size of a predecessor record: one cell.
 pub const PREDECESSOR_BYTES: usize = 4;
 
-/// The size of [`check`]'s `out`. A shorter slice is refused with 30.
+/// The size of [`check`]'s `out`, and of [`recheck`]'s. A shorter slice is refused with 30.
 pub const CHECK_OUT_BYTES: usize = 252_228;
 
 /// What [`read`] answers.
@@ -153,7 +155,7 @@ pub struct ReadAnswer {
     pub names: u32,
 }
 
-/// What [`check`] answers.
+/// What [`check`] and [`recheck`] answer.
 #[repr(C)]
 #[derive(Clone, Copy, Debug, Default, PartialEq, Eq, Hash)]
 pub struct CheckAnswer {
@@ -192,6 +194,20 @@ unsafe extern "C" {
     fn pitchsleet_check(
         text: *const u8,
         text_len: usize,
+        out: *mut u8,
+        out_len: usize,
+        message: *mut u8,
+        message_len: usize,
+    ) -> CheckAnswer;
+
+    fn pitchsleet_recheck(
+        old: *const u8,
+        old_len: usize,
+        table: *const u8,
+        table_len: usize,
+        number: u32,
+        new: *const u8,
+        new_len: usize,
         out: *mut u8,
         out_len: usize,
         message: *mut u8,
@@ -247,5 +263,48 @@ pub fn check(text: &[u8], out: &mut [u8], message: &mut [u8]) -> CheckAnswer {
     // SAFETY: as for `read` above, whose words hold for this function too.
     unsafe {
         pitchsleet_check(text.as_ptr(), text.len(), out.as_mut_ptr(), out.len(), message.as_mut_ptr(), message.len())
+    }
+}
+
+/// Checks a new text in the place of a function of an old text, against the old text's headers: the same records as
+/// [`check`]'s, of the new text alone, or a message.
+///
+/// `table` is what [`check`] wrote for the old text: the [`TABLE_BYTES`] of its `out` from [`FUNCTIONS_OFFSET`] on. A
+/// shorter one is refused with 42, and so is one with a cell out of the ranges that docs/INTERFACE.md gives; of a longer
+/// one no more is read. `out` and `message` are as for [`check`]. The call allocates nothing, and has all of its room on
+/// the stack.
+///
+/// ```
+/// use pitchsleet::raw;
+///
+/// let mut out = vec![0; raw::CHECK_OUT_BYTES];
+/// let mut message = [0; raw::MESSAGE_BYTES];
+/// let old = b"@f { nop; } @g { call @f; }";
+/// assert_eq!(raw::check(old, &mut out, &mut message).number, 0);
+/// let table = out[raw::FUNCTIONS_OFFSET..][..raw::TABLE_BYTES].to_vec();
+///
+/// let answer = raw::recheck(old, &table, 1, b"@g { call @f; ret; }", &mut out, &mut message);
+/// assert_eq!((answer.number, answer.functions), (0, 1));
+/// let answer = raw::recheck(old, &table, 1, b"@h { call @f; ret; }", &mut out, &mut message);
+/// assert_eq!((answer.number, answer.functions), (41, 0));
+/// let answer = raw::recheck(old, &table, 2, b"@g { call @f; ret; }", &mut out, &mut message);
+/// assert_eq!(answer.number, 42);
+/// ```
+pub fn recheck(old: &[u8], table: &[u8], number: u32, new: &[u8], out: &mut [u8], message: &mut [u8]) -> CheckAnswer {
+    // SAFETY: as for `read` above, whose words hold for this function too; `old`, `table` and `new` are only read.
+    unsafe {
+        pitchsleet_recheck(
+            old.as_ptr(),
+            old.len(),
+            table.as_ptr(),
+            table.len(),
+            number,
+            new.as_ptr(),
+            new.len(),
+            out.as_mut_ptr(),
+            out.len(),
+            message.as_mut_ptr(),
+            message.len(),
+        )
     }
 }

@@ -1,20 +1,21 @@
 //! The reader, and what it gives for an accepted text.
 use core::fmt::{self, Debug, Formatter};
 
+use crate::headers::Headers;
 use crate::iter::Iter;
 use crate::raw::{
-    self, CHECK_OUT_BYTES, MESSAGE_BYTES, NAME_BYTES, NAMES_OFFSET, OUT_BYTES, TOKEN_BYTES, TOKENS_OFFSET,
+    self, CHECK_OUT_BYTES, CheckAnswer, MESSAGE_BYTES, NAME_BYTES, NAMES_OFFSET, OUT_BYTES, TOKEN_BYTES, TOKENS_OFFSET,
 };
 use crate::records::{cell, record};
 use crate::refusal::Refusal;
 use crate::token::{Identifier, Name, Token, TokenValue};
 use crate::unit::Unit;
 
-/// Reads and checks texts, one after the other, in buffers of its own.
+/// Reads, checks and rechecks texts, one after the other, in buffers of its own.
 ///
 /// The buffers are taken once, by [`Reader::new`]: 252,228 bytes for the records and 512 for a message. No call of
-/// [`Reader::read`] or [`Reader::check`] allocates: the room that they need is on the stack, less than 76 KiB for a
-/// reading and less than 264 KiB for a check.
+/// [`Reader::read`], [`Reader::check`] or [`Reader::recheck`] allocates: the room that they need is on the stack, less
+/// than 76 KiB for a reading, less than 264 KiB for a check, and for a recheck what docs/INTERFACE.md says.
 ///
 /// ```
 /// use pitchsleet::Reader;
@@ -100,11 +101,62 @@ impl Reader {
     #[allow(clippy::result_large_err, reason = "a refusal carries its message, so that refused texts allocate nothing")]
     pub fn check<'a>(&'a mut self, text: &'a [u8]) -> Result<Unit<'a>, Refusal> {
         let answer = raw::check(text, &mut self.out, &mut self.message[..]);
+        self.unit(text, &answer)
+    }
+
+    /// A new function in the place of one of an accepted text: what a check of the new function says with the headers
+    /// of all others, or why it is refused.
+    ///
+    /// The new text runs from the function's name to its closing brace, with nothing before or behind, and keeps the
+    /// name and the types of its formals and of its result. Then the edited text is accepted by a check exactly when
+    /// the new function is accepted here, as long as it stays inside the limits; otherwise both give the same number
+    /// for the same token.
+    ///
+    /// What comes back has that one function, and its tokens and names are those of the new text: places count from the
+    /// new text's first byte. Lines start at that of the function that is replaced, [`Headers::line`], and a
+    /// [`Type::Fn`](crate::Type::Fn) has the number that it has in the old text.
+    ///
+    /// ```
+    /// use pitchsleet::Reader;
+    ///
+    /// let mut reader = Reader::new();
+    /// let text = "@limit: int { l: int = const -2; ret l; }\n@start(t: int): bool { b: bool = const true; ret b; }";
+    /// let headers = reader.check(text.as_bytes())?.headers();
+    /// let number = headers.position("@start").expect("there is one");
+    ///
+    /// let new = b"@start(t: int): bool { l: int = call @limit; b: bool = lt t l; ret b; }";
+    /// let unit = reader.recheck(&headers, number, new)?;
+    /// assert_eq!(unit.len(), 1);
+    ///
+    /// let new = b"@start(t: int): bool { l: int = call @limit; ret l; }";
+    /// let refusal = reader.recheck(&headers, number, new).unwrap_err();
+    /// assert_eq!((refusal.number(), refusal.line(), refusal.place()), (17, 2, 45));
+    /// let refusal = reader.recheck(&headers, number, b"@start { nop; }").unwrap_err();
+    /// assert_eq!(refusal.number(), 41, "the header must stay");
+    /// # Ok::<(), pitchsleet::Refusal>(())
+    /// ```
+    ///
+    /// # Errors
+    ///
+    /// A [`Refusal`] with its number, line, place and message: those of [`Reader::check`], 40 where the new text isn't
+    /// one function, 41 where its header has changed, and 42 where no function has the number.
+    #[allow(clippy::result_large_err, reason = "a refusal carries its message, so that refused texts allocate nothing")]
+    pub fn recheck<'a>(&'a mut self, headers: &Headers, number: usize, new: &'a [u8]) -> Result<Unit<'a>, Refusal> {
+        // A number beyond 32 bits is no function's, and neither is the highest.
+        let number = u32::try_from(number).unwrap_or(u32::MAX);
+        let (old, table) = (headers.text().as_bytes(), &headers.table()[..]);
+        let answer = raw::recheck(old, table, number, new, &mut self.out, &mut self.message[..]);
+        self.unit(new, &answer)
+    }
+
+    /// What a check or a recheck has answered to a text, with the records and the message that it wrote.
+    #[allow(clippy::result_large_err, reason = "a refusal carries its message, so that refused texts allocate nothing")]
+    fn unit<'a>(&'a self, text: &'a [u8], answer: &CheckAnswer) -> Result<Unit<'a>, Refusal> {
         if answer.number != 0 {
             return Err(Refusal::new(answer.number, answer.line, answer.place, &self.message));
         }
         let tokens = Tokens::new(text, &self.out, answer.tokens, answer.names);
-        Ok(Unit::new(tokens, &self.out, &answer))
+        Ok(Unit::new(tokens, &self.out, answer))
     }
 }
 

@@ -49,6 +49,19 @@ use crate::raw::MESSAGE_BYTES;
 /// | 20 | more or fewer arguments than formals | the word `call` |
 /// | 21 | a block of a function with a result that doesn't end in `jmp`, `br` or `ret` | its last operation's token |
 ///
+/// [`Reader::recheck`](crate::Reader::recheck) has these too, but for 35, and of its own:
+///
+/// | number | why | line and place |
+/// |---|---|---|
+/// | 40 | the new text doesn't begin with a global, or doesn't end with a `}` | its first byte |
+/// | 40 | a second function | its name |
+/// | 41 | another name, other types of the formals, or another type of the result | the function's name |
+/// | 42 | no function has the number, or the header table is not one of the old text | line 0, place 0 |
+///
+/// 42 comes first, 40 of the first or last byte once all is read, 41 before the body, and 40 of a second function
+/// before all typing. Places are those of the new text, and its lines start at that of the function that is replaced,
+/// also for 1.
+///
 /// A line is counted as the Rust original counts: from 1, and one more for each newline outside comments. So it may be
 /// less than the line that an editor shows, where a comment above ran through a newline. The place has no such trap.
 #[derive(Clone, PartialEq, Eq)]
@@ -72,7 +85,8 @@ impl Refusal {
         self.number
     }
 
-    /// The line, from 1; newlines in comments are not counted. 0 where the text is too long to be read at all.
+    /// The line, from 1; newlines in comments are not counted. 0 where no line is meant, as where the text is too long
+    /// to be read at all. Of a recheck, lines start at that of the function that is replaced.
     #[must_use]
     pub fn line(&self) -> u32 {
         self.line

@@ -16,7 +16,7 @@ pub enum Type {
     /// No value: what a function without a result gives.
     Void,
     /// A function type, by its number. Function types count from 0 in the order of the text, and equal ones share a
-    /// number.
+    /// number. In a function that was rechecked the numbers are those of the old text.
     Fn(usize),
 }
 

@@ -1,8 +1,12 @@
 //! What a checked text holds: functions, blocks and edges.
 use core::fmt::{self, Debug, Formatter};
+use core::ops::Range;
 
+use crate::headers::Headers;
 use crate::operation::Operation;
-use crate::raw::{self, ARGUMENT_BYTES, BLOCK_BYTES, CheckAnswer, FUNCTION_BYTES, ITEM_BYTES, PREDECESSOR_BYTES};
+use crate::raw::{
+    self, ARGUMENT_BYTES, BLOCK_BYTES, CheckAnswer, FUNCTION_BYTES, ITEM_BYTES, PREDECESSOR_BYTES, TABLE_BYTES,
+};
 use crate::reader::Tokens;
 use crate::records::{cell, index, record};
 use crate::token::{Identifier, Name, Token};
@@ -44,6 +48,7 @@ const LABEL: u32 = 1;
 #[derive(Clone, Copy)]
 pub struct Unit<'a> {
     tokens: Tokens<'a>,
+    table: &'a [u8; TABLE_BYTES],
     functions: &'a [u8],
     items: &'a [u8],
     arguments: &'a [u8],
@@ -57,6 +62,7 @@ impl<'a> Unit<'a> {
         let records = |offset: usize, count: u32, bytes: usize| &out[offset..][..count as usize * bytes];
         Self {
             tokens,
+            table: out[raw::FUNCTIONS_OFFSET..].first_chunk().expect("the table is inside its slice"),
             functions: records(raw::FUNCTION_RECORDS_OFFSET, answer.functions, FUNCTION_BYTES),
             items: records(raw::ITEMS_OFFSET, answer.items, ITEM_BYTES),
             arguments: records(raw::ARGUMENTS_OFFSET, answer.arguments, ARGUMENT_BYTES),
@@ -96,6 +102,16 @@ impl<'a> Unit<'a> {
     pub fn functions(&self) -> impl ExactSizeIterator<Item = Function<'a>> + DoubleEndedIterator + Clone + use<'a> {
         let unit = *self;
         (0..self.len()).map(move |index| unit.function(index).expect("the count is the table's"))
+    }
+
+    /// The text's headers, as a value of its own: what [`Reader::recheck`](crate::Reader::recheck) holds a new function
+    /// to. They take a copy of the text and 11,524 bytes.
+    ///
+    /// Of a new function that was rechecked these are its own header and no other. Those of the edited text come from a
+    /// check of the edited text.
+    #[must_use]
+    pub fn headers(&self) -> Headers {
+        Headers::new(self.tokens.text(), self.table)
     }
 }
 
@@ -143,6 +159,23 @@ impl<'a> Function<'a> {
     #[must_use]
     pub fn end_place(&self) -> usize {
         self.token_at(self.end_token()).place
+    }
+
+    /// Its bytes in the text, from its name to its closing brace: what a new text replaces that is rechecked.
+    ///
+    /// ```
+    /// use pitchsleet::Reader;
+    ///
+    /// let mut reader = Reader::new();
+    /// let text = "# two\n@f { nop; } @g { ret; }";
+    /// let unit = reader.check(text.as_bytes())?;
+    /// let spans: Vec<_> = unit.functions().map(|function| &text[function.span()]).collect();
+    /// assert_eq!(spans, ["@f { nop; }", "@g { ret; }"]);
+    /// # Ok::<(), pitchsleet::Refusal>(())
+    /// ```
+    #[must_use]
+    pub fn span(&self) -> Range<usize> {
+        self.place()..self.end_place() + 1
     }
 
     /// The line of its name; newlines in comments are not counted.

@@ -3,7 +3,7 @@ use std::alloc::{GlobalAlloc, Layout, System};
 use std::cell::Cell;
 use std::hint::black_box;
 
-use pitchsleet::Reader;
+use pitchsleet::{Reader, Refusal, Unit};
 
 /// The system's allocator, with a count of what each thread asks of it.
 struct Counting;
@@ -33,6 +33,7 @@ static ALLOCATOR: Counting = Counting;
 fn no_allocation_per_call() {
     let before_the_buffers = ASKED.get();
     let mut reader = Reader::new();
+    let headers = reader.check(b"@f(a: int): int { ret a; }").expect("accepted").headers();
     let before = ASKED.get();
     assert!(before_the_buffers < before, "the count works");
     let program = b"@f(a: int): int { .l: b: int = call @f a; br c .l .m; .m: ret b; }";
@@ -48,16 +49,26 @@ fn no_allocation_per_call() {
                 black_box(refusal.message());
             }
         }
-        match reader.check(text) {
-            Ok(unit) => {
-                let blocks = unit.functions().flat_map(|function| function.blocks());
-                black_box(blocks.clone().map(|block| block.successors().len() + block.labels().count()).sum::<usize>());
-                black_box(blocks.flat_map(|b| b.operations()).map(|o| o.operands().count()).sum::<usize>());
-            }
-            Err(refusal) => {
-                black_box(refusal.message());
-            }
+        look_at(reader.check(text));
+        for number in [0, 1, usize::MAX] {
+            look_at(reader.recheck(&headers, number, text));
         }
     }
+    assert!(reader.recheck(&headers, 0, program).is_ok());
+    black_box((headers.names().map(str::len).sum::<usize>(), headers.position("@f"), headers.line(0)));
     assert_eq!(ASKED.get(), before);
+}
+
+fn look_at(answer: Result<Unit<'_>, Refusal>) {
+    match answer {
+        Ok(unit) => {
+            let blocks = unit.functions().flat_map(|function| function.blocks());
+            black_box(blocks.clone().map(|block| block.successors().len() + block.labels().count()).sum::<usize>());
+            black_box(blocks.flat_map(|b| b.operations()).map(|o| o.operands().count()).sum::<usize>());
+            black_box(unit.functions().map(|function| function.span().len()).sum::<usize>());
+        }
+        Err(refusal) => {
+            black_box(refusal.message());
+        }
+    }
 }

@@ -8,7 +8,8 @@ use std::process::{Command, Output, Stdio};
 use std::thread;
 
 use pitchsleet::Reader;
-use support::by_crate::{by_checker, by_reader};
+use support::by_crate::{by_checker, by_reader, by_rechecker};
+use support::edits::{self, Edit};
 use support::json::Json;
 use support::oracle::Depth;
 use support::said::{Said, SaidBlock, SaidFunction, SaidOperation, SaidVariable};
@@ -310,6 +311,176 @@ fn blocks_and_edges_as_graphviz() {
     assert!(err(&refused).starts_with("-:1:1: refused 22: [line 1] Error : empty block.\n 1 | @f { }\n"));
 }
 
+// ---- a recheck for a person --------------------------------------------------------------------------------------------
+
+const OLD: &[u8] = b"# Two rules. A comment's newline isn't counted.
+@limit: int {
+  l: int = const -2;
+  ret l;
+}
+
+@start(t: int): bool {
+  b: bool = const true;
+  ret b;
+}
+@limit: int { m: int = const 0; ret m; }
+";
+
+/// The whole output for a new text on standard input, in the place of a function of the text above.
+fn rechecked(file: &str, function: &str, new: &[u8], expected_status: i32) -> String {
+    let old = Scratch::new(file, OLD);
+    answer(&["recheck", old.name(), function, "-"], new, expected_status)
+}
+
+#[test]
+fn an_accepted_function() {
+    let new = b"@start(hour: int): bool {
+  l: int = call @limit;
+  br hour .a .b;
+.a:
+  jmp .b;
+.b:
+  c: bool = lt hour l;
+  ret c;
+}";
+    let expected = "\
+@start(hour: int): bool
+  block 0: to 1, 2
+    l:int = call @limit
+    br hour .a .b
+  block 1 .a: from 0; to 2
+    jmp .b
+  block 2 .b: from 0, 1
+    c:bool = lt hour:int l:int
+    ret c
+
+-: accepted: 1 function, 3 blocks, 5 operations
+";
+    // By its name with and without the sigil, and by its number.
+    for (at, function) in ["@start", "start", "1", "01"].into_iter().enumerate() {
+        assert_eq!(rechecked(&format!("accepted-{at}.bril"), function, new, 0), expected);
+    }
+    // It prints what check prints of the function where that stands by itself, and calls itself alone.
+    let alone = b"@start(hour: int): bool { c: bool = call @start hour; ret c; }";
+    assert_eq!(rechecked("alone.bril", "start", alone, 0), checked(alone, 0));
+}
+
+#[test]
+fn old_or_new_may_be_standard_input() {
+    let (old, new) =
+        (Scratch::new("old.bril", OLD), Scratch::new("new.bril", b"@limit: int { x: int = const 7; ret x; }"));
+    let expected = |name: &str| {
+        format!(
+            "@limit: int\n  block 0\n    x:int = const 7\n    ret x\n\n{name}: accepted: 1 function, 1 block, 2 operations\n"
+        )
+    };
+    // Of two functions of a name, each has its number.
+    for function in ["limit", "0", "2"] {
+        assert_eq!(answer(&["recheck", old.name(), function, new.name()], b"", 0), expected(new.name()));
+        assert_eq!(answer(&["recheck", "-", function, new.name()], OLD, 0), expected(new.name()));
+        let new = b"@limit: int { x: int = const 7; ret x; }";
+        assert_eq!(answer(&["recheck", old.name(), function, "-"], new, 0), expected("-"));
+        assert_eq!(answer(&["recheck", "--", old.name(), function, "-"], new, 0), expected("-"));
+    }
+}
+
+/// LINE is that of the edited text; the line shown, its number and COLUMN are the new file's.
+#[test]
+fn a_refused_function() {
+    let expected = "\
+-:7:13: refused 17: [line 7] Error at 'call': 'int' type expected; 'bool' found
+ 2 |   b: bool = call @limit;
+   |             ^
+ note: line 2 of the new file is counted as line 7, since the function that is replaced is on line 6
+";
+    let new = b"@start(t: int): bool {\n  b: bool = call @limit;\n  ret b;\n}";
+    assert_eq!(rechecked("refused-function.bril", "start", new, 1), expected);
+    let expected = "\
+-:6:4: refused 3: [line 6] Error : Unexpected token: '$'.
+ 3 | */ $
+   |    ^
+ note: line 3 of the new file is counted as line 6, since the function that is replaced is on line 6 and newlines in \
+comments are not counted
+";
+    assert_eq!(rechecked("refused-comments.bril", "start", b"@start # one\n/* two\n*/ $", 1), expected);
+    // The first function stands on line 1 by the count, so there is nothing to tell of lines.
+    let expected = "\
+-:2:10: refused 16: [line 2] Error at '@nobody': Undefined identifier.
+ 2 | x: int = call @nobody; }
+   |          ^
+";
+    assert_eq!(rechecked("refused-first.bril", "0", b"@limit: int {\nx: int = call @nobody; }", 1), expected);
+}
+
+/// What a person wants to know of the numbers that recheck alone has.
+#[test]
+fn a_function_that_is_none_or_another() {
+    let newline = "\
+-:1:1: refused 40: [line 1] Error : not one function.
+ 1 | @limit: int { ret x; }
+   | ^
+ note: a new file runs from a function's name to its closing brace, and not even a newline stands behind it
+";
+    assert_eq!(rechecked("newline.bril", "limit", b"@limit: int { ret x; }\n", 1), newline);
+    let second = "\
+-:2:1: refused 40: [line 2] Error : not one function.
+ 2 | @g { nop; }
+   | ^
+";
+    let new = b"@limit: int { .l: jmp .l; }\n@g { nop; }";
+    assert_eq!(rechecked("second.bril", "limit", new, 1), second);
+    let changed = "\
+-:6:1: refused 41: [line 6] Error : header changed.
+ 1 | @start(t: int): int { ret t; }
+   | ^
+ note: line 1 of the new file is counted as line 6, since the function that is replaced is on line 6
+ note: the function that is replaced is @start(t: int): bool; its name and types must stay
+";
+    assert_eq!(rechecked("changed.bril", "start", b"@start(t: int): int { ret t; }", 1), changed);
+    let table = "\
+-:0:1: refused 42: [line 0] Error : bad header table.
+ note: the old file has 3 functions, numbered from 0
+";
+    for (at, number) in ["3", "64", "4294967296", "18446744073709551616"].into_iter().enumerate() {
+        assert_eq!(rechecked(&format!("table-{at}.bril"), number, b"@start", 1), table);
+    }
+    let ascii = "\
+-:6:1: refused 1: [line 6] Error : Only ASCII input is supported.
+ 1 | x
+   | ^
+ note: the first byte above 127 is at line 2 of the file, column 3
+ note: line 1 of the new file is counted as line 6, since the function that is replaced is on line 6
+";
+    assert_eq!(rechecked("ascii.bril", "start", "x\n# é".as_bytes(), 1), ascii);
+    let too_long = "\
+-:0:1: refused 31: [line 0] Error : too many bytes.
+ note: the text has more than 16384 bytes
+";
+    assert_eq!(rechecked("long.bril", "start", &b" ".repeat(20_000), 1), too_long);
+}
+
+/// The old text's refusal is check's, with its exit status; the function isn't looked for, nor is the new text read as
+/// one.
+#[test]
+fn an_old_text_that_is_refused() {
+    let old = Scratch::new("old-refused.bril", b"@f {\n  ret x;\n}\n");
+    let by_check = run(&["check", old.name()], b"");
+    for function in ["f", "nobody", "7"] {
+        let output = run(&["recheck", old.name(), function, "-"], b"$");
+        assert_eq!((status(&output), err(&output)), (status(&by_check), ""));
+        let note = " note: this is the old file, which must be accepted as it is; the new one was not looked at\n";
+        assert_eq!(out(&output), format!("{}{note}", out(&by_check)));
+        assert!(out(&output).starts_with(&format!("{}:2:3: refused 16: [line 2]", old.name())));
+    }
+    let line = answer(&["recheck", "--json", old.name(), "f", "-"], b"$", 1);
+    let expected = answer(&["check", "--json", old.name()], b"", 1).replace("}\n", ",\"old\":true}\n");
+    assert_eq!(line, expected);
+    assert!(line.ends_with("Undefined identifier.\\u000a\",\"old\":true}\n"), "{line}");
+    // Of a text that is too long no more is kept than shows it.
+    let too_long = answer(&["recheck", "--json", "-", "f", old.name()], &b" ".repeat(100_000), 1);
+    assert!(too_long.starts_with(r#"{"number":31,"line":0,"place":0,"#) && too_long.ends_with("\"old\":true}\n"));
+}
+
 // ---- JSON --------------------------------------------------------------------------------------------------------------
 
 #[test]
@@ -355,6 +526,31 @@ fn json_of_a_checked_text() {
     assert_eq!(refused.trim_end(), expected);
 }
 
+/// The form of check, of the new text: lines, and the numbers of function types, are the old one's.
+#[test]
+fn json_of_a_rechecked_function() {
+    let old = Scratch::new("json-old.bril", b"@g { nop; }\n@f(a: int): int { ret a; }");
+    let new = b"@f(a: int): int { call @g; ret a; }";
+    let expected = concat!(
+        r#"{"number":0,"line":0,"place":0,"message":"","tokens":[["global",0,2,0],["(",null,2,2],["local",1,2,3],"#,
+        r#"[":",null,2,4],["int",null,2,6],[")",null,2,9],[":",null,2,10],["int",null,2,12],["{",null,2,16],"#,
+        r#"["call",null,2,18],["global",2,2,23],[";",null,2,25],["ret",null,2,27],["local",1,2,31],[";",null,2,32],"#,
+        r#"["}",null,2,34],["END_OF_FILE",null,2,35]],"names":["@f","a","@g"],"functions":["#,
+        r#"{"token":0,"name":0,"line":2,"name_place":0,"name_length":2,"formals":[[1,"int"]],"ret":"int","types":["int"],"#,
+        r#""type":1,"labels":[],"end_token":15,"end_place":34,"blocks":["#,
+        r#"{"ops":[{"kind":"call","token":9,"result":null,"callee":[2,"fn 0"],"operands":[],"labels":[]},"#,
+        r#"{"kind":"ret","token":12,"result":null,"callee":null,"operands":[[1,"placeholder"]],"labels":[]}],"#,
+        r#""succs":[],"preds":[],"dead":false}]}]}"#,
+        "\n"
+    );
+    assert_eq!(answer(&["recheck", "--json", old.name(), "f", "-"], new, 0), expected);
+    let refused = answer(&["recheck", old.name(), "1", "-", "--json"], b"@f { ret; }", 1);
+    assert_eq!(
+        refused,
+        "{\"number\":41,\"line\":2,\"place\":0,\"message\":\"[line 2] Error : header changed.\\u000a\"}\n"
+    );
+}
+
 // ---- streams -----------------------------------------------------------------------------------------------------------
 
 fn stream(texts: &[Vec<u8>]) -> Vec<u8> {
@@ -377,6 +573,115 @@ fn a_stream_of_checks_answers_every_text() {
             let expected = functions.iter().map(function_json).collect();
             assert_eq!(line.get("functions"), Some(&Json::List(expected)));
         }
+    }
+}
+
+/// The same of rechecks: many functions, numbers that no function has, and old texts that are refused.
+#[test]
+fn a_stream_of_rechecks_answers_each() {
+    let edits: Vec<Edit> = edits::generated(2, 0..600).collect();
+    let asked: Vec<(&[u8], usize, &[u8])> = edits
+        .iter()
+        .flat_map(|Edit { old, number, new, .. }| {
+            let odd = match number % 5 {
+                0 => (&old[..], number + 64, &new[..]),
+                // A new text of its own is most times refused, since it calls others.
+                _ => (&new[..], *number, &old[..]),
+            };
+            [(&old[..], *number, &new[..]), odd]
+        })
+        .collect();
+    let input: Vec<u8> = asked.iter().flat_map(|(old, number, new)| frame(old, &number.to_string(), new)).collect();
+    let output = run(&["recheck", "--json", "--stream"], &input);
+    assert_eq!((status(&output), err(&output)), (0, ""));
+    let lines: Vec<&str> = out(&output).lines().collect();
+    assert_eq!(lines.len(), asked.len());
+    let mut reader = Reader::new();
+    let (mut accepted, mut refused, mut old_refused) = (0, 0, 0);
+    for (line, (old, number, new)) in lines.iter().zip(&asked) {
+        let line = Json::parse(line);
+        let headers = match reader.check(old) {
+            Ok(unit) => unit.headers(),
+            Err(_) => {
+                assert_same(&line, &by_checker(&mut reader, old));
+                assert_eq!(line.get("old"), Some(&Json::Bool(true)));
+                old_refused += 1;
+                continue;
+            }
+        };
+        let said = by_rechecker(&mut reader, &headers, *number, new);
+        assert_same(&line, &said);
+        assert_eq!(line.get("old"), None);
+        match &said {
+            Said::Accepted { functions, .. } => {
+                let expected = functions.iter().map(function_json).collect();
+                assert_eq!(line.get("functions"), Some(&Json::List(expected)));
+                accepted += 1;
+            }
+            Said::Refused { .. } => refused += 1,
+        }
+    }
+    assert!(accepted > 100 && refused > 100 && old_refused > 100, "{accepted}, {refused}, {old_refused}");
+}
+
+/// A recheck as a stream has it.
+fn frame(old: &[u8], number: &str, new: &[u8]) -> Vec<u8> {
+    let length = |text: &[u8]| format!("{}\n", text.len()).into_bytes();
+    [&length(old)[..], old, number.as_bytes(), b"\n", &length(new), new].concat()
+}
+
+#[test]
+fn a_stream_of_rechecks_goes_on() {
+    let (old, new) = (&b"@f { nop; }"[..], &b"@f { ret; }"[..]);
+    let long = b" ".repeat(300_000);
+    let input = [
+        frame(old, "0", new),
+        frame(&long, "0", new),
+        frame(old, "18446744073709551615", new),
+        frame(old, "4294967296", new),
+        frame(old, "00", &long),
+        frame(b"", "0", new),
+        frame(old, "0", b""),
+    ]
+    .concat();
+    let output = run(&["recheck", "--json", "--stream"], &input);
+    assert_eq!((status(&output), err(&output)), (0, ""));
+    let fields = out(&output).lines().map(|line| {
+        let line = Json::parse(line);
+        (line.get("number").expect("a number").number(), line.get("old").is_some())
+    });
+    let expected = [(0, false), (31, true), (42, false), (42, false), (31, false), (42, false), (40, false)];
+    assert_eq!(fields.collect::<Vec<_>>(), expected);
+    let output = run(&["recheck", "--json", "--stream"], b"");
+    assert_eq!((status(&output), out(&output), err(&output)), (0, "", ""));
+}
+
+#[test]
+fn a_bad_stream_of_rechecks_is_2_after_what_was_whole() {
+    let whole = [frame(b"@f { nop; }", "0", b"@f { ret; }"), frame(b"x", "0", b"y")].concat();
+    for (rest, why) in [
+        (&b"x"[..], "the old one: it has no length"),
+        (b"\n", "the old one: it has no length"),
+        (b"3", "the old one: it has no length"),
+        (b"3\nab", "the old one: the input ends after 2 of its 3 bytes"),
+        (b"2\nab", "it has no function's number"),
+        (b"2\nab\n", "it has no function's number"),
+        (b"2\nab0", "it has no function's number"),
+        (b"2\nab-1\n2\nab", "it has no function's number"),
+        (b"2\nab+1\n2\nab", "it has no function's number"),
+        (b"2\nab@f\n2\nab", "it has no function's number"),
+        (b"2\nab18446744073709551616\n2\nab", "it has no function's number"),
+        (b"2\nab0\n", "it has no length"),
+        (b"2\nab0\n2", "it has no length"),
+        (b"2\nab0\nab", "it has no length"),
+        (b"2\nab0\n3\nab", "the input ends after 2 of its 3 bytes"),
+        (b"2\nab0\n99999\nab", "the input ends after 2 of its 99999 bytes"),
+    ] {
+        let output = run(&["recheck", "--json", "--stream"], &[&whole[..], rest].concat());
+        assert_eq!(status(&output), 2);
+        assert_eq!(out(&output).lines().count(), 2, "what was whole is answered");
+        assert!(err(&output).starts_with(&format!("pitchsleet: standard input, text 3: {why}")), "{}", err(&output));
+        assert_eq!(err(&output).lines().count(), 1);
     }
 }
 
@@ -480,16 +785,22 @@ fn assert_same(line: &Json, said: &Said) {
 /// Another program may wait for each answer before it asks on.
 #[test]
 fn a_stream_answers_before_it_waits() {
+    answers_each("read", ["x", "$", ""].map(|text| format!("{}\n{text}", text.len()).into_bytes()));
+    let rechecks: [(&[u8], &[u8]); 3] = [(b"@f{ret;}", b"@f{nop;}"), (b"$", b""), (b"@f{ret;}", b"$")];
+    answers_each("recheck", rechecks.map(|(old, new)| frame(old, "0", new)));
+}
+
+fn answers_each(command: &str, asked: [Vec<u8>; 3]) {
     let mut process = Command::new(TOOL)
-        .args(["read", "--json", "--stream"])
+        .args([command, "--json", "--stream"])
         .stdin(Stdio::piped())
         .stdout(Stdio::piped())
         .spawn()
         .expect("the tool runs");
     let mut input = process.stdin.take().expect("it is piped");
     let mut output = BufReader::new(process.stdout.take().expect("it is piped"));
-    for text in ["x", "$", ""] {
-        write!(input, "{}\n{text}", text.len()).expect("the tool listens");
+    for asked in asked {
+        input.write_all(&asked).expect("the tool listens");
         let mut line = String::new();
         output.read_line(&mut line).expect("the tool answers");
         assert!(line.ends_with("}\n"), "{line}");
@@ -582,6 +893,20 @@ fn what_can_t_be_run_is_2_with_one_line() {
         &["check", "--json", "--stream", "-"],
         &["check", "a", "b"],
         &["check", "no/such/file"],
+        &["recheck"],
+        &["recheck", "a"],
+        &["recheck", "a", "f"],
+        &["recheck", "a", "f", "b", "c"],
+        &["recheck", "-", "f", "-"],
+        &["recheck", "no/such/file", "f", "-"],
+        &["recheck", "-", "f", "no/such/file"],
+        &["recheck", "-", "f", "Cargo.toml"],
+        &["recheck", "-", "", "Cargo.toml"],
+        &["recheck", "-", "\u{1b}[31m", "Cargo.toml"],
+        &["recheck", "--dot", "a", "f", "b"],
+        &["recheck", "--stream"],
+        &["recheck", "--json", "--stream", "a"],
+        &["recheck", "--json", "--stream", "a", "f", "b"],
         &["read", "--dot", "-"],
         &["read", "--json"],
         &["read", "--stream"],
@@ -605,10 +930,19 @@ fn what_can_t_be_run_is_2_with_one_line() {
 
 #[test]
 fn help_and_version() {
-    for words in [&["--help"][..], &["-h"], &["read", "--help"], &["read", "x", "-h"], &["check", "--dot", "-h"]] {
+    for words in [
+        &["--help"][..],
+        &["-h"],
+        &["read", "--help"],
+        &["read", "x", "-h"],
+        &["check", "--dot", "-h"],
+        &["recheck", "-h"],
+    ] {
         let output = run(words, b"");
         assert_eq!((status(&output), err(&output)), (0, ""));
-        assert!(out(&output).contains("pitchsleet read FILE") && out(&output).contains("pitchsleet check FILE"));
+        for command in ["read FILE", "check FILE", "recheck OLD FUNCTION NEW"] {
+            assert!(out(&output).contains(&format!("pitchsleet {command}")), "{command}");
+        }
         assert!(out(&output).contains("not in a comment"), "it says how LINE is counted");
     }
     let output = run(&["--version"], b"");

@@ -2,7 +2,7 @@
 use std::mem::{align_of, offset_of, size_of};
 
 use pitchsleet::raw::{self, CheckAnswer, ReadAnswer};
-use pitchsleet::{Reader, TokenValue};
+use pitchsleet::{Reader, Refusal, TokenValue};
 
 const DOCUMENT: &str = include_str!("../../docs/INTERFACE.md");
 
@@ -43,6 +43,7 @@ fn number_between(before: &str, after: &str) -> usize {
 fn sizes_of_the_slices() {
     let sizes = [
         ("text", raw::TEXT_BYTES),
+        ("table", raw::TABLE_BYTES),
         ("out of read", raw::OUT_BYTES),
         ("out of check", raw::CHECK_OUT_BYTES),
         ("message", raw::MESSAGE_BYTES),
@@ -144,6 +145,7 @@ fn slices_of_the_checker() {
         end += number(&row[3]) * 4;
     }
     assert_eq!(raw::FUNCTION_RECORDS_OFFSET, raw::FUNCTIONS_OFFSET + 4, "the count is one cell");
+    assert_eq!(raw::FUNCTIONS_OFFSET + raw::TABLE_BYTES, raw::ITEMS_OFFSET, "a header table is this slice");
     assert_eq!(end, raw::CHECK_OUT_BYTES);
 }
 
@@ -251,7 +253,7 @@ fn last_function_s_first_item(text: &str) -> Vec<u32> {
 /// The order of the function's parameters, in the C of the document and in the Rust of the declaration.
 #[test]
 fn parameters_of_the_functions() {
-    for name in ["pitchsleet_read", "pitchsleet_check"] {
+    for name in ["pitchsleet_read", "pitchsleet_check", "pitchsleet_recheck"] {
         let of_document = DOCUMENT.split(&format!("{name}(\n")).nth(1).expect("the C declaration");
         let of_declaration =
             include_str!("../src/raw.rs").split(&format!("fn {name}(\n")).nth(1).expect("the Rust one");
@@ -270,6 +272,7 @@ fn c_parameter(parameter: &str) -> (String, &'static str) {
         Some("const uint8_t *") => "*const u8",
         Some("uint8_t *") => "*mut u8",
         Some("size_t") => "usize",
+        Some("uint32_t") => "u32",
         other => panic!("a type that the function doesn't take: {other:?}"),
     };
     (name.to_owned(), ty)
@@ -277,7 +280,7 @@ fn c_parameter(parameter: &str) -> (String, &'static str) {
 
 fn rust_parameter(parameter: &str) -> (String, &'static str) {
     let (name, ty) = parameter.split_once(": ").expect("a name and a type");
-    let ty = ["*const u8", "*mut u8", "usize"].into_iter().find(|known| *known == ty);
+    let ty = ["*const u8", "*mut u8", "usize", "u32"].into_iter().find(|known| *known == ty);
     (name.to_owned(), ty.expect("a type that C has"))
 }
 
@@ -338,17 +341,39 @@ fn refusals() {
     assert_eq!(rows.len(), texts.len());
     for (row, (expected, text)) in rows.iter().zip(&texts) {
         let refusal = reader.read(text).expect_err("refused");
-        assert_eq!((number(&row[0]), refusal.number() as usize), (*expected, *expected));
-        for (cell, found) in [(&row[1], refusal.line() as usize), (&row[2], refusal.place())] {
-            // A cell that is no number says of what the line or the place is.
-            assert!(
-                cell.parse().is_ok_and(|said: usize| said == found) || cell.starts_with("of "),
-                "{expected}: {cell}"
-            );
-        }
-        let words = row[3].replace("'c'. with the byte itself for c", "'$'.");
-        let message = format!("[line {}] Error : {words}\n", refusal.line());
-        assert_eq!(refusal.message(), message.as_bytes());
+        assert_row(row, *expected, &refusal);
+    }
+}
+
+/// A refusal at no token: its number, line, place and message.
+fn assert_row(row: &[String], expected: usize, refusal: &Refusal) {
+    assert_eq!((number(&row[0]), refusal.number() as usize), (expected, expected));
+    for (cell, found) in [(&row[1], refusal.line() as usize), (&row[2], refusal.place())] {
+        // A cell that is no number says of what the line or the place is.
+        assert!(cell.parse().is_ok_and(|said: usize| said == found) || cell.starts_with("of "), "{expected}: {cell}");
+    }
+    let words = row[3].replace("'c'. with the byte itself for c", "'$'.");
+    let message = format!("[line {}] Error : {words}\n", refusal.line());
+    assert_eq!(refusal.message(), message.as_bytes());
+}
+
+/// Each refusal of the document that recheck alone has, from a new text that has it.
+#[test]
+fn refusals_of_recheck() {
+    let mut reader = Reader::new();
+    let headers = reader.check(b"@g { nop; }\n@f { nop; }").expect("accepted").headers();
+    let texts = [
+        (40, 1, "@f { nop; } ", 2, 0),
+        (40, 1, "@f { nop; }\n@g { nop; }", 3, 12),
+        (41, 1, "@g { nop; }", 2, 0),
+        (42, 2, "@f { nop; }", 0, 0),
+    ];
+    let rows = table("Refusals of recheck");
+    assert_eq!(rows.len(), texts.len());
+    for (row, (expected, function, new, line, place)) in rows.iter().zip(texts) {
+        let refusal = reader.recheck(&headers, function, new.as_bytes()).expect_err("refused");
+        assert_row(row, expected, &refusal);
+        assert_eq!((refusal.line(), refusal.place()), (line, place), "{new}");
     }
 }
 
@@ -420,7 +445,19 @@ fn stack_of_a_call() {
         texts.iter().all(|text| reader.check(text.as_bytes()).is_ok()) && reader.check(b"@f { ret x; }").is_err()
     };
     runs_in(number_between("A call of read needs less than ", " KiB of stack"), read);
+    let recheck = || {
+        let mut reader = Reader::new();
+        let functions: String = (0..64).map(|i| format!("@f{i}(a: int) {{ nop; }}\n")).collect();
+        let headers = reader.check(functions.as_bytes()).expect("accepted").headers();
+        let loops: String = (0..255).map(|i| format!(".l{i}: br q .l{} .l{};", (i + 1) % 255, i / 2)).collect();
+        let calls: String = (0..64).map(|i| format!("call @f{i} a;")).collect();
+        let texts = [format!("@f63(a: int) {{ {loops} }}"), format!("@f63(a: int) {{ {calls} }}")];
+        texts.iter().all(|text| reader.recheck(&headers, 63, text.as_bytes()).is_ok())
+            && reader.recheck(&headers, 63, b"@f63(a: int) { ret x; }").is_err()
+            && reader.recheck(&headers, 64, b"").is_err()
+    };
     runs_in(number_between("A call of check needs less than ", " KiB"), check);
+    runs_in(number_between("A call of recheck needs less than ", " KiB"), recheck);
 }
 
 fn runs_in(kibibytes: usize, call: impl FnOnce() -> bool + Send + 'static) {

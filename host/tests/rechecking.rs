@@ -1,9 +1,10 @@
-//! Recheck by the model of document 01: answers that are written down here, and demand 3, edit by edit, against a check of
-//! the whole edited text and against the Rust original.
+//! Recheck: this crate against the model of document 01, edit by edit and table by table; the model, by demand 3,
+//! against a check of the whole edited text and against the Rust original; and answers of the model that are written
+//! down here.
 //!
-//! `PITCHSLEET_EDITS` says how many edits are generated, `PITCHSLEET_SEED` from which seed. Both are printed, with what came
-//! of them. Where the Rust files are not to be had (oracle/README.md) that is said in one line, and the model alone is
-//! compared with itself.
+//! `PITCHSLEET_EDITS` says how many edits are generated, and how many rechecks with a table that check didn't write;
+//! `PITCHSLEET_SEED` from which seed. Both are printed, with what came of them. Where the Rust files are not to be had
+//! (oracle/README.md) that is said in one line, and the model alone is compared with.
 mod support;
 
 use std::io::Write;
@@ -27,13 +28,14 @@ fn from_environment(name: &str, default: u64) -> u64 {
 
 // ---- demand 3 ----------------------------------------------------------------------------------------------------------
 
-/// A run of the usual size reaches every answer that recheck can have with a table as check wrote it, and breaks every
-/// premise.
+/// A run of the usual size reaches every answer that recheck can have, with a table as check wrote it and with others,
+/// and breaks every premise.
 #[test]
 fn generated_edits() {
     let (seed, count) = (from_environment("PITCHSLEET_SEED", SEED), from_environment("PITCHSLEET_EDITS", EDITS));
     let mut comparison = EditComparison::new();
     comparison.all(edits::generated(seed, 0..count));
+    comparison.by_other_tables(edits::with_other_tables(seed, 0..count));
     let report = comparison.report;
     // Not by `println!`, whose output a passing test keeps to itself.
     writeln!(std::io::stderr(), "rechecking: generated, seed {seed}: {report}").expect("standard error");
@@ -43,6 +45,9 @@ fn generated_edits() {
     }
     for number in [0].into_iter().chain(5..=22).chain(36..=38) {
         assert!(report.answered(number) > 0, "no edit is answered with {number}");
+    }
+    for number in [0].into_iter().chain(2..=22).chain([36, 37, 40, 41, 42]) {
+        assert!(report.answered_by_other_tables(number) > 0, "no edit with another table is answered with {number}");
     }
     for premise in Premise::ALL {
         assert!(report.left_out(premise) > 0, "it is never otherwise than that {premise}");

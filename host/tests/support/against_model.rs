@@ -1,10 +1,11 @@
 //! This crate and the C functions against the model of document 01: every field, and every byte lent.
 use std::fmt::Debug;
 
-use pitchsleet::Reader;
 use pitchsleet::raw::{self, CheckAnswer, ReadAnswer};
+use pitchsleet::{Headers, Reader};
 
-use super::by_crate::{by_checker, by_reader};
+use super::by_crate::{by_checker, by_reader, by_rechecker};
+use super::edits::{Edit, Quadruple, cells_of, table_of};
 use super::model::{self, Checked};
 use super::records::Cells;
 use super::said::Said;
@@ -46,12 +47,46 @@ impl Lent {
         let expected = model::check(text);
         let said = by_checker(&mut self.reader, text);
         same(&said, &expected.said)?;
-        let cells = Cells::of_check(&expected.said);
         let answer = raw::check(text, &mut self.check_out, &mut self.message);
-        same_answer(&answer, &check_answer(&expected.said, &cells))?;
-        same_bytes("records", &self.check_out, &cells.bytes(7))?;
-        same_bytes("message", &self.message, message_of(&expected.said))?;
+        self.same_lent(&answer, &expected.said)?;
         Ok(expected)
+    }
+
+    /// The same of an edit that is rechecked, with the table that check wrote for the old text. The reader is handed
+    /// that as headers, and the C function as bytes.
+    pub fn compare_edit(&mut self, edit: &Edit) -> Result<Said, String> {
+        let Edit { old, before, number, new } = edit;
+        let headers = self.headers(old)?;
+        let table = headers.table().to_vec();
+        if Some(cells_of(&table)) != table_of(before) {
+            return Err("the old text's header table is not what the model says".to_owned());
+        }
+        let said = by_rechecker(&mut self.reader, &headers, *number, new);
+        let quadruple = Quadruple { old: old.clone(), table, number: *number as u32, new: new.clone() };
+        same(&said, &self.compare_recheck(&quadruple)?)?;
+        Ok(said)
+    }
+
+    /// The same of the C function alone, which is lent any table.
+    pub fn compare_recheck(&mut self, quadruple: &Quadruple) -> Result<Said, String> {
+        let Quadruple { old, table, number, new } = quadruple;
+        let expected = model::recheck(old, &cells_of(table), *number, new).said;
+        let answer = raw::recheck(old, table, *number, new, &mut self.check_out, &mut self.message);
+        self.same_lent(&answer, &expected)?;
+        Ok(expected)
+    }
+
+    fn headers(&mut self, old: &[u8]) -> Result<Headers, String> {
+        let unit = self.reader.check(old).map_err(|refusal| format!("the old text is {refusal}"))?;
+        Ok(unit.headers())
+    }
+
+    /// What a check or a recheck has answered and left in the slices.
+    fn same_lent(&self, answer: &CheckAnswer, expected: &Said) -> Result<(), String> {
+        let cells = Cells::of_check(expected);
+        same_answer(answer, &check_answer(expected, &cells))?;
+        same_bytes("records", &self.check_out, &cells.bytes(7))?;
+        same_bytes("message", &self.message, message_of(expected))
     }
 }
 

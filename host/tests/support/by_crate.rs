@@ -1,5 +1,7 @@
 //! What this crate says of a text, by its safe interface.
-use pitchsleet::{Block, Function, Label, Name, Operation, Reader, Refusal, Token, TokenValue, Tokens, Type, Variable};
+use pitchsleet::{
+    Block, Function, Headers, Label, Name, Operation, Reader, Refusal, Token, TokenValue, Tokens, Type, Unit, Variable,
+};
 
 use super::said::{Said, SaidBlock, SaidFunction, SaidLabel, SaidName, SaidOperation, SaidToken, SaidVariable, Ty};
 
@@ -13,7 +15,16 @@ pub fn by_reader(reader: &mut Reader, text: &[u8]) -> Said {
 
 /// What this crate says of a text that is checked.
 pub fn by_checker(reader: &mut Reader, text: &[u8]) -> Said {
-    match reader.check(text) {
+    of_unit(reader.check(text))
+}
+
+/// What this crate says of a text that is rechecked.
+pub fn by_rechecker(reader: &mut Reader, headers: &Headers, number: usize, new: &[u8]) -> Said {
+    of_unit(reader.recheck(headers, number, new))
+}
+
+fn of_unit(answer: Result<Unit<'_>, Refusal>) -> Said {
+    match answer {
         Err(refusal) => refused(&refusal),
         Ok(unit) => accepted(&unit.tokens(), unit.functions().map(|function| said_function(&function)).collect()),
     }

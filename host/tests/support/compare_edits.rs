@@ -1,12 +1,14 @@
-//! The comparison of edits: recheck by the model against a check of the edited text, and that against the Rust.
+//! The comparison of edits: this crate's recheck against the model's, the model's against a check of the edited text,
+//! and that against the Rust.
 use std::collections::BTreeMap;
 use std::fmt::{self, Display, Formatter};
 
 use pitchsleet::Printable;
 
 use super::against_fresh::{Premise, Rechecked, compare_with_fresh};
+use super::against_model::Lent;
 use super::against_rust::compare_with_rust;
-use super::edits::Edit;
+use super::edits::{Edit, Quadruple, cells_of};
 use super::oracle::{Depth, Oracle};
 
 /// How many texts the oracle is asked at once.
@@ -23,6 +25,8 @@ pub struct EditReport {
     numbers: BTreeMap<u32, usize>,
     /// How many were left out since a premise fails, and how many of these were answered with each number.
     failing: BTreeMap<Premise, BTreeMap<u32, usize>>,
+    /// How many were answered with each number where the table isn't one that check wrote for the old text.
+    by_other_tables: BTreeMap<u32, usize>,
     /// Edits after which the answer to the whole text was held against the Rust's.
     held_to_rust: usize,
     /// Those left out of that, since typing came to a block that can't be reached, or ties with one.
@@ -46,15 +50,24 @@ impl EditReport {
         self.failing.get(&premise).map_or(0, |numbers| numbers.values().sum())
     }
 
+    /// How many were answered with a number where the table isn't one that check wrote for the old text.
+    pub fn answered_by_other_tables(&self, number: u32) -> usize {
+        self.by_other_tables.get(&number).copied().unwrap_or(0)
+    }
+
     pub fn held_to_rust(&self) -> usize {
         self.held_to_rust
     }
 
     fn differs(&mut self, edit: &Edit, why: &str) {
+        let (old, new) = (Printable(&edit.old), Printable(&edit.new));
+        self.tell(format!("- function {} of: {old}\n  becomes: {new}\n  {why}", edit.number));
+    }
+
+    fn tell(&mut self, difference: String) {
         self.differing += 1;
         if self.told.len() < TOLD {
-            let (old, new) = (Printable(&edit.old), Printable(&edit.new));
-            self.told.push(format!("- function {} of: {old}\n  becomes: {new}\n  {why}", edit.number));
+            self.told.push(difference);
         }
     }
 }
@@ -62,7 +75,7 @@ impl EditReport {
 impl Display for EditReport {
     fn fmt(&self, f: &mut Formatter<'_>) -> fmt::Result {
         let Self { edits, held_to_rust, unreachable, differing, .. } = self;
-        write!(f, "{edits} edits; where demand 3 speaks:{}", Listed(&self.numbers))?;
+        write!(f, "{edits} edits held to the model; where demand 3 speaks:{}", Listed(&self.numbers))?;
         write!(
             f,
             "; {held_to_rust} of them held to the Rust, {unreachable} with an unreachable block left out of that"
@@ -70,6 +83,7 @@ impl Display for EditReport {
         for (premise, numbers) in &self.failing {
             write!(f, "; not so that {premise}:{}", Listed(numbers))?;
         }
+        write!(f, "; held to the model by other tables:{}", Listed(&self.by_other_tables))?;
         write!(f, "; {differing} differ")?;
         self.told.iter().try_for_each(|difference| write!(f, "\n{difference}"))
     }
@@ -90,13 +104,31 @@ impl Display for Listed<'_> {
 
 /// Compares edits as they come.
 pub struct EditComparison {
+    lent: Lent,
     oracle: Option<Oracle>,
     pub report: EditReport,
 }
 
 impl EditComparison {
     pub fn new() -> Self {
-        Self { oracle: Oracle::start(Depth::Check), report: EditReport::default() }
+        Self { lent: Lent::new(), oracle: Oracle::start(Depth::Check), report: EditReport::default() }
+    }
+
+    /// Rechecks that demand 3 says nothing of: what they are held to is the model.
+    pub fn by_other_tables(&mut self, quadruples: impl IntoIterator<Item = Quadruple>) {
+        for quadruple in quadruples {
+            match self.lent.compare_recheck(&quadruple) {
+                Ok(said) => *self.report.by_other_tables.entry(said.number()).or_default() += 1,
+                Err(why) => {
+                    let Quadruple { old, table, number, new } = &quadruple;
+                    let (old, new, table) = (Printable(old), Printable(new), cells_of(table));
+                    let end = table.iter().rposition(|&cell| cell != 0).map_or(0, |last| last + 1);
+                    let table = &table[..end];
+                    self.report
+                        .tell(format!("- function {number} of: {old}\n  by {table:?}\n  becomes: {new}\n  {why}"));
+                }
+            }
+        }
     }
 
     pub fn all(&mut self, edits: impl IntoIterator<Item = Edit>) {
@@ -115,6 +147,10 @@ impl EditComparison {
     fn one(&mut self, edit: &Edit) -> Option<Rechecked> {
         let report = &mut self.report;
         report.edits += 1;
+        if let Err(why) = self.lent.compare_edit(edit) {
+            report.differs(edit, &why);
+            return None;
+        }
         match compare_with_fresh(edit) {
             Err(why) => report.differs(edit, &why),
             Ok(Rechecked { number, fails: Some(premise), .. }) => {

@@ -1,7 +1,8 @@
-//! Edits: an accepted text of several functions, one of them, and a text to stand in its place. Most keep the function's
-//! header; some are what a premise of demand 3 leaves out. A seed gives the same ones each time.
+//! Edits: an accepted text of several functions, one of them, and a text to stand in its place. Most keep the
+//! function's header; some are what a premise of demand 3 leaves out. And what recheck may be called with beside these:
+//! tables that check didn't write, or not for that text. A seed gives the same ones each time.
 use super::dice::Dice;
-use super::model::{self, BYTES, NAMES, TABLE, TOKENS};
+use super::model::{self, BYTES, NAMES, ROW, TABLE, TOKENS};
 use super::programs::{Functions, chain, slip};
 use super::records::Cells;
 use super::said::{Said, SaidToken};
@@ -20,6 +21,31 @@ pub struct Edit {
 /// The edits of a run, in order. Each depends on the seed and on its own number alone.
 pub fn generated(seed: u64, numbers: std::ops::Range<u64>) -> impl Iterator<Item = Edit> {
     numbers.map(move |number| one(&mut Dice::new(seed, number)))
+}
+
+/// What recheck is called with.
+pub struct Quadruple {
+    pub old: Vec<u8>,
+    /// The bytes of a header table; any others too.
+    pub table: Vec<u8>,
+    pub number: u32,
+    pub new: Vec<u8>,
+}
+
+/// The edits of a run once more, each with something changed beside the new text: a table that check didn't write,
+/// another old text, a number that no function has.
+pub fn with_other_tables(seed: u64, numbers: std::ops::Range<u64>) -> impl Iterator<Item = Quadruple> {
+    numbers.map(move |number| {
+        let mut dice = Dice::new(seed, number);
+        let edit = one(&mut dice);
+        with_another_table(&mut dice, edit)
+    })
+}
+
+/// The cells of a table's bytes; fewer than four bytes at the end are none.
+pub fn cells_of(table: &[u8]) -> Vec<u32> {
+    let (cells, _) = table.as_chunks::<4>();
+    cells.iter().map(|cell| u32::from_le_bytes(*cell)).collect()
 }
 
 /// The header table of a text as check writes it; none of a text that is refused.
@@ -238,4 +264,83 @@ fn with_a_second(dice: &mut Dice, functions: &Functions, number: usize, tokens: 
     push(&mut all, &["}"]);
     all.extend(functions.one(dice, number));
     laid_out(dice, &all)
+}
+
+// ---- tables of another hand --------------------------------------------------------------------------------------------
+
+fn with_another_table(dice: &mut Dice, edit: Edit) -> Quadruple {
+    let Edit { mut old, before, number, new } = edit;
+    let mut table = table_of(&before).expect("the old text is accepted");
+    let mut number = number as u32;
+    match dice.below(12) {
+        0 => number = dice.one(&[number + 1, table[0], table[0] + 1, 63, 64, u32::MAX]),
+        1 => table[0] = dice.one(&[0, number, number + 1, table[0] + 1, 64, 65, u32::MAX]),
+        2 => swap_rows(dice, &mut table),
+        3 => other_text(dice, &mut old),
+        _ => {
+            let changes = dice.one(&[1, 1, 1, 2, 3]);
+            (0..changes).for_each(|_| change_a_cell(dice, &mut table, number as usize, old.len()));
+        }
+    }
+    let table = table.iter().flat_map(|cell| cell.to_le_bytes()).collect();
+    Quadruple { old, table: of_another_length(dice, table), number, new }
+}
+
+/// A cell of a row, most times one that recheck looks at, and a value that is in its range, at its edge, or far
+/// outside.
+fn change_a_cell(dice: &mut Dice, table: &mut [u32], number: usize, length: usize) {
+    let row = if dice.once_in(2) { number } else { dice.below(table[0].clamp(1, 64) as usize + 1).min(63) };
+    let row = &mut table[1 + ROW * row..][..ROW];
+    let (length, place, name) = (length as u32, row[3], row[4]);
+    let at = dice.one(&[3, 3, 4, 4, 5, 6, 6, 7, 11, 12, 12, 14, 16, 18, 44]);
+    let at = if dice.once_in(6) { dice.below(ROW) } else { at };
+    // A cell may have been changed before.
+    let (before, behind) = (|cell: u32| cell.wrapping_sub(1), |cell: u32| cell.wrapping_add(1));
+    let near = match at {
+        3 => [0, 1, before(place), behind(place), length.saturating_sub(name), length, 16_384, 16_385],
+        4 => [0, 1, 2, before(name), behind(name), 64, 65, length.saturating_sub(place)],
+        5 => [0, 1, 2, behind(row[5]), 100, 16_384, 16_385, 16_386],
+        6 => [0, 1, 2, 3, 4, 5, 1, 2],
+        7 => [0, 1, 2, 3, 62, 63, 64, 65],
+        11 => [0, 1, 2, 3, 255, 256, 257, 258],
+        12 => [0, 1, 2, 3, 15, 16, 17, 18],
+        _ => [0, 1, 2, 3, 4, 5, 1, 2],
+    };
+    row[at] = if dice.once_in(10) { u32::MAX - dice.below(2) as u32 } else { dice.one(&near) };
+}
+
+/// The headers of two functions changed for each other, or one of them twice.
+fn swap_rows(dice: &mut Dice, table: &mut [u32]) {
+    let count = table[0] as usize;
+    let (one, two) = (1 + ROW * dice.below(count), 1 + ROW * dice.below(count));
+    let row = table[one..][..ROW].to_vec();
+    if dice.once_in(2) {
+        table.copy_within(two..two + ROW, one);
+    }
+    table[two..][..ROW].copy_from_slice(&row);
+}
+
+/// The old text is another one than the table's: longer, shorter, too long, with a byte changed, or not ASCII.
+fn other_text(dice: &mut Dice, old: &mut Vec<u8>) {
+    let at = dice.below(old.len());
+    match dice.below(6) {
+        0 => old.truncate(at),
+        1 => old.resize(BYTES, b' '),
+        2 => old.resize(BYTES + 1, b' '),
+        3 => old[at] = 0xff,
+        4 => old[at] = dice.one(b"@a}"),
+        _ => old.insert(at, b' '),
+    }
+}
+
+/// Most times the table as it is; bytes lost at its end, or more behind it.
+fn of_another_length(dice: &mut Dice, mut table: Vec<u8>) -> Vec<u8> {
+    let length = match dice.below(40) {
+        0 => dice.one(&[0, 1, 3, 4, 184, table.len() / 2]),
+        1 => table.len() - dice.between(1, 5),
+        2 => table.len() + dice.one(&[1, 2, 3, 4, 5, 1000]),
+        _ => table.len(),
+    };
+    table.resize(length, 0xff);
+    table
 }

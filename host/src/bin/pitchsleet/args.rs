@@ -9,12 +9,18 @@ pitchsleet: a verified reader and type checker of Bril text
     pitchsleet read FILE               the tokens of a text, or why it is refused
     pitchsleet check FILE              its functions with blocks, edges and typed operations, or why it is refused
     pitchsleet check --dot FILE        its blocks and edges as Graphviz
-    pitchsleet COMMAND --json FILE     the answer of read or check as one line of JSON
+    pitchsleet recheck OLD FUNCTION NEW
+                                       a new function in the place of one of an accepted text: what check would show
+                                       of it, or why it is refused
+    pitchsleet COMMAND --json ..       the answer as one line of JSON
     pitchsleet COMMAND --json --stream many texts on standard input, a line of JSON for each
     pitchsleet --help
     pitchsleet --version
 
-FILE is a file's name, or - for standard input; after -- a name may begin with a dash.
+FILE, OLD and NEW are files' names, or - for standard input; after -- a name may begin with a dash. OLD is a whole text
+that check accepts. FUNCTION is the name of one of its functions, with or without the @, of several of a name the first;
+or a number, from 0 in the order of the text. NEW is what replaces that function, from the first byte of its name to its
+closing brace, with nothing before or behind, not even a newline. It keeps the name and the types.
 
 read shows a token as LINE:COLUMN, its kind and its text. check shows a function's blocks by their numbers, each with its
 labels, the blocks that it comes from and goes to, and dead where it isn't block 0 and no edge enters it; then its
@@ -24,7 +30,8 @@ with --dot on standard error.
     LINE    is counted as the Rust original counts: from 1, and one more for each newline that is not in a comment.
             Below a comment that ran through a newline it is less than the line of the file. The number beside the
             line shown is that of the file.
-    COLUMN  counts bytes from 1, in the line of the file.
+            Of recheck, lines start at that of the function that is replaced, as they would in the edited text.
+    COLUMN  counts bytes from 1, in the line of the file. Of recheck, that and the line shown are NEW's.
 Bytes outside printable ASCII are shown as \\x and two hexadecimal digits, tabs of the line shown as four blanks.
 
 JSON: {\"number\":0,\"line\":0,\"place\":0,\"message\":\"\",\"tokens\":[[KIND,VALUE,LINE,PLACE],..],\"names\":[NAME,..]}
@@ -39,11 +46,14 @@ JSON: {\"number\":0,\"line\":0,\"place\":0,\"message\":\"\",\"tokens\":[[KIND,VA
     N is a name's number, T a token's index, F a function type's number, BLOCK a block's number in its function. TYPE is
     int, bool, void, placeholder, or fn and the number of a callee's function type. KIND is binary, unary, const, jmp,
     br, call, ret, print or nop. result and callee may be null.
+    recheck has check's form, of NEW: LINE starts at the replaced function's, PLACE counts from NEW's first byte, and F
+    is the number in OLD. Where it is OLD that check refuses, the refusal is OLD's, with \"old\":true behind its message.
 
-A stream is, again and again, a text's length in decimal, a newline, and that many bytes.
+A stream is, again and again, a text's length in decimal, a newline, and that many bytes; of recheck, OLD in this form,
+the function's number in decimal and a newline, and NEW in this form.
 
-Exit status: 0 the text is accepted, or the stream was whole; 1 the text is refused; 2 it could not be run: no such file,
-bad usage, or a bad stream (the texts that were whole are answered).
+Exit status: 0 the text is accepted, or the stream was whole; 1 the text is refused, of recheck OLD or NEW; 2 it could
+not be run: no such file, no function of that name, bad usage, or a bad stream (the texts that were whole are answered).
 ";
 
 /// What is asked for.
@@ -51,7 +61,9 @@ bad usage, or a bad stream (the texts that were whole are answered).
 pub enum Request {
     Help,
     Version,
-    One { command: Command, file: OsString, form: Form },
+    Read { file: OsString, form: Form },
+    Check { file: OsString, form: Form },
+    Recheck { old: OsString, function: OsString, new: OsString, form: Form },
     Stream(Command),
 }
 
@@ -60,13 +72,27 @@ pub enum Request {
 pub enum Command {
     Read,
     Check,
+    Recheck,
 }
 
 impl Command {
+    fn of(word: &str) -> Option<Self> {
+        [Self::Read, Self::Check, Self::Recheck].into_iter().find(|command| command.word() == word)
+    }
+
     fn word(self) -> &'static str {
         match self {
             Self::Read => "read",
             Self::Check => "check",
+            Self::Recheck => "recheck",
+        }
+    }
+
+    /// What it takes beside options.
+    fn takes(self) -> &'static str {
+        match self {
+            Self::Read | Self::Check => "one FILE, or - for standard input",
+            Self::Recheck => "OLD FUNCTION NEW: a file, a function's name or number, and a file",
         }
     }
 }
@@ -79,13 +105,13 @@ pub enum Form {
     Dot,
 }
 
-/// What the words after a command say, in any order.
+/// What the words after a command say, in any order but for those that are no options.
 struct Words {
     command: Command,
     json: bool,
     dot: bool,
     stream: bool,
-    file: Option<OsString>,
+    operands: Vec<OsString>,
 }
 
 pub fn parse(words: impl IntoIterator<Item = OsString>) -> Result<Request, String> {
@@ -93,26 +119,25 @@ pub fn parse(words: impl IntoIterator<Item = OsString>) -> Result<Request, Strin
     let Some(first) = words.next() else {
         return Err("what shall be done?".to_owned());
     };
-    match first.to_str() {
-        Some("--help" | "-h") => Ok(Request::Help),
-        Some("--version" | "-V") => Ok(Request::Version),
-        Some("read") => parse_command(Command::Read, words),
-        Some("check") => parse_command(Command::Check, words),
+    match (first.to_str(), first.to_str().and_then(Command::of)) {
+        (Some("--help" | "-h"), _) => Ok(Request::Help),
+        (Some("--version" | "-V"), _) => Ok(Request::Version),
+        (_, Some(command)) => parse_command(command, words),
         _ => Err(format!("unknown command {}", shown(&first))),
     }
 }
 
 fn parse_command(command: Command, mut words: impl Iterator<Item = OsString>) -> Result<Request, String> {
-    let mut said = Words { command, json: false, dot: false, stream: false, file: None };
+    let mut said = Words { command, json: false, dot: false, stream: false, operands: Vec::new() };
     while let Some(word) = words.next() {
         match word.to_str() {
             Some("--help" | "-h") => return Ok(Request::Help),
             Some("--json") => said.json = true,
             Some("--dot") if command == Command::Check => said.dot = true,
             Some("--stream") => said.stream = true,
-            Some("--") => words.by_ref().try_for_each(|file| said.take_file(file))?,
+            Some("--") => said.operands.extend(words.by_ref()),
             _ if is_option(&word) => return Err(format!("unknown option {}", shown(&word))),
-            _ => said.take_file(word)?,
+            _ => said.operands.push(word),
         }
     }
     said.request()
@@ -124,27 +149,40 @@ fn is_option(word: &OsStr) -> bool {
 }
 
 impl Words {
-    fn take_file(&mut self, file: OsString) -> Result<(), String> {
-        match self.file.replace(file) {
-            None => Ok(()),
-            Some(_) => Err(format!("{} takes one FILE", self.command.word())),
-        }
-    }
-
     fn request(self) -> Result<Request, String> {
-        let command = self.command;
         let form = match (self.json, self.dot) {
             (true, true) => return Err("--json and --dot are two answers".to_owned()),
             (true, false) => Form::Json,
             (false, true) => Form::Dot,
             (false, false) => Form::Person,
         };
-        match (self.stream, form, self.file) {
-            (true, Form::Json, None) => Ok(Request::Stream(command)),
-            (true, Form::Json, Some(_)) => Err("--stream reads standard input and takes no FILE".to_owned()),
-            (true, _, _) => Err("--stream needs --json".to_owned()),
-            (false, _, None) => Err(format!("{} takes a FILE, or - for standard input", command.word())),
-            (false, form, Some(file)) => Ok(Request::One { command, file, form }),
+        match (self.stream, form) {
+            (true, Form::Json) if self.operands.is_empty() => Ok(Request::Stream(self.command)),
+            (true, Form::Json) => Err("--stream reads standard input and takes no FILE".to_owned()),
+            (true, _) => Err("--stream needs --json".to_owned()),
+            (false, form) => one(self.command, form, self.operands),
+        }
+    }
+}
+
+/// A request for one answer, if there are as many words as the command takes.
+fn one(command: Command, form: Form, operands: Vec<OsString>) -> Result<Request, String> {
+    let takes = |_| format!("{} takes {}", command.word(), command.takes());
+    match command {
+        Command::Read => {
+            let [file] = operands.try_into().map_err(takes)?;
+            Ok(Request::Read { file, form })
+        }
+        Command::Check => {
+            let [file] = operands.try_into().map_err(takes)?;
+            Ok(Request::Check { file, form })
+        }
+        Command::Recheck => {
+            let [old, function, new] = operands.try_into().map_err(takes)?;
+            match old == "-" && new == "-" {
+                true => Err("OLD and NEW can't both be standard input".to_owned()),
+                false => Ok(Request::Recheck { old, function, new, form }),
+            }
         }
     }
 }

@@ -2,7 +2,7 @@
 use std::io::{self, Write};
 
 use pitchsleet::raw::TEXT_BYTES;
-use pitchsleet::{Block, Edges, Printable, Refusal, TokenValue, Tokens, Unit};
+use pitchsleet::{Block, Edges, Headers, Printable, Refusal, TokenValue, Tokens, Unit};
 
 use crate::listing;
 use crate::source::{Excerpt, Source};
@@ -23,7 +23,7 @@ pub fn tokens(out: &mut impl Write, name: Name<'_>, tokens: &Tokens<'_>) -> io::
     let (count, names) = (tokens.len(), tokens.names().len());
     writeln!(out, "{name}: accepted: {}, {}", counted(count, "token"), counted(names, "name"))?;
     match tokens.iter().next_back() {
-        Some(end) => note_on_lines(out, end.line, source.line(end.place)),
+        Some(end) => note_on_lines(out, end.line, source.line(end.place), 1),
         None => Ok(()),
     }
 }
@@ -67,20 +67,75 @@ fn counted(count: usize, thing: &str) -> String {
 }
 
 pub fn refused(out: &mut impl Write, name: Name<'_>, text: &[u8], refusal: &Refusal) -> io::Result<()> {
+    refused_from(out, name, text, refusal, 1)
+}
+
+/// A refusal of the text that was to be edited.
+pub fn old_refused(out: &mut impl Write, name: Name<'_>, old: &[u8], refusal: &Refusal) -> io::Result<()> {
+    refused(out, name, old, refusal)?;
+    note(out, "this is the old file, which must be accepted as it is; the new one was not looked at")
+}
+
+/// The function that a new text was to replace: the old text's headers, its number, and its header where it has one.
+pub struct Replaced<'a> {
+    pub headers: &'a Headers,
+    pub number: usize,
+    pub header: Option<String>,
+}
+
+/// A refusal of a new text.
+pub fn new_refused(
+    out: &mut impl Write,
+    name: Name<'_>,
+    new: &[u8],
+    refusal: &Refusal,
+    replaced: &Replaced<'_>,
+) -> io::Result<()> {
+    let Replaced { headers, number, header } = replaced;
+    refused_from(out, name, new, refusal, headers.line(*number).unwrap_or(1))?;
+    match (refusal.number(), refusal.place(), header) {
+        (NOT_ONE_FUNCTION, 0, _) => note(
+            out,
+            "a new file runs from a function's name to its closing brace, and not even a newline stands behind it",
+        ),
+        (HEADER_CHANGED, _, Some(header)) => {
+            note(out, &format!("the function that is replaced is {header}; its name and types must stay"))
+        }
+        (BAD_TABLE, ..) => {
+            note(out, &format!("the old file has {}, numbered from 0", counted(headers.len(), "function")))
+        }
+        _ => Ok(()),
+    }
+}
+
+const TOO_MANY_BYTES: u32 = 31;
+const NOT_ONE_FUNCTION: u32 = 40;
+const HEADER_CHANGED: u32 = 41;
+const BAD_TABLE: u32 = 42;
+
+/// A refusal of a text whose lines start at a number.
+fn refused_from(
+    out: &mut impl Write,
+    name: Name<'_>,
+    text: &[u8],
+    refusal: &Refusal,
+    first_line: u32,
+) -> io::Result<()> {
     let source = Source::new(text);
     let (number, line, place) = (refusal.number(), refusal.line(), refusal.place());
     let message = refusal.message();
     let message = Printable(message.strip_suffix(b"\n").unwrap_or(message));
     writeln!(out, "{name}:{line}:{}: refused {number}: {message}", source.column(place))?;
-    if TEXT_BYTES < text.len() {
-        // The refusal is of the text as a whole: no line of it would tell more.
-        return note(out, &format!("the text has more than {TEXT_BYTES} bytes"));
+    match number {
+        // These are of the text as a whole, or not of it at all: no line of it would tell more.
+        TOO_MANY_BYTES => return note(out, &format!("the text has more than {TEXT_BYTES} bytes")),
+        BAD_TABLE => return Ok(()),
+        _ => excerpt(out, source.line(place), &source.excerpt(place))?,
     }
-    excerpt(out, source.line(place), &source.excerpt(place))?;
-    match first_not_ascii(text) {
-        Some(at) => note(out, &not_ascii(&source, at)),
-        None => note_on_lines(out, line, source.line(place)),
+    if let Some(at) = first_not_ascii(text) {
+        note(out, &not_ascii(&source, at))?;
     }
+    note_on_lines(out, line, source.line(place), first_line)
 }
 
 /// The line and the caret, beside the line's number in the file.
@@ -102,12 +157,19 @@ fn not_ascii(source: &Source<'_>, at: usize) -> String {
     format!("the first byte above 127 is at line {line} of the file, column {column}")
 }
 
-fn note_on_lines(out: &mut impl Write, counted: u32, of_file: usize) -> io::Result<()> {
+/// Where a line isn't counted as the file's: how it is counted, from the number of the first one on.
+fn note_on_lines(out: &mut impl Write, counted: u32, of_file: usize, first_line: u32) -> io::Result<()> {
     if counted as usize == of_file {
         return Ok(());
     }
-    let why = "newlines in comments are not counted";
-    note(out, &format!("line {of_file} of the file is counted as line {counted}, since {why}"))
+    let (file, start) = match first_line {
+        1 => ("the file", None),
+        line => ("the new file", Some(format!("the function that is replaced is on line {line}"))),
+    };
+    let in_comments = first_line as usize + of_file - 1 != counted as usize;
+    let in_comments = in_comments.then(|| "newlines in comments are not counted".to_owned());
+    let why: Vec<String> = [start, in_comments].into_iter().flatten().collect();
+    note(out, &format!("line {of_file} of {file} is counted as line {counted}, since {}", why.join(" and ")))
 }
 
 fn note(out: &mut impl Write, what: &str) -> io::Result<()> {

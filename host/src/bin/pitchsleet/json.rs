@@ -9,7 +9,7 @@ pub fn write_read(out: &mut impl Write, answer: &Result<Tokens<'_>, Refusal>) ->
             accepted(out, tokens)?;
             writeln!(out, "}}")
         }
-        Err(refusal) => refused(out, refusal),
+        Err(refusal) => refused(out, refusal, ""),
     }
 }
 
@@ -21,8 +21,13 @@ pub fn write_check(out: &mut impl Write, answer: &Result<Unit<'_>, Refusal>) -> 
             list(out, unit.functions(), function)?;
             writeln!(out, "}}")
         }
-        Err(refusal) => refused(out, refusal),
+        Err(refusal) => refused(out, refusal, ""),
     }
+}
+
+/// The answer of a recheck whose old text is refused. All its others are those of a check.
+pub fn write_old_refused(out: &mut impl Write, refusal: &Refusal) -> io::Result<()> {
+    refused(out, refusal, r#","old":true"#)
 }
 
 /// An accepted text's answer, but for its end.
@@ -33,11 +38,12 @@ fn accepted(out: &mut impl Write, tokens: &Tokens<'_>) -> io::Result<()> {
     list(out, tokens.names(), |out, name| string(out, name.spelling.as_bytes()))
 }
 
-fn refused(out: &mut impl Write, refusal: &Refusal) -> io::Result<()> {
+/// A refused text's answer, with more behind the message.
+fn refused(out: &mut impl Write, refusal: &Refusal, more: &str) -> io::Result<()> {
     let (number, line, place) = (refusal.number(), refusal.line(), refusal.place());
     write!(out, r#"{{"number":{number},"line":{line},"place":{place},"message":"#)?;
     string(out, refusal.message())?;
-    writeln!(out, "}}")
+    writeln!(out, "{more}}}")
 }
 
 fn token<W: Write>(out: &mut W, token: Token<'_>) -> io::Result<()> {

@@ -1,4 +1,5 @@
-//! The command-line tool: `pitchsleet read FILE`, `pitchsleet check FILE`, and the same as JSON for other programs.
+//! The command-line tool: `pitchsleet read FILE`, `pitchsleet check FILE`, `pitchsleet recheck OLD FUNCTION NEW`, and
+//! the same as JSON for other programs.
 #![forbid(unsafe_code)]
 
 mod args;
@@ -8,6 +9,7 @@ mod human;
 mod input;
 mod json;
 mod listing;
+mod recheck;
 mod source;
 mod stream;
 
@@ -15,7 +17,7 @@ use std::ffi::{OsStr, OsString};
 use std::io::{self, BufWriter, Write};
 use std::process::ExitCode;
 
-use args::{Command, Form, Request, shown};
+use args::{Form, Request, shown};
 use failure::Failure;
 use pitchsleet::{Reader, Refusal};
 
@@ -48,8 +50,9 @@ fn answer(request: Request, output: &mut impl Write) -> Result<u8, Failure> {
         Request::Help => write!(output, "{}", args::HELP)?,
         Request::Version => writeln!(output, "pitchsleet {}", env!("CARGO_PKG_VERSION"))?,
         Request::Stream(command) => stream::answer(command, io::stdin().lock(), output)?,
-        Request::One { command: Command::Read, file, form } => return read(&file, form, output),
-        Request::One { command: Command::Check, file, form } => return check(&file, form, output),
+        Request::Read { file, form } => return read(&file, form, output),
+        Request::Check { file, form } => return check(&file, form, output),
+        Request::Recheck { old, function, new, form } => return recheck::answer(&old, &function, &new, form, output),
     }
     Ok(ACCEPTED)
 }

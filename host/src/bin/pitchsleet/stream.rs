@@ -1,4 +1,5 @@
-//! Many texts on one input: for each its length in decimal, a newline, and that many bytes.
+//! Many texts on one input: for each its length in decimal, a newline, and that many bytes. Where a function is
+//! rechecked, the old text in this form, the function's number in decimal and a newline, and the new text in this form.
 use std::io::{self, BufRead, BufReader, Read, Write};
 
 use pitchsleet::Reader;
@@ -9,19 +10,27 @@ use crate::input::KEPT;
 use crate::json;
 
 /// The digits of the longest length, 18446744073709551615, and the newline.
-const LENGTH_LINE: u64 = 21;
+const DECIMAL_LINE: u64 = 21;
+
+/// What is asked at a time.
+struct Asked {
+    text: Vec<u8>,
+    /// Of recheck alone: the old text, and the number of the function that the text replaces.
+    old: Vec<u8>,
+    number: u64,
+}
 
 /// Answers until the input ends. What is written goes out before the next wait for input, so that another program may ask
 /// text by text and wait for each answer.
 pub fn answer(command: Command, input: impl Read, output: &mut impl Write) -> Result<(), Failure> {
     let mut input = BufReader::new(input);
     let mut reader = Reader::new();
-    let mut text = Vec::with_capacity(KEPT);
+    let mut asked = Asked { text: Vec::with_capacity(KEPT), old: Vec::new(), number: 0 };
     for number in 1_u64.. {
         if input.buffer().is_empty() {
             output.flush()?;
         }
-        match next_text(&mut input, &mut text) {
+        match next(command, &mut input, &mut asked) {
             Ok(true) => {}
             Ok(false) => break,
             Err(why) => {
@@ -30,16 +39,44 @@ pub fn answer(command: Command, input: impl Read, output: &mut impl Write) -> Re
             }
         }
         match command {
-            Command::Read => json::write_read(output, &reader.read(&text))?,
-            Command::Check => json::write_check(output, &reader.check(&text))?,
+            Command::Read => json::write_read(output, &reader.read(&asked.text))?,
+            Command::Check => json::write_check(output, &reader.check(&asked.text))?,
+            Command::Recheck => recheck(&mut reader, &asked, output)?,
         }
     }
     Ok(())
 }
 
+fn recheck(reader: &mut Reader, asked: &Asked, output: &mut impl Write) -> io::Result<()> {
+    match reader.check(&asked.old).map(|unit| unit.headers()) {
+        Ok(headers) => {
+            let number = usize::try_from(asked.number).unwrap_or(usize::MAX);
+            json::write_check(output, &reader.recheck(&headers, number, &asked.text))
+        }
+        Err(refusal) => json::write_old_refused(output, &refusal),
+    }
+}
+
+/// Fills in what is asked next; false where the input ends before it.
+fn next(command: Command, input: &mut impl BufRead, asked: &mut Asked) -> Result<bool, String> {
+    if command == Command::Recheck {
+        if !next_text(input, &mut asked.old).map_err(|why| format!("the old one: {why}"))? {
+            return Ok(false);
+        }
+        asked.number = next_decimal(input, NO_NUMBER)?.ok_or(NO_NUMBER)?;
+    }
+    match (next_text(input, &mut asked.text)?, command) {
+        (false, Command::Recheck) => Err(NO_LENGTH.to_owned()),
+        (is_there, _) => Ok(is_there),
+    }
+}
+
+const NO_LENGTH: &str = "it has no length: a decimal number and a newline must come before it";
+const NO_NUMBER: &str = "it has no function's number: a decimal number and a newline must come behind the old one";
+
 /// Fills in the next text, as far as it is kept; false where the input ends before it.
 fn next_text(input: &mut impl BufRead, text: &mut Vec<u8>) -> Result<bool, String> {
-    let Some(length) = next_length(input)? else {
+    let Some(length) = next_decimal(input, NO_LENGTH)? else {
         return Ok(false);
     };
     let kept = length.min(KEPT as u64);
@@ -52,15 +89,15 @@ fn next_text(input: &mut impl BufRead, text: &mut Vec<u8>) -> Result<bool, Strin
     }
 }
 
-fn next_length(input: &mut impl BufRead) -> Result<Option<u64>, String> {
+/// The number of the next line; none where the input ends before it. Where the line is no number, what lacks is said.
+fn next_decimal(input: &mut impl BufRead, lacks: &str) -> Result<Option<u64>, String> {
     let mut line = Vec::new();
-    input.take(LENGTH_LINE).read_until(b'\n', &mut line).map_err(unreadable)?;
+    input.take(DECIMAL_LINE).read_until(b'\n', &mut line).map_err(unreadable)?;
     if line.is_empty() {
         return Ok(None);
     }
-    let length = line.strip_suffix(b"\n").and_then(decimal);
-    let length = length.ok_or("it has no length: a decimal number and a newline must come before it")?;
-    Ok(Some(length))
+    let number = line.strip_suffix(b"\n").and_then(decimal).ok_or(lacks)?;
+    Ok(Some(number))
 }
 
 fn decimal(digits: &[u8]) -> Option<u64> {
