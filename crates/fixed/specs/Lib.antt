@@ -5,5 +5,3 @@ pub mod Numbers
 pub mod Lists
 -- what a slice must hold by a list, and what the file must hold at its end
 pub mod Held
--- pieces of such files with what they hold
-pub mod Cases

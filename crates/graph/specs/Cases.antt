@@ -49,23 +49,17 @@ rising k (suc n) = k ∷ rising (k + 1) n
 
 cases : List Case
 cases =
-    -- A diamond, either way round: last successor first, so the first successor's side stands first.
-    graph ((1 ∷ 2 ∷ []) ∷ (3 ∷ []) ∷ (3 ∷ []) ∷ [] ∷ []) (0 ∷ 1 ∷ 2 ∷ 3 ∷ []) (1 ∷ 1 ∷ 1 ∷ 1 ∷ []) ∷
+    -- A diamond: last successor first, so the first successor's side stands first.
     graph ((2 ∷ 1 ∷ []) ∷ (3 ∷ []) ∷ (3 ∷ []) ∷ [] ∷ []) (0 ∷ 2 ∷ 1 ∷ 3 ∷ []) (1 ∷ 1 ∷ 1 ∷ 1 ∷ []) ∷
-    -- An unreachable pair whose blocks lead to each other; blocks never met, by rising number, whatever they lead to.
-    graph ([] ∷ (2 ∷ []) ∷ (1 ∷ []) ∷ []) (0 ∷ 1 ∷ 2 ∷ []) (1 ∷ 0 ∷ 0 ∷ []) ∷
+    -- Blocks never met, by rising number, whatever they lead to.
     graph ((4 ∷ []) ∷ (0 ∷ []) ∷ [] ∷ (1 ∷ 2 ∷ []) ∷ [] ∷ []) (0 ∷ 4 ∷ 1 ∷ 2 ∷ 3 ∷ []) (1 ∷ 0 ∷ 0 ∷ 0 ∷ 1 ∷ []) ∷
-    -- An edge to a block that is not there is no edge. No blocks, no order.
+    -- An edge to a block that is not there is no edge.
     graph ((7 ∷ 1 ∷ []) ∷ (2 ∷ []) ∷ []) (0 ∷ 1 ∷ []) (1 ∷ 1 ∷ []) ∷
-    graph ((1 ∷ 4294967295 ∷ []) ∷ [] ∷ []) (0 ∷ 1 ∷ []) (1 ∷ 1 ∷ []) ∷
-    graph [] [] [] ∷
-    -- Block records: a count above 2 is 2. A cell past the end is 0. A record past the function's blocks is none of them.
+    -- Block records: a count above 2 is 2. A cell past the end is 0.
     records (block 3 2 1 ∷ block 4294967295 0 2 ∷ []) 0 3 (0 ∷ 1 ∷ 2 ∷ []) (1 ∷ 1 ∷ 1 ∷ []) ∷
     records ((9 ∷ 9 ∷ 2 ∷ 1 ∷ []) ∷ []) 0 2 (0 ∷ 1 ∷ []) (1 ∷ 1 ∷ []) ∷
-    records (block 2 1 2 ∷ block 0 0 0 ∷ block 0 0 0 ∷ []) 0 2 (0 ∷ 1 ∷ []) (1 ∷ 1 ∷ []) ∷
     -- At most 256 blocks.
     records [] 0 257 (rising 0 256) (1 ∷ replicate 255 0) ∷
-    records [] 0 4294967295 (rising 0 256) (1 ∷ replicate 255 0) ∷
     []
 
 -- every part alike
