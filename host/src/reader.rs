@@ -15,7 +15,7 @@ use crate::unit::Unit;
 ///
 /// The buffers are taken once, by [`Reader::new`]: 252,228 bytes for the records and 512 for a message. No call of
 /// [`Reader::read`], [`Reader::check`] or [`Reader::recheck`] allocates: the room that they need is on the stack, less
-/// than 76 KiB for a reading, less than 264 KiB for a check, and for a recheck what docs/INTERFACE.md says.
+/// than 76 KiB for a reading, less than 264 KiB for a check, less than 284 KiB for a recheck.
 ///
 /// ```
 /// use pitchsleet::Reader;
