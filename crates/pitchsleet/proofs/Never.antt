@@ -43,6 +43,7 @@ small-again : (x : ℕ) → x ≤ 16385
     → x % 256 + x / 256 % 256 * 256 + x / 65536 % 256 * 65536 + x / 16777216 % 256 * 16777216 ≡ x
 small-again x h = omega arith
 
+-- so a small cell can be read from the bytes of all cells
 cell-there : (cells : List ℕ) (i : ℕ) → i < length cells → getD cells i 0 ≤ 16385
     → cellAt (le32s cells) (i * 4) ≡ getD cells i 0
 unfolding le32s
@@ -65,6 +66,7 @@ cell-in-part n bytes at h =
       getD-take n bytes (at + 3) 0 (omega arith),
     )
 
+-- the cell that a table reads from its bytes
 cell-of : (n : ℕ) (bytes : List ℕ) (at i : ℕ) → i < n → getD (cellsAt bytes at n) i 0 ≡ cellAt bytes (at + i * 4)
 unfolding cellsAt
 cell-of zero bytes at i h = absurd (omega arith)
@@ -156,6 +158,7 @@ third f n a b c d z h k =
     ∙ part-behind f n (a ++ b) (c ++ (d ++ z)) (length-append a b ∙ h)
     ∙ take-append-le n c (d ++ z) k
 
+-- padding gives a list its length at least, and exactly if it wasn't longer
 padded-long : (k : ℕ) (l : List ℕ) → k ≤ length (padTo k l)
 padded-long k l =
     omega (arith, length-append l (replicate (k - length l) 0), length-replicate {A = ℕ} (k - length l) 0)
@@ -200,6 +203,7 @@ module _ (o₀ m₀ : List ℕ) (x : Checking) (r : CheckAnswer) (o m : List ℕ
 
 -- A text that is accepted. -------------------------------------------------------------------------------------------
 
+-- 0 is the number of an accepted text alone
 zero-accepts : (text : List ℕ) (k : ℕ) → Numbered text k → k ≡ 0 → Accepts text
 zero-accepts text k (inl h) e = h .0
 zero-accepts text k (inr (f, inl h)) e = absurd (omega (arith, h .0, e))
