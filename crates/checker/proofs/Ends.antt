@@ -246,12 +246,17 @@ sizes-seen m t n u unit ok h a b =
       long = record { items-long = b′ .1; arguments-long = b′ .2; blocks-long = b′ .3; predecessors-long = b′ .4 };
     }
 
--- TWO PERMITTED ANSWERS ARE EQUAL
-pub permitted-equal : {d : Checking} {r r′ : CheckAnswer} {m t n m′ t′ n′ : List ℕ} {u u′ : Slices}
+-- what one definition permits is equal
+pub gives-equal : {d : Checking} {r r′ : CheckAnswer} {m t n m′ t′ n′ : List ℕ} {u u′ : Slices}
     → Gives d r m t n u → Gives d r′ m′ t′ n′ u′ → checking r m t n u ≡ checking r′ m′ t′ n′ u′
-permitted-equal a b = as-whole a ∙ sym (as-whole b)
+gives-equal a b = as-whole a ∙ sym (as-whole b)
 
--- EQUAL TEXTS AND LENGTHS GIVE EQUAL ANSWERS, whatever the slices held before
+-- TWO PERMITTED ANSWERS ARE EQUAL
+pub permitted-equal : (text m₀ t₀ n₀ : List ℕ) (u₀ : Slices) {r r′ : CheckAnswer} {m t n m′ t′ n′ : List ℕ} {u u′ : Slices}
+    → Checks text m₀ t₀ n₀ u₀ r m t n u → Checks text m₀ t₀ n₀ u₀ r′ m′ t′ n′ u′
+    → checking r m t n u ≡ checking r′ m′ t′ n′ u′
+permitted-equal text m₀ t₀ n₀ u₀ a b = gives-equal a b
+
 pub record SameLengths (m₀ t₀ n₀ : List ℕ) (u₀ : Slices) (m₁ t₁ n₁ : List ℕ) (u₁ : Slices) : Type 0 where
   pub message : length m₀ ≡ length m₁
   pub tokens : length t₀ ≡ length t₁
@@ -262,6 +267,7 @@ pub record SameLengths (m₀ t₀ n₀ : List ℕ) (u₀ : Slices) (m₁ t₁ n�
   pub blocks : length (u₀ .blocks) ≡ length (u₁ .blocks)
   pub predecessors : length (u₀ .predecessors) ≡ length (u₁ .predecessors)
 
+-- slices of equal lengths that have their sizes, whatever they held before
 pub same-gated : (o : Checking) {m₀ t₀ n₀ m₁ t₁ n₁ : List ℕ} {u₀ u₁ : Slices} {r r′ : CheckAnswer} {m t n m′ t′ n′ : List ℕ}
     {u u′ : Slices}
     → allSized m₀ t₀ n₀ u₀ ≡ true → SameLengths m₀ t₀ n₀ u₀ m₁ t₁ n₁ u₁
@@ -283,7 +289,9 @@ same-gated o s l a b =
       s,
     )
 
-pub same-text : (text : List ℕ) {m₀ t₀ n₀ m₁ t₁ n₁ : List ℕ} {u₀ u₁ : Slices} {r r′ : CheckAnswer} {m t n m′ t′ n′ : List ℕ} {u u′ : Slices}
+-- EQUAL TEXTS AND LENGTHS GIVE EQUAL ANSWERS, whatever the slices held before
+pub same-text : (text : List ℕ) {m₀ t₀ n₀ m₁ t₁ n₁ : List ℕ} {u₀ u₁ : Slices} {r r′ : CheckAnswer}
+    {m t n m′ t′ n′ : List ℕ} {u u′ : Slices}
     → allSized m₀ t₀ n₀ u₀ ≡ true → SameLengths m₀ t₀ n₀ u₀ m₁ t₁ n₁ u₁
     → Checks text m₀ t₀ n₀ u₀ r m t n u → Checks text m₁ t₁ n₁ u₁ r′ m′ t′ n′ u′
     → checking r m t n u ≡ checking r′ m′ t′ n′ u′

@@ -126,12 +126,23 @@ by-parts e =
 as-whole : {d : Export} {r : CheckAnswer} {o m : List ℕ} → Gives d r o m → export r o m ≡ d
 as-whole e = rw (e .answer, e .out, e .message)
 
--- TWO PERMITTED ANSWERS ARE EQUAL
-pub permitted-equal : {d : Export} {r r′ : CheckAnswer} {o m o′ m′ : List ℕ}
+-- what one definition permits is equal
+gives-equal : {d : Export} {r r′ : CheckAnswer} {o m o′ m′ : List ℕ}
     → Gives d r o m → Gives d r′ o′ m′ → export r o m ≡ export r′ o′ m′
-permitted-equal a b = as-whole a ∙ sym (as-whole b)
+gives-equal a b = as-whole a ∙ sym (as-whole b)
 
--- EQUAL TEXTS AND LENGTHS GIVE EQUAL ANSWERS, whatever the slices held before
+-- TWO PERMITTED ANSWERS ARE EQUAL, of check ..
+pub permitted-equal : (text o₀ m₀ : List ℕ) {r r′ : CheckAnswer} {o m o′ m′ : List ℕ}
+    → Exports text o₀ m₀ r o m → Exports text o₀ m₀ r′ o′ m′ → export r o m ≡ export r′ o′ m′
+permitted-equal text o₀ m₀ a b = gives-equal a b
+
+-- .. and of recheck
+pub permitted-again : (old table : List ℕ) (number : ℕ) (new o₀ m₀ : List ℕ) {r r′ : CheckAnswer} {o m o′ m′ : List ℕ}
+    → Rechecks old table number new o₀ m₀ r o m → Rechecks old table number new o₀ m₀ r′ o′ m′
+    → export r o m ≡ export r′ o′ m′
+permitted-again old table number new o₀ m₀ a b = gives-equal a b
+
+-- slices of equal lengths that have their sizes, whatever they held before
 pub same-gated : (x : Checking) (o₀ m₀ o₁ m₁ : List ℕ) {r r′ : CheckAnswer} {o m o′ m′ : List ℕ}
     → 252228 ≤ length o₀ → 512 ≤ length m₀ → length o₀ ≡ length o₁ → length m₀ ≡ length m₁
     → Gives (gated o₀ m₀ x) r o m → Gives (gated o₁ m₁ x) r′ o′ m′ → export r o m ≡ export r′ o′ m′
@@ -139,12 +150,14 @@ unfolding pick
 same-gated x o₀ m₀ o₁ m₁ h k p q a b =
     rw (as-whole a, as-whole b, ← p, ← q, le-ltb (length o₀) 252228 h, le-ltb (length m₀) 512 k)
 
+-- EQUAL TEXTS AND LENGTHS GIVE EQUAL ANSWERS, whatever the slices held before
 pub same-text : (text : List ℕ) (o₀ m₀ o₁ m₁ : List ℕ) {r r′ : CheckAnswer} {o m o′ m′ : List ℕ}
     → 252228 ≤ length o₀ → 512 ≤ length m₀ → length o₀ ≡ length o₁ → length m₀ ≡ length m₁
     → Exports text o₀ m₀ r o m → Exports text o₁ m₁ r′ o′ m′ → export r o m ≡ export r′ o′ m′
 unfolding exportDef
 same-text text o₀ m₀ o₁ m₁ h k p q a b = same-gated (checkOf text) o₀ m₀ o₁ m₁ h k p q a b
 
+-- EQUAL INPUTS AND LENGTHS GIVE EQUAL ANSWERS
 pub same-inputs : (old table : List ℕ) (number : ℕ) (new : List ℕ) (o₀ m₀ o₁ m₁ : List ℕ) {r r′ : CheckAnswer}
     {o m o′ m′ : List ℕ}
     → 252228 ≤ length o₀ → 512 ≤ length m₀ → length o₀ ≡ length o₁ → length m₀ ≡ length m₁

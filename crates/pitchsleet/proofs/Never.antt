@@ -3,11 +3,9 @@
 -- at are all small, since check's own table is in range (`header-in-range`).
 use Prim.Native.Nat.{ℕ, zero, suc, _+_, _-_, _*_, _/_, _%_, _≤_, _<_}
 use mathlib.Core.Path.{_≡_, refl, sym, ap, _∙_}
-use mathlib.Core.Logic.{inl, inr}
 use mathlib.Core.List.{List, [], _∷_, _++_, append-assoc}
 use mathlib.Core.Bool.{Bool, true, false}
 use native.Mathlib.Omega.{arith}
-use native.Mathlib.Nat.{zero-add}
 use lib.Dec.{ltb}
 use lib.ListN.{length, getD, take, replicate, length-append, length-replicate}
 use lib.Seq.{slice, getD-take, take-append-le, take-append-add, drop-at, length-take-le}
@@ -18,18 +16,16 @@ use Rattle.lexer.specs.Sound.{Sound}
 use Rattle.lexer.proofs.Sound.{read-sound}
 use Rattle.lexer.proofs.Cells.{length-tokens-cells, length-names-cells}
 use Rattle.functions.specs.Rows.{retAt, typeAt, countAt}
-use Rattle.functions.proofs.Laid.{functions-counted}
 use Rattle.sema.specs.Blocks.{blockCountAt}
-use Rattle.typing.specs.Outcome.{none}
 use Rattle.checker.specs.Check.{Checking, refusal, checkOf}
 use Rattle.checker.specs.Header.{placeAt, lengthAt, lineAt, formalTypeAt, RowInRange, TableInRange}
-use Rattle.checker.specs.Numbers.{Accepts, Numbered}
+use Rattle.checker.specs.Numbers.{Accepts}
 use Rattle.checker.specs.declared.CheckAnswer.{CheckAnswer}
 use Rattle.checker.proofs.Numbers.{every-number}
 use Rattle.checker.proofs.Header.{header-in-range}
 use Rattle.recheck.specs.Recheck.{recheckOf}
-use Rattle.recheck.proofs.Ranges.{Tabled, in-range-table}
-use Rattle.recheck.proofs.Numbers.{forty-two-is-the-table}
+use Rattle.recheck.proofs.Ranges.{Tabled}
+use Rattle.recheck.proofs.Laws.{padded-long, first-cell, zero-accepts, table-not-42}
 use Rattle.pitchsleet.specs.Bytes.{le32s}
 use Rattle.pitchsleet.specs.CheckBytes.{cellBytes, bytesOf, export, exported, gated, exportDef, Gives, Exports}
 use Rattle.pitchsleet.specs.RecheckBytes.{cellAt, cellsAt, cellCount, tableOf, recheckDef, Rechecks}
@@ -158,11 +154,7 @@ third f n a b c d z h k =
     ∙ part-behind f n (a ++ b) (c ++ (d ++ z)) (length-append a b ∙ h)
     ∙ take-append-le n c (d ++ z) k
 
--- padding gives a list its length at least, and exactly if it wasn't longer
-padded-long : (k : ℕ) (l : List ℕ) → k ≤ length (padTo k l)
-padded-long k l =
-    omega (arith, length-append l (replicate (k - length l) 0), length-replicate {A = ℕ} (k - length l) 0)
-
+-- padding gives a list its length if it wasn't longer
 padded-exact : (k : ℕ) (l : List ℕ) → length l ≤ k → length (padTo k l) ≡ k
 padded-exact k l h =
     omega (arith, length-append l (replicate (k - length l) 0), length-replicate {A = ℕ} (k - length l) 0)
@@ -203,12 +195,6 @@ module _ (o₀ m₀ : List ℕ) (x : Checking) (r : CheckAnswer) (o m : List ℕ
 
 -- A text that is accepted. -------------------------------------------------------------------------------------------
 
--- 0 is the number of an accepted text alone
-zero-accepts : (text : List ℕ) (k : ℕ) → Numbered text k → k ≡ 0 → Accepts text
-zero-accepts text k (inl h) e = h .0
-zero-accepts text k (inr (f, inl h)) e = absurd (omega (arith, h .0, e))
-zero-accepts text k (inr (f, inr h)) e = absurd (omega (arith, h .0, e))
-
 module _ (text : List ℕ) (a : Accepts text) where
   lexed-sound : Sound text 1 (a .tokens) (a .names)
   lexed-sound = read-sound 1 text (a .tokens) (a .names) (a .lexed)
@@ -231,10 +217,6 @@ module _ (text : List ℕ) (a : Accepts text) where
   abbrev cells : List ℕ
   cells = padTo 2881 (checkOf text .unit .functions)
 
-  first-cell : checkOf text .answer .functions ≡ getD cells 0 0
-  unfolding checkOf readOf pick
-  first-cell = rw (a .lexed, a .typed) (functions-counted none (a .functions) ∙ zero-add (length (a .functions)))
-
   -- its bytes are a table for each function
   module _ (bytes : List ℕ) (e : bytes ≡ take 11524 (le32s cells)) where
     long : 2881 ≤ length cells
@@ -247,7 +229,7 @@ module _ (text : List ℕ) (a : Accepts text) where
         record {
           short = lexed-sound .short;
           sized = omega (arith, table-long bytes cells e long);
-          there = omega (arith, l, first-cell, same 0 (omega arith) (omega (arith, range .count)));
+          there = omega (arith, l, first-cell text 2881 a, same 0 (omega arith) (omega (arith, range .count)));
           in-range = in-range-again text cells (tableOf bytes) same range;
         }
 
@@ -266,8 +248,5 @@ never-42 text o₀ m₀ {r} {o} {m} p z number l new o₁ m₁ {r′} {o′} {m�
     ∙ table-cut (length o₀) (checkOf text) (tokens-few text a) (names-few text a) in
     let few : number < checkOf text .answer .functions =
     omega (arith, l, ap (λ (y : CheckAnswer). y .functions) (written .0)) in
-    not-both (in-range-table text (tableOf bytes) number (tabled-again text a bytes cut number few))
-    (forty-two-is-the-table text (tableOf bytes) number new (sym (ap (λ (y : CheckAnswer). y .number) (again .0)) ∙ e))
-  where
-    not-both : {b : Bool} → b ≡ true → b ≡ false → ⊥
-    not-both p q = let z : _≡_ {A = ℕ} 0 1 = cc in omega arith
+    table-not-42 text (tableOf bytes) number new (tabled-again text a bytes cut number few)
+    (sym (ap (λ (y : CheckAnswer). y .number) (again .0)) ∙ e)

@@ -19,8 +19,7 @@ use Rattle.checker.specs.Check.{Checking, refusal, checkOf}
 use Rattle.checker.specs.Promise.{checking, padded, sized, sizedUnit, allSized, checkDef, Checks}
 use Rattle.checker.specs.Numbers.{Accepts, Numbered}
 use Rattle.checker.specs.declared.CheckAnswer.{CheckAnswer}
-use Rattle.checker.proofs.Ends.{as-whole, SameLengths, same-gated}
-use Rattle.checker.proofs.Ends as check
+use Rattle.checker.proofs.Ends.{as-whole, gives-equal, SameLengths, same-gated}
 use Rattle.checker.proofs.Numbers as numbers
 use Rattle.checker.proofs.Header.{written-in-range}
 use Rattle.recheck.specs.Recheck.{recheckOf}
@@ -35,7 +34,7 @@ module _ (old table : List ℕ) (number : ℕ) (new : List ℕ) where
   pub permitted-equal : (m₀ t₀ n₀ : List ℕ) (u₀ : Slices) {r r′ : CheckAnswer} {m t n m′ t′ n′ : List ℕ} {u u′ : Slices}
       → Rechecks old table number new m₀ t₀ n₀ u₀ r m t n u → Rechecks old table number new m₀ t₀ n₀ u₀ r′ m′ t′ n′ u′
       → checking r m t n u ≡ checking r′ m′ t′ n′ u′
-  permitted-equal m₀ t₀ n₀ u₀ a b = check.permitted-equal a b
+  permitted-equal m₀ t₀ n₀ u₀ a b = gives-equal a b
 
   -- EQUAL INPUTS AND LENGTHS GIVE EQUAL ANSWERS, whatever the slices held before
   pub same-inputs : {m₀ t₀ n₀ m₁ t₁ n₁ : List ℕ} {u₀ u₁ : Slices} {r r′ : CheckAnswer} {m t n m′ t′ n′ : List ℕ}
@@ -63,15 +62,31 @@ table-long m t n u h =
     let d = neither _ _ (b .1) in
     ltb-false _ _ (neither _ _ (d .1) .0)
 
-padded-long : (k : ℕ) (l : List ℕ) → k ≤ length (padTo k l)
+-- padding gives a list its length at least
+pub padded-long : (k : ℕ) (l : List ℕ) → k ≤ length (padTo k l)
 padded-long k l =
     omega (arith, length-append l (replicate (k - length l) 0), length-replicate {A = ℕ} (k - length l) 0)
 
 -- and its first cell is how many functions there are
-first-cell : (text : List ℕ) (k : ℕ) → Accepts text
+pub first-cell : (text : List ℕ) (k : ℕ) → Accepts text
     → checkOf text .answer .functions ≡ getD (padTo k (checkOf text .unit .functions)) 0 0
 unfolding checkOf readOf pick
 first-cell text k a = rw (a .lexed, a .typed) (functions-counted none (a .functions) ∙ zero-add (length (a .functions)))
+
+-- 0 is the number of an accepted text alone
+pub zero-accepts : (text : List ℕ) (k : ℕ) → Numbered text k → k ≡ 0 → Accepts text
+zero-accepts text k (inl h) e = h .0
+zero-accepts text k (inr (f, inl h)) e = absurd (omega (arith, h .0, e))
+zero-accepts text k (inr (f, inr h)) e = absurd (omega (arith, h .0, e))
+
+-- a table that is one gives no 42
+pub table-not-42 : (old table : List ℕ) (number : ℕ) (new : List ℕ) → Tabled old table number
+    → recheckOf old table number new .answer .number ≡ 42 → ⊥
+table-not-42 old table number new v e =
+    not-both (in-range-table old table number v) (forty-two-is-the-table old table number new e)
+  where
+    not-both : {b : Bool} → b ≡ true → b ≡ false → ⊥
+    not-both p q = let z : _≡_ {A = ℕ} 0 1 = cc in omega arith
 
 module _ (text m₀ t₀ n₀ : List ℕ) (u₀ : Slices) (r : CheckAnswer) (m t n : List ℕ) (u : Slices)
     (p : Checks text m₀ t₀ n₀ u₀ r m t n u) (z : r .number ≡ 0) where
@@ -93,12 +108,8 @@ module _ (text m₀ t₀ n₀ : List ℕ) (u₀ : Slices) (r : CheckAnswer) (m t
   as-checked = as-whole p ∙ rw was-sized
 
   was-accepted : Accepts text
-  was-accepted = by _ (numbers.every-number text) (sym (ap (λ (k : Checking). k .answer .number) as-checked) ∙ z)
-    where
-      by : (k : ℕ) → Numbered text k → k ≡ 0 → Accepts text
-      by k (inl h) e = h .0
-      by k (inr (f, inl h)) e = absurd (omega (arith, h .0, e))
-      by k (inr (f, inr h)) e = absurd (omega (arith, h .0, e))
+  was-accepted =
+      zero-accepts text _ (numbers.every-number text) (sym (ap (λ (k : Checking). k .answer .number) as-checked) ∙ z)
 
   count-written : r .functions ≡ getD (u .functions) 0 0
   count-written =
@@ -126,12 +137,7 @@ module _ (text m₀ t₀ n₀ : List ℕ) (u₀ : Slices) (r : CheckAnswer) (m t
   -- SO IT IS NEVER REFUSED WITH 42 ..
   pub never-42 : (number : ℕ) → number < r .functions → (new : List ℕ)
       → recheckOf text (u .functions) number new .answer .number ≡ 42 → ⊥
-  never-42 number l new e =
-      not-both (in-range-table text (u .functions) number (written-table number l))
-      (forty-two-is-the-table text (u .functions) number new e)
-    where
-      not-both : {b : Bool} → b ≡ true → b ≡ false → ⊥
-      not-both p q = let z : _≡_ {A = ℕ} 0 1 = cc in omega arith
+  never-42 number l new e = table-not-42 text (u .functions) number new (written-table number l) e
 
   -- .. in any answer that is permitted
   pub never-answered-42 : (number : ℕ) → number < r .functions → (new m₁ t₁ n₁ : List ℕ) (u₁ : Slices)

@@ -35,7 +35,11 @@ read-from-requires c κs =
     let is-table = c .before .before .before .before .before .is-table in
     let if1 = c .before .before .before .before .if1 in
     let cell-at = c .before .before .before .cell-at in (
-      line-small (now (a .old)) (now (a .table)) (a .number) (sym (is-table .ensures) ∙ not-false _ (if1 .left)) _ (cell-at .ensures),
+      omega (
+        arith,
+        line-small (now (a .old)) (now (a .table)) (a .number) (sym (is-table .ensures) ∙ not-false _ (if1 .left)) _
+            (cell-at .ensures),
+      ),
       pre .tokens-long,
       pre .names-long,
       pre .message-long,

@@ -1,5 +1,4 @@
 -- Each part is what its clearing or its report leaves.
-use mathlib.Core.Path.{_∙_}
 use borrow.Author.Needs.{needs}
 use Rattle.checker.proofs.Ends.{same-checking}
 use Rattle.recheck.proofs.refuse_all.Statement.{statement}

@@ -1,5 +1,4 @@
 -- Both branches of the definition, in its order.
-use borrow.Author.Needs.{needs}
 use borrow.Author.Tests.{lt-ltb, le-ltb}
 use Rattle.utils.specs.Bytes.{pick}
 use Rattle.pitchsleet.specs.RecheckBytes.{cellCount}
