@@ -256,11 +256,7 @@ fn recheck_case(again: &Recheck, lengths: [usize; 8]) -> String {
 /// A text with the answer to it, where the slices are long enough.
 fn case(text: &[u8], lengths: [usize; 8], answer: impl FnOnce() -> Said) -> String {
     let is_short = lengths.iter().zip(exact()).any(|(have, size)| *have < size);
-    let said = if is_short {
-        Said::Refused { number: 30, line: 0, place: 0, message: Vec::new() }
-    } else {
-        answer()
-    };
+    let said = if is_short { Said::Refused { number: 30, line: 0, place: 0, message: Vec::new() } } else { answer() };
     let cells = Cells::of_check(&said);
     let counts = cells.counts();
     let (number, line, place, message) = match said {

@@ -12,6 +12,7 @@ pub struct Given {
     pub next: usize,
 }
 
+// A case of check, or a file that is malformed.
 fn nothing(next: usize) -> Given {
     Given {
         again: false,
@@ -63,7 +64,7 @@ fn change(data: &[u8], from: usize, table: &mut [u32]) -> usize {
     at
 }
 
-// The same of a case of recheck.
+// What a case of recheck is given.
 fn load_given(
     data: &[u8],
     from: usize,
@@ -89,7 +90,7 @@ fn load_given(
     }
 }
 
-// A case of check has nothing of all this.
+// What a case is given: one of check, nothing.
 pub fn given_at(
     data: &[u8],
     from: usize,

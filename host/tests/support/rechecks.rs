@@ -50,10 +50,8 @@ impl Recheck {
     pub fn edit(&self) -> Option<Edit> {
         let before = model::check(&self.old).said;
         let number = self.number as usize;
-        let is_edit = self.changes.is_empty()
-            && self.length >= TABLE
-            && self.number < self.table()[0]
-            && before.number() == 0;
+        let is_edit =
+            self.changes.is_empty() && self.length >= TABLE && self.number < self.table()[0] && before.number() == 0;
         is_edit.then(|| Edit { old: self.old.clone(), before, number, new: self.new.clone() })
     }
 }
@@ -140,9 +138,8 @@ fn not_one_function() -> Vec<Recheck> {
         "@f { nop; }/* */", "@f { nop; }2147483648", "@f { nop; } @g", "@g { nop; } ", "@f { nop nop; } ",
     ];
     let second = ["@f { nop; } @g { nop; }", "@f {\nnop; }\n@f { ret; }", "@f { nop; } @g }", "@f { ret x; } @g { }"];
-    let behind = [
-        "@f { nop; } }", "@f { nop; }\nnop }", "@f { nop; } .a }", "@f { nop; } 5 @g }", "@f { ret x; } nop }",
-    ];
+    let behind =
+        ["@f { nop; } }", "@f { nop; }\nnop }", "@f { nop; } .a }", "@f { nop; } 5 @g }", "@f { ret x; } nop }"];
     let before = [
         "@f { } @g { nop; }", "@f { jmp .a; } @g { nop; }", "@f { } nop }", "@f { jmp .a; } nop }",
         "@f { ret; nop; } @g { nop; }",
@@ -164,19 +161,29 @@ fn headers() -> Vec<Recheck> {
     let behind = ["@g nop }", "@g { ret; nop; }", "@g { nop; } @f { nop; }", "@g { }", "@g { call @g; }"];
     let name = [(V, "@w { nop; }"), (V, "@vv { nop; }"), (V, "@V { nop; }"), (P, "@v(n: int, c: bool) { nop; }")];
     let result = [
-        (V, "@v: int { nop; }"), (I, "@i(a: int) { nop; }"), (I, "@i(a: int): bool { nop; }"), (B, "@b: int { nop; }"),
+        (V, "@v: int { nop; }"),
+        (I, "@i(a: int) { nop; }"),
+        (I, "@i(a: int): bool { nop; }"),
+        (B, "@b: int { nop; }"),
     ];
     let formals = [
-        (V, "@v(a: int) { nop; }"), (I, "@i: int { nop; }"), (P, "@p(n: int) { nop; }"),
+        (V, "@v(a: int) { nop; }"),
+        (I, "@i: int { nop; }"),
+        (P, "@p(n: int) { nop; }"),
         (P, "@p(n: int, c: bool, d: bool) { nop; }"),
     ];
     let types = [
-        (P, "@p(n: int, c: int) { nop; }"), (P, "@p(n: bool, c: bool) { nop; }"), (P, "@p(c: bool, n: int) { nop; }"),
+        (P, "@p(n: int, c: int) { nop; }"),
+        (P, "@p(n: bool, c: bool) { nop; }"),
+        (P, "@p(c: bool, n: int) { nop; }"),
         (I, "@i(a: bool): int { nop; }"),
     ];
     let kept = [
-        (V, "@v() { nop; }"), (V, "@v\n{ nop; }"), (P, "@p(x: int, y: bool) { nop; }"),
-        (I, "@i(a\n: int /* */):int { ret a; }"), (P, "@p(n: int, n: bool) { nop; }"),
+        (V, "@v() { nop; }"),
+        (V, "@v\n{ nop; }"),
+        (P, "@p(x: int, y: bool) { nop; }"),
+        (I, "@i(a\n: int /* */):int { ret a; }"),
+        (P, "@p(n: int, n: bool) { nop; }"),
     ];
     [
         titled("a header that is refused", ONE, 0, refused).collect(),
@@ -215,8 +222,11 @@ fn typing() -> Vec<Recheck> {
         "@v { x: bool = call @b; call @p x x; }", "@v { x: int = call @i x; call @p x; }",
     ];
     let results = [
-        (B, "@b: bool { nop; }"), (B, "@b: bool { ret; }"), (B, "@b: bool { x: int = const 1; ret x; }"),
-        (I, "@i(b: int): int { ret a; }"), (I, "@i(b: int): int { b: bool = const true; ret b; }"),
+        (B, "@b: bool { nop; }"),
+        (B, "@b: bool { ret; }"),
+        (B, "@b: bool { x: int = const 1; ret x; }"),
+        (I, "@i(b: int): int { ret a; }"),
+        (I, "@i(b: int): int { b: bool = const true; ret b; }"),
     ];
     titled("typing", FOUR, V, alone)
         .chain(titled("callees are the old text's", FOUR, V, calls))

@@ -1,8 +1,5 @@
--- The parts of the two texts and of the table that are lent are as long as their counts say, since the tests before it
--- held.
-use borrow.Author.Needs.{needs}
-use mathlib.Core.Path.{sym}
-use lib.Seq.{length-take-le}
+-- The parts of the two texts and of the table that are lent are as long as their counts say, since the tests
+-- before them held.
 use borrow.Author.Needs.{needs}
 use mathlib.Core.Path.{sym}
 use lib.Seq.{length-take-le}

@@ -2,9 +2,6 @@
 use borrow.Author.Needs.{needs}
 use mathlib.Core.Path.{sym}
 use lib.Seq.{length-take-le}
-use borrow.Author.Needs.{needs}
-use mathlib.Core.Path.{sym}
-use lib.Seq.{length-take-le}
 use Rattle.checks.proofs.given.load_given.Statement.{statement}
 use Rattle.checks.proofs.given.load_given.Tie as tie
 
