@@ -1,4 +1,4 @@
-//! Writes the fixed cases of a check, with the whole answers, for a program that replays them without any Rust:
+//! Writes the fixed cases of check and recheck, with the whole answers, for a program that replays them without any Rust:
 //!
 //! ```text
 //! cargo run --release --example cases -- FOLDER
@@ -13,17 +13,23 @@
 //! From the model of document 01 in tests/support/model, which has no code in common with the Rust or with the proved
 //! crates; the archive is never asked. On each text that is inside the limits the Rust original is asked too, and must say
 //! the same: message, tokens, names, functions, blocks, edges, operations and types. A text that is refused by a limit, and
-//! one in which typing comes to an unreachable block, rests on the model alone; 22 is a panic of the Rust's.
+//! one in which typing comes to an unreachable block, rests on the model alone; 22 is a panic of the Rust's. A recheck with
+//! a table as check wrote it is held to the Rust wherever demand 3 speaks: the new text is put in the old function's place,
+//! the model's recheck and its check of that whole text must agree as demand 3 says, and the Rust must say of the whole text
+//! what the model does.
 //!
 //! # The file
 //!
-//! Decimal numbers, with any other bytes between them; `#` begins a comment that runs to the line's end. Two lists of
-//! cases, with slices long enough and with a short one, each behind the count of its cases; then the count of all cases,
-//! which shows that the file is whole. A case is
+//! Decimal numbers, with any other bytes between them; `#` begins a comment that runs to the line's end. Three lists of
+//! cases, each behind the count of its cases: of check with slices long enough, of check with a short one, and of recheck;
+//! then the count of all cases, which shows that the file is whole. A case is
 //!
-//! - its text, a list of bytes;
-//! - how long the slices are that `check` is lent: tokens, names, functions, items, arguments, blocks, predecessors, in
-//!   cells, and message, in bytes;
+//! - of recheck alone: the old text, a list of bytes, whose header table is what `check` writes for it in a slice of 2,897
+//!   cells; how many cells of the table are changed, and of each its index and its value; how many cells of the table are
+//!   lent; the number of the function;
+//! - its text, of recheck the new one, a list of bytes;
+//! - how long the slices are that are lent: tokens, names, functions, items, arguments, blocks, predecessors, in cells, and
+//!   message, in bytes;
 //! - the answer: number, line, place, and the counts of tokens, names, functions, items, arguments, blocks, predecessors;
 //! - the cells of the seven slices, in the same order, each a list of numbers; the message, a list of bytes.
 //!
@@ -43,10 +49,12 @@ use std::path::Path;
 use std::process::ExitCode;
 
 use pitchsleet::Printable;
+use support::against_fresh::{Rechecked, compare_with_fresh};
 use support::against_rust::compare_with_rust;
 use support::fixed::{self, Titled};
 use support::model::{self, BYTES, Checked};
 use support::oracle::{Depth, Oracle};
+use support::rechecks::{self, Recheck};
 use support::records::{Cells, SIZES};
 use support::said::Said;
 
@@ -83,23 +91,17 @@ fn main() -> ExitCode {
         eprintln!("cases: FOLDER");
         return ExitCode::from(2);
     };
-    let texts = fixed::all();
-    let Some(counts) = hold_to_rust(&texts) else {
+    let (texts, again) = (fixed::all(), rechecks::all());
+    let Some(oracle) = &mut Oracle::start(Depth::Check) else {
         return ExitCode::from(2);
     };
-    if counts.differ > 0 {
+    let (texts_held, again_held) = (hold_to_rust(oracle, &texts), hold_rechecks_to_rust(oracle, &again));
+    if texts_held.differ + again_held.differ > 0 {
         return ExitCode::from(1);
     }
-    let calls: Vec<(Titled, [usize; 8])> = texts.iter().cloned().map(|text| (text, long())).collect();
-    let exact = EXACT.map(|text| ((format!("slices of their sizes, {text}"), text.as_bytes().to_vec()), exact()));
-    let calls: Vec<_> = calls.into_iter().chain(exact).collect();
-    let shorts: Vec<(Titled, [usize; 8])> = SHORT
-        .iter()
-        .flat_map(|text| short().into_iter().map(move |lens| (("a short slice".to_owned(), text.to_vec()), lens)))
-        .collect();
-    match write(Path::new(folder), &calls, &shorts) {
+    match write(Path::new(folder), &calls(texts), &shorts(), &rechecks(again)) {
         Ok(bytes) => {
-            println!("{} calls and {} with a short slice, {bytes} bytes; {counts}", calls.len(), shorts.len());
+            println!("{bytes} bytes\nchecks: {texts_held}\nrechecks: {again_held}");
             ExitCode::SUCCESS
         }
         Err(why) => {
@@ -107,6 +109,27 @@ fn main() -> ExitCode {
             ExitCode::from(2)
         }
     }
+}
+
+/// The texts to check, with the slices' lengths.
+fn calls(texts: Vec<Titled>) -> Vec<(Titled, [usize; 8])> {
+    let exact = EXACT.map(|text| ((format!("slices of their sizes, {text}"), text.as_bytes().to_vec()), exact()));
+    texts.into_iter().map(|text| (text, long())).chain(exact).collect()
+}
+
+fn shorts() -> Vec<(Titled, [usize; 8])> {
+    let titled = |text: &[u8]| ("a short slice".to_owned(), text.to_vec());
+    SHORT.iter().flat_map(|text| short().into_iter().map(move |lengths| (titled(text), lengths))).collect()
+}
+
+/// The rechecks, with the slices' lengths; some with slices of their sizes, and with short ones.
+fn rechecks(again: Vec<Recheck>) -> Vec<(Recheck, [usize; 8])> {
+    let few = |title: &str| rechecks::few().map(|recheck| Recheck { title: title.to_owned(), ..recheck });
+    let exact = few("slices of their sizes").map(|recheck| (recheck, exact()));
+    let [first, ..] = few("a short slice");
+    let bad = Recheck { title: "a short slice comes before a bad table".to_owned(), number: 1, ..first.clone() };
+    let shorts = short().into_iter().map(|lengths| (first.clone(), lengths));
+    again.into_iter().map(|recheck| (recheck, long())).chain(exact).chain(shorts).chain([(bad, [0; 8])]).collect()
 }
 
 const EXACT: [&str; 3] = ["", "@f { nop; }", "@f { ret x; }"];
@@ -121,60 +144,119 @@ struct Counts {
     numbers: BTreeMap<u32, usize>,
 }
 
-impl std::fmt::Display for Counts {
-    fn fmt(&self, f: &mut std::fmt::Formatter<'_>) -> std::fmt::Result {
-        write!(f, "{} texts held to the Rust; answers", self.held)?;
-        self.numbers.iter().try_for_each(|(number, count)| write!(f, " {number}: {count}"))
+impl Counts {
+    fn answered(&mut self, number: u32) {
+        *self.numbers.entry(number).or_default() += 1;
     }
-}
 
-/// None where there is no Rust. Each difference is told on standard error.
-fn hold_to_rust(texts: &[Titled]) -> Option<Counts> {
-    let mut oracle = Oracle::start(Depth::Check)?;
-    let mut counts = Counts::default();
-    for (title, text) in texts {
-        let Checked { said, order_is_open } = model::check(text);
-        *counts.numbers.entry(said.number()).or_default() += 1;
-        if (31..=38).contains(&said.number()) || order_is_open || text.len() > BYTES {
-            continue;
-        }
-        let answers = oracle.ask(std::slice::from_ref(text));
-        match compare_with_rust(text, &said, &answers[0]) {
-            Ok(()) => counts.held += 1,
+    fn hold(&mut self, title: &str, text: &[u8], result: Result<(), String>) {
+        match result {
+            Ok(()) => self.held += 1,
             Err(why) => {
-                counts.differ += 1;
+                self.differ += 1;
                 eprintln!("cases: the model and the Rust differ: {title}: {}\n  {why}", Printable(text));
             }
         }
     }
-    Some(counts)
+}
+
+impl std::fmt::Display for Counts {
+    fn fmt(&self, f: &mut std::fmt::Formatter<'_>) -> std::fmt::Result {
+        write!(f, "{}, {} held to the Rust; answers", self.numbers.values().sum::<usize>(), self.held)?;
+        self.numbers.iter().try_for_each(|(number, count)| write!(f, " {number}: {count}"))
+    }
+}
+
+/// Each difference is told on standard error.
+fn hold_to_rust(oracle: &mut Oracle, texts: &[Titled]) -> Counts {
+    let mut counts = Counts::default();
+    for (title, text) in texts {
+        let checked = model::check(text);
+        counts.answered(checked.said.number());
+        if text.len() <= BYTES && is_owed(&checked) {
+            counts.hold(title, text, compare(oracle, text, &checked));
+        }
+    }
+    counts
+}
+
+/// The same of rechecks, wherever demand 3 speaks.
+fn hold_rechecks_to_rust(oracle: &mut Oracle, again: &[Recheck]) -> Counts {
+    let mut counts = Counts::default();
+    for recheck in again {
+        counts.answered(recheck.answer().said.number());
+        let Some(edit) = recheck.edit() else { continue };
+        match compare_with_fresh(&edit) {
+            Ok(Rechecked { fails: None, edited, fresh, .. }) if is_owed(&fresh) => {
+                counts.hold(&recheck.title, &edited, compare(oracle, &edited, &fresh));
+            }
+            Ok(_) => {}
+            Err(why) => counts.hold(&recheck.title, &recheck.new, Err(why)),
+        }
+    }
+    counts
+}
+
+/// Whether the Rust has a word in an answer: it knows no limits, and no order of blocks that can't be reached.
+fn is_owed(checked: &Checked) -> bool {
+    !(31..=38).contains(&checked.said.number()) && !checked.order_is_open
+}
+
+fn compare(oracle: &mut Oracle, text: &[u8], checked: &Checked) -> Result<(), String> {
+    let answers = oracle.ask(&[text.to_vec()]);
+    compare_with_rust(text, &checked.said, &answers[0])
 }
 
 // ---- the file ----------------------------------------------------------------------------------------------------------
 
-fn write(folder: &Path, calls: &[(Titled, [usize; 8])], shorts: &[(Titled, [usize; 8])]) -> std::io::Result<usize> {
+fn write(
+    folder: &Path,
+    calls: &[(Titled, [usize; 8])],
+    shorts: &[(Titled, [usize; 8])],
+    rechecks: &[(Recheck, [usize; 8])],
+) -> std::io::Result<usize> {
     let mut lines = vec!["# Made by host/examples/cases.rs, which says what stands here.".to_owned()];
+    let all = calls.len() + shorts.len() + rechecks.len();
+    let mut index = 0..all;
+    let mut titled = |title: &str, lines: String| {
+        let title = title.lines().next().unwrap_or_default();
+        format!("# {}: {title}\n{lines}", index.next().expect("an index"))
+    };
     lines.push(calls.len().to_string());
-    lines.extend(calls.iter().enumerate().map(|(index, (text, lengths))| case(index, text, *lengths)));
+    lines.extend(calls.iter().map(|((title, text), lengths)| titled(title, check_case(text, *lengths))));
     lines.extend(["# with a short slice".to_owned(), shorts.len().to_string()]);
-    lines.extend(shorts.iter().enumerate().map(|(index, (text, lengths))| case(calls.len() + index, text, *lengths)));
-    lines.extend(["# the end".to_owned(), (calls.len() + shorts.len()).to_string(), String::new()]);
+    lines.extend(shorts.iter().map(|((title, text), lengths)| titled(title, check_case(text, *lengths))));
+    lines.extend(["# of recheck".to_owned(), rechecks.len().to_string()]);
+    lines.extend(rechecks.iter().map(|(again, lengths)| titled(&again.title, recheck_case(again, *lengths))));
+    lines.extend(["# the end".to_owned(), all.to_string(), String::new()]);
     let file = lines.join("\n");
     fs::write(folder.join("stdin"), &file)?;
-    let (calls, shorts) = (calls.len(), shorts.len());
-    let expected =
-        format!("{calls} texts: {calls} as expected\n{shorts} calls with a short slice: {shorts} as expected\n");
+    let lists = [(calls.len(), "texts"), (shorts.len(), "calls with a short slice"), (rechecks.len(), "rechecks")];
+    let expected: String = lists.map(|(count, what)| format!("{count} {what}: {count} as expected\n")).concat();
     fs::write(folder.join("stdout"), expected)?;
     Ok(file.len())
 }
 
-fn case(index: usize, (title, text): &Titled, lengths: [usize; 8]) -> String {
+fn check_case(text: &[u8], lengths: [usize; 8]) -> String {
+    case(text, lengths, || model::check(text).said)
+}
+
+fn recheck_case(again: &Recheck, lengths: [usize; 8]) -> String {
+    let Recheck { old, changes, length, number, new, .. } = again;
+    let changed: String = changes.iter().map(|(cell, value)| format!(" {cell} {value}")).collect();
+    [
+        listed(&bytes_as_cells(old), 1, quoted),
+        format!("{}{changed}", changes.len()),
+        format!("{length} {number}"),
+        case(new, lengths, || again.answer().said),
+    ]
+    .join("\n")
+}
+
+/// A text with the answer to it, where the slices are long enough.
+fn case(text: &[u8], lengths: [usize; 8], answer: impl FnOnce() -> Said) -> String {
     let is_short = lengths.iter().zip(exact()).any(|(have, size)| *have < size);
-    let said = if is_short {
-        Said::Refused { number: 30, line: 0, place: 0, message: Vec::new() }
-    } else {
-        model::check(text).said
-    };
+    let said = if is_short { Said::Refused { number: 30, line: 0, place: 0, message: Vec::new() } } else { answer() };
     let cells = Cells::of_check(&said);
     let counts = cells.counts();
     let (number, line, place, message) = match said {
@@ -185,12 +267,7 @@ fn case(index: usize, (title, text): &Titled, lengths: [usize; 8]) -> String {
         number, line, place, counts.tokens, counts.names, counts.functions, counts.items, counts.arguments,
         counts.blocks, counts.predecessors,
     ];
-    let mut lines = vec![
-        format!("# {index}: {}", title.lines().next().unwrap_or_default()),
-        listed(&bytes_as_cells(text), 1, quoted),
-        spaced(&lengths),
-        spaced(&answer),
-    ];
+    let mut lines = vec![listed(&bytes_as_cells(text), 1, quoted), spaced(&lengths), spaced(&answer)];
     lines.extend(cells.slices().into_iter().zip(WIDTHS).map(|(cells, width)| functions_apart(cells, width)));
     lines.push(listed(&bytes_as_cells(&message), 1, quoted));
     lines.join("\n")

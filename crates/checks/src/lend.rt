@@ -1,8 +1,9 @@
-// Calls `check`, lending as much of the slices as a case says.
+// Calls `check` or `recheck`, lending as much of the slices as a case says.
+use crate::given::Given;
 use crate::load::Lengths;
 use checker::CheckAnswer;
 
-// No answer of `check`: a case that says more than the slices have.
+// No answer at all: a case that says more than the slices have.
 fn none() -> CheckAnswer {
     CheckAnswer {
         number: 99,
@@ -18,10 +19,57 @@ fn none() -> CheckAnswer {
     }
 }
 
-// The tokens and names are lent already.
-fn lend_last(
+// The call itself.
+fn call<'t>(
+    given: Given,
+    old: &'t [u8],
+    table: &[u32],
+    text: &'t [u8],
+    tokens: &mut [u32],
+    names: &mut [u32],
+    functions: &mut [u32],
+    items: &mut [u32],
+    arguments: &mut [u32],
+    blocks: &mut [u32],
+    predecessors: &mut [u32],
+    message: &mut [u8],
+) -> CheckAnswer {
+    if given.again {
+        return recheck::recheck(
+            old,
+            table,
+            given.number,
+            text,
+            tokens,
+            names,
+            functions,
+            items,
+            arguments,
+            blocks,
+            predecessors,
+            message,
+        );
+    }
+    checker::check(
+        text,
+        tokens,
+        names,
+        functions,
+        items,
+        arguments,
+        blocks,
+        predecessors,
+        message,
+    )
+}
+
+// The slices of the functions and those before them are lent already.
+fn lend_last<'t>(
     lengths: Lengths,
-    text: &[u8],
+    given: Given,
+    old: &'t [u8],
+    table: &[u32],
+    text: &'t [u8],
     tokens: &mut [u32],
     names: &mut [u32],
     functions: &mut [u32],
@@ -39,7 +87,10 @@ fn lend_last(
         if b <= blocks.len() {
             if p <= predecessors.len() {
                 if m <= message.len() {
-                    return checker::check(
+                    return call(
+                        given,
+                        old,
+                        table,
                         text,
                         tokens,
                         names,
@@ -57,9 +108,12 @@ fn lend_last(
     none()
 }
 
-pub fn lend(
+pub fn lend<'t>(
     lengths: Lengths,
-    text: &[u8],
+    given: Given,
+    old: &'t [u8],
+    table: &[u32],
+    text: &'t [u8],
     tokens: &mut [u32],
     names: &mut [u32],
     functions: &mut [u32],
@@ -79,6 +133,9 @@ pub fn lend(
                 if i <= items.len() {
                     return lend_last(
                         lengths,
+                        given,
+                        old,
+                        table,
                         text,
                         &mut tokens[..t],
                         &mut names[..n],

@@ -17,6 +17,7 @@ pub mod json;
 pub mod model;
 pub mod oracle;
 pub mod programs;
+pub mod rechecks;
 pub mod records;
 pub mod rules;
 pub mod said;

@@ -6,10 +6,10 @@ use Rattle.checks.proofs.replay.Statement.{statement}
 use Rattle.checks.proofs.replay.Tie as tie
 
 abbrev Inv-loop : tie.InvT-loop
-Inv-loop «data» from first cells₀ text₀ count left₀ at₀ index₀ right₀ cells text left at index right = (length cells ≡ length cells₀) × (length text ≡ length text₀)
+Inv-loop «data» from first again cells₀ text₀ count left₀ at₀ index₀ right₀ cells text left at index right = (length cells ≡ length cells₀) × (length text ≡ length text₀)
 
 abbrev μ-loop : tie.MeasureT-loop
-μ-loop «data» from first cells₀ text₀ count left₀ at₀ index₀ right₀ cells text left at index right = left
+μ-loop «data» from first again cells₀ text₀ count left₀ at₀ index₀ right₀ cells text left at index right = left
 
 number-at-requires : tie.Need-number-at-requires Inv-loop μ-loop
 number-at-requires c κs = search needs

@@ -5,32 +5,32 @@ use lib.Seq.{length-take-le}
 use Rattle.checks.proofs.lend.lend_last.Statement.{statement}
 use Rattle.checks.proofs.lend.lend_last.Tie as tie
 
-slice-relend-prefix-check : tie.Need-slice-relend-prefix-check
-slice-relend-prefix-check c = search needs
+slice-relend-prefix-call : tie.Need-slice-relend-prefix-call
+slice-relend-prefix-call c = search needs
 
-slice-aggregate-check : tie.Need-slice-aggregate-check
-slice-aggregate-check c = sym (length-take-le _ _ (search needs))
+slice-aggregate-call : tie.Need-slice-aggregate-call
+slice-aggregate-call c = sym (length-take-le _ _ (search needs))
 
-slice-relend-prefix-check-2 : tie.Need-slice-relend-prefix-check-2
-slice-relend-prefix-check-2 c = search needs
+slice-relend-prefix-call-2 : tie.Need-slice-relend-prefix-call-2
+slice-relend-prefix-call-2 c = search needs
 
-slice-aggregate-check-2 : tie.Need-slice-aggregate-check-2
-slice-aggregate-check-2 c = sym (length-take-le _ _ (search needs))
+slice-aggregate-call-2 : tie.Need-slice-aggregate-call-2
+slice-aggregate-call-2 c = sym (length-take-le _ _ (search needs))
 
-slice-relend-prefix-check-3 : tie.Need-slice-relend-prefix-check-3
-slice-relend-prefix-check-3 c = search needs
+slice-relend-prefix-call-3 : tie.Need-slice-relend-prefix-call-3
+slice-relend-prefix-call-3 c = search needs
 
-slice-aggregate-check-3 : tie.Need-slice-aggregate-check-3
-slice-aggregate-check-3 c = sym (length-take-le _ _ (search needs))
+slice-aggregate-call-3 : tie.Need-slice-aggregate-call-3
+slice-aggregate-call-3 c = sym (length-take-le _ _ (search needs))
 
-slice-relend-prefix-check-4 : tie.Need-slice-relend-prefix-check-4
-slice-relend-prefix-check-4 c = search needs
+slice-relend-prefix-call-4 : tie.Need-slice-relend-prefix-call-4
+slice-relend-prefix-call-4 c = search needs
 
-slice-aggregate-check-4 : tie.Need-slice-aggregate-check-4
-slice-aggregate-check-4 c = sym (length-take-le _ _ (search needs))
+slice-aggregate-call-4 : tie.Need-slice-aggregate-call-4
+slice-aggregate-call-4 c = sym (length-take-le _ _ (search needs))
 
-check-requires : tie.Need-check-requires
-check-requires c κs = search needs
+call-requires : tie.Need-call-requires
+call-requires c κs = search needs
 
 same-length : tie.Need-same-length
 same-length c = search needs
@@ -69,15 +69,15 @@ pub lend-last-spec : {M : Type 1} → statement M
 lend-last-spec =
     tie.close
     (tie.spec
-    slice-relend-prefix-check
-    slice-aggregate-check
-    slice-relend-prefix-check-2
-    slice-aggregate-check-2
-    slice-relend-prefix-check-3
-    slice-aggregate-check-3
-    slice-relend-prefix-check-4
-    slice-aggregate-check-4
-    check-requires
+    slice-relend-prefix-call
+    slice-aggregate-call
+    slice-relend-prefix-call-2
+    slice-aggregate-call-2
+    slice-relend-prefix-call-3
+    slice-aggregate-call-3
+    slice-relend-prefix-call-4
+    slice-aggregate-call-4
+    call-requires
     same-length
     same-length-2
     same-length-3
