@@ -28,8 +28,8 @@ fn from_environment(name: &str, default: u64) -> u64 {
 
 // ---- demand 3 ----------------------------------------------------------------------------------------------------------
 
-/// A run of the usual size reaches every answer that recheck can have, with a table as check wrote it and with others,
-/// and breaks every premise.
+/// A run of the usual size reaches every number of parsing and typing where demand 3 speaks, those of recheck itself and
+/// of lexing with other tables (but for 1 and the limits, which `limits` and `each_number` have), and breaks every premise.
 #[test]
 fn generated_edits() {
     let (seed, count) = (from_environment("PITCHSLEET_SEED", SEED), from_environment("PITCHSLEET_EDITS", EDITS));

@@ -11,5 +11,3 @@ pub mod Sound
 pub mod Decoded
 -- for tables of cases: all definitions at once
 pub mod Opened
--- texts that begin on another line: one table, one claim
-pub mod Cases
