@@ -11,8 +11,9 @@ use std::io::Write;
 
 use support::against_fresh::{Premise, compare_with_fresh};
 use support::compare_edits::EditComparison;
-use support::edits::{self, Edit, table_of};
+use support::edits::{self, Edit, Quadruple, table_of};
 use support::model::{self, BYTES, ROW, TABLE};
+use support::rechecks::{self, Recheck};
 use support::said::{Said, Ty};
 use support::texts::short_names;
 
@@ -51,6 +52,24 @@ fn generated_edits() {
     }
     for premise in Premise::ALL {
         assert!(report.left_out(premise) > 0, "it is never otherwise than that {premise}");
+    }
+}
+
+/// The fixed rechecks of crates/checks through the C function, with every number that recheck can have but 30.
+#[test]
+fn fixed_rechecks() {
+    let lent = |recheck: &Recheck| Quadruple {
+        old: recheck.old.clone(),
+        table: recheck.table().iter().flat_map(|cell| cell.to_le_bytes()).collect(),
+        number: recheck.number,
+        new: recheck.new.clone(),
+    };
+    let mut comparison = EditComparison::new();
+    comparison.by_other_tables(rechecks::all().iter().map(lent));
+    let report = comparison.report;
+    assert!(report.is_clean(), "{report}");
+    for number in (0..=22).chain(31..=34).chain(36..=38).chain(40..=42) {
+        assert!(report.answered_by_other_tables(number) > 0, "no fixed recheck is answered with {number}");
     }
 }
 
