@@ -1,6 +1,6 @@
 //! Recheck: this crate against the model of document 01, edit by edit and table by table; the model, by demand 3,
-//! against a check of the whole edited text and against the Rust original; and answers of the model that are written
-//! down here.
+//! against a check of the whole edited text and against the Rust original; the C functions, by demand 3, against each
+//! other in every cell; and answers of the model that are written down here.
 //!
 //! `PITCHSLEET_EDITS` says how many edits are generated, and how many rechecks with a table that check didn't write;
 //! `PITCHSLEET_SEED` from which seed. Both are printed, with what came of them. Where the Rust files are not to be had
@@ -10,7 +10,9 @@ mod support;
 use std::io::Write;
 
 use support::against_fresh::{Premise, compare_with_fresh};
+use support::against_model::Lent;
 use support::compare_edits::EditComparison;
+use support::demand_3::hold_to_demand_3;
 use support::edits::{self, Edit, Quadruple, table_of};
 use support::model::{self, BYTES, ROW, TABLE};
 use support::rechecks::{self, Recheck};
@@ -53,9 +55,11 @@ fn generated_edits() {
     for premise in Premise::ALL {
         assert!(report.left_out(premise) > 0, "it is never otherwise than that {premise}");
     }
+    assert!(report.other_readings() > 0, "no text has another function");
 }
 
-/// The fixed rechecks of crates/checks through the C function, with every number that recheck can have but 30.
+/// The fixed rechecks of crates/checks through the C function, with every number that recheck can have but 30; and by
+/// demand 3 those that have a table as check wrote it.
 #[test]
 fn fixed_rechecks() {
     let lent = |recheck: &Recheck| Quadruple {
@@ -66,6 +70,7 @@ fn fixed_rechecks() {
     };
     let mut comparison = EditComparison::new();
     comparison.by_other_tables(rechecks::all().iter().map(lent));
+    comparison.all(rechecks::all().iter().filter_map(Recheck::edit));
     let report = comparison.report;
     assert!(report.is_clean(), "{report}");
     for number in (0..=22).chain(31..=34).chain(36..=38).chain(40..=42) {
@@ -93,6 +98,8 @@ fn where_demand_3_says_nothing() {
             (Some(premise), number, fresh),
             "{new}"
         );
+        let held = hold_to_demand_3(&mut Lent::new(), &edit).unwrap_or_else(|why| panic!("{new}: {why}"));
+        assert_eq!((held.fails, held.number), (Some(premise), number), "{new}");
     }
 }
 

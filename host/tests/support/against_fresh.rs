@@ -1,9 +1,9 @@
-//! Recheck against a check of the whole edited text: what demand 3 asks.
+//! Recheck against a check of the whole edited text: what demand 3 asks, of the model's answers.
 use std::fmt::{self, Display, Formatter};
 
 use super::edits::{Edit, table_of};
 use super::model::{self, Checked};
-use super::said::{Said, SaidFunction, SaidLabel, SaidName, SaidOperation, SaidToken, SaidVariable, Ty};
+use super::said::{Said, SaidFunction, SaidLabel, SaidName, SaidOperation, SaidToken, SaidVariable, Ty, Verdict};
 
 /// A premise of demand 3, in the order in which they are looked at.
 #[derive(Clone, Copy, Debug, PartialEq, Eq, PartialOrd, Ord)]
@@ -62,7 +62,7 @@ pub fn compare_with_fresh(edit: &Edit) -> Result<Rechecked, String> {
     let replaced = function_of(before, *number);
     let edited = [&old[..replaced.place], new, &old[replaced.end_place + 1..]].concat();
     let (said, fresh) = (model::recheck(old, &table, *number as u32, new).said, model::check(&edited));
-    let fails = fails(&said, &fresh.said)?;
+    let fails = fails(said.verdict(), fresh.said.verdict())?;
     let known = known_of_new(new, before, replaced);
     if !known.allows(fails) {
         return Err(format!("recheck says {said}\n  of the new text is known: {known:?}"));
@@ -83,17 +83,17 @@ fn function_of(said: &Said, number: usize) -> &SaidFunction {
 
 /// The premise that fails by the answers. "Demand 3 speaks where the answer is no lexical number and none of 30, 40, 41,
 /// 42", of both answers; and with a table as check wrote it there is no 42.
-fn fails(said: &Said, fresh: &Said) -> Result<Option<Premise>, String> {
-    Ok(match (said, fresh.number()) {
-        (Said::Refused { number: 1..=4 | 31..=34, .. }, _) => Some(Premise::LexesAlone),
-        (Said::Refused { number: 40, place: 0, .. }, _) => Some(Premise::RunsFromNameToBrace),
-        (Said::Refused { number: 40, .. }, _) => Some(Premise::HoldsNoSecondFunction),
-        (Said::Refused { number: 41, .. }, _) => Some(Premise::KeepsTheHeader),
-        (Said::Refused { number: 30 | 42, .. }, _) => return Err(format!("recheck says {said}")),
+pub fn fails(alone: Verdict, fresh: Verdict) -> Result<Option<Premise>, String> {
+    Ok(match (alone.number, fresh.number) {
+        (1..=4 | 31..=34, _) => Some(Premise::LexesAlone),
+        (40, _) if alone.place == 0 => Some(Premise::RunsFromNameToBrace),
+        (40, _) => Some(Premise::HoldsNoSecondFunction),
+        (41, _) => Some(Premise::KeepsTheHeader),
+        (30 | 42, _) => return Err(format!("recheck says {alone}")),
         (_, 31) => Some(Premise::StaysInsideBytes),
         (_, 32) => Some(Premise::StaysInsideTokens),
         (_, 33) => Some(Premise::StaysInsideNames),
-        (_, 1..=4 | 34) => return Err(format!("recheck says {said}\n  a check of the edited text {fresh}")),
+        (_, 1..=4 | 34) => return Err(format!("recheck says {alone}\n  a check of the edited text {fresh}")),
         _ => None,
     })
 }
@@ -155,20 +155,25 @@ fn header_of<'s>(said: &'s Said, function: &SaidFunction) -> (&'s str, Vec<Ty>, 
 // ---- answers and readings ----------------------------------------------------------------------------------------------
 
 /// "Accepts exactly when the whole edited text, read afresh, is accepted; otherwise both give the same number at the same
-/// line and place." "Fresh places count from the replaced function's first byte." Messages aren't compared.
+/// line and place." "Fresh places count from the replaced function's first byte."
+pub fn is_same_verdict(alone: Verdict, fresh: Verdict, start: usize) -> bool {
+    match alone.number {
+        0 => fresh.number == 0,
+        _ => fresh == Verdict { place: start as u32 + alone.place, ..alone },
+    }
+}
+
+/// The same verdict, and the same reading. Messages aren't compared.
 fn same_answer(said: &Said, fresh: &Said, number: usize, start: usize) -> Result<(), String> {
-    let is_same = match (said, fresh) {
-        (
-            Said::Refused { number, line, place, .. },
-            Said::Refused { number: their_number, line: their_line, place: their_place, .. },
-        ) => (number, line, start + place) == (their_number, their_line, *their_place),
-        (Said::Accepted { functions, .. }, Said::Accepted { .. }) => {
-            let [function] = &functions[..] else { return Err(format!("recheck says {said}")) };
+    let reads_alike = || match said {
+        Said::Refused { .. } => true,
+        Said::Accepted { functions, .. } => {
+            let [function] = &functions[..] else { return false };
             let theirs = function_of(fresh, number);
             function.line == theirs.line && Reading::new(said, function) == Reading::new(fresh, theirs)
         }
-        _ => false,
     };
+    let is_same = is_same_verdict(said.verdict(), fresh.verdict(), start) && reads_alike();
     if is_same { Ok(()) } else { Err(format!("recheck says {said}\n  a check of the edited text {fresh}")) }
 }
 

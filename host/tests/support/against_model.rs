@@ -5,10 +5,10 @@ use pitchsleet::raw::{self, CheckAnswer, ReadAnswer};
 use pitchsleet::{Headers, Reader};
 
 use super::by_crate::{by_checker, by_reader, by_rechecker};
-use super::edits::{Edit, Quadruple, cells_of, table_of};
+use super::edits::{Edit, Quadruple, table_of};
 use super::model::{self, Checked};
-use super::records::Cells;
-use super::said::Said;
+use super::records::{Cells, cells_of};
+use super::said::{Said, Verdict};
 
 /// A reader, and slices to lend, longer than their sizes and full of what the text before left there.
 pub struct Lent {
@@ -47,7 +47,7 @@ impl Lent {
         let expected = model::check(text);
         let said = by_checker(&mut self.reader, text);
         same(&said, &expected.said)?;
-        let answer = raw::check(text, &mut self.check_out, &mut self.message);
+        let (answer, _) = self.check(text);
         self.same_lent(&answer, &expected.said)?;
         Ok(expected)
     }
@@ -71,9 +71,21 @@ impl Lent {
     pub fn compare_recheck(&mut self, quadruple: &Quadruple) -> Result<Said, String> {
         let Quadruple { old, table, number, new } = quadruple;
         let expected = model::recheck(old, &cells_of(table), *number, new).said;
-        let answer = raw::recheck(old, table, *number, new, &mut self.check_out, &mut self.message);
+        let (answer, _) = self.recheck(old, table, *number, new);
         self.same_lent(&answer, &expected)?;
         Ok(expected)
+    }
+
+    /// What the C function answers, and what it leaves in `out`.
+    pub fn check(&mut self, text: &[u8]) -> (CheckAnswer, &[u8]) {
+        let answer = raw::check(text, &mut self.check_out, &mut self.message);
+        (answer, &self.check_out)
+    }
+
+    /// The same of a recheck.
+    pub fn recheck(&mut self, old: &[u8], table: &[u8], number: u32, new: &[u8]) -> (CheckAnswer, &[u8]) {
+        let answer = raw::recheck(old, table, number, new, &mut self.check_out, &mut self.message);
+        (answer, &self.check_out)
     }
 
     fn headers(&mut self, old: &[u8]) -> Result<Headers, String> {
@@ -110,13 +122,13 @@ fn same_bytes(what: &str, found: &[u8], expected: &[u8]) -> Result<(), String> {
 }
 
 fn read_answer(said: &Said, cells: &Cells) -> ReadAnswer {
-    let (number, line, place) = refusal_of(said);
+    let Verdict { number, line, place } = said.verdict();
     let counts = cells.counts();
     ReadAnswer { number, line, place, tokens: counts.tokens, names: counts.names }
 }
 
 fn check_answer(said: &Said, cells: &Cells) -> CheckAnswer {
-    let (number, line, place) = refusal_of(said);
+    let Verdict { number, line, place } = said.verdict();
     let counts = cells.counts();
     CheckAnswer {
         number,
@@ -129,14 +141,6 @@ fn check_answer(said: &Said, cells: &Cells) -> CheckAnswer {
         arguments: counts.arguments,
         blocks: counts.blocks,
         predecessors: counts.predecessors,
-    }
-}
-
-/// Number, line and place: of an accepted text all 0.
-fn refusal_of(said: &Said) -> (u32, u32, u32) {
-    match said {
-        Said::Accepted { .. } => (0, 0, 0),
-        Said::Refused { number, line, place, .. } => (*number, *line, *place as u32),
     }
 }
 

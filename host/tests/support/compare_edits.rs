@@ -1,5 +1,5 @@
 //! The comparison of edits: this crate's recheck against the model's, the model's against a check of the edited text,
-//! and that against the Rust.
+//! and that against the Rust; and by demand 3 what the C functions write, cell by cell.
 use std::collections::BTreeMap;
 use std::fmt::{self, Display, Formatter};
 
@@ -8,8 +8,10 @@ use pitchsleet::Printable;
 use super::against_fresh::{Premise, Rechecked, compare_with_fresh};
 use super::against_model::Lent;
 use super::against_rust::compare_with_rust;
-use super::edits::{Edit, Quadruple, cells_of};
+use super::demand_3::{Held, hold_to_demand_3};
+use super::edits::{Edit, Quadruple};
 use super::oracle::{Depth, Oracle};
+use super::records::cells_of;
 
 /// How many texts the oracle is asked at once.
 const BATCH: usize = 512;
@@ -25,6 +27,11 @@ pub struct EditReport {
     numbers: BTreeMap<u32, usize>,
     /// How many were left out since a premise fails, and how many of these were answered with each number.
     failing: BTreeMap<Premise, BTreeMap<u32, usize>>,
+    /// Readings that the C functions write alike in every cell: those of the other functions, before an edit that is
+    /// accepted and after it, and those of replaced functions, checked and rechecked. (A new function's is alike wherever
+    /// the answer is 0.)
+    other_readings: usize,
+    replaced_readings: usize,
     /// How many were answered with each number where the table isn't one that check wrote for the old text.
     by_other_tables: BTreeMap<u32, usize>,
     /// Edits after which the answer to the whole text was held against the Rust's.
@@ -59,6 +66,21 @@ impl EditReport {
         self.held_to_rust
     }
 
+    /// How many other functions were found to read as before the edit, in every cell.
+    pub fn other_readings(&self) -> usize {
+        self.other_readings
+    }
+
+    fn agrees(&mut self, held: &Held) {
+        let numbers = match held.fails {
+            Some(premise) => self.failing.entry(premise).or_default(),
+            None => &mut self.numbers,
+        };
+        *numbers.entry(held.number).or_default() += 1;
+        self.other_readings += held.others;
+        self.replaced_readings += 1;
+    }
+
     fn differs(&mut self, edit: &Edit, why: &str) {
         let (old, new) = (Printable(&edit.old), Printable(&edit.new));
         self.tell(format!("- function {} of: {old}\n  becomes: {new}\n  {why}", edit.number));
@@ -83,6 +105,12 @@ impl Display for EditReport {
         for (premise, numbers) in &self.failing {
             write!(f, "; not so that {premise}:{}", Listed(numbers))?;
         }
+        let (new, others, replaced) = (self.answered(0), self.other_readings, self.replaced_readings);
+        write!(
+            f,
+            "; by the C functions, in every cell: {new} new functions read alone as afresh, {others} others as before, \
+             {replaced} replaced ones rechecked as before"
+        )?;
         write!(f, "; held to the model by other tables:{}", Listed(&self.by_other_tables))?;
         write!(f, "; {differing} differ")?;
         self.told.iter().try_for_each(|difference| write!(f, "\n{difference}"))
@@ -145,27 +173,21 @@ impl EditComparison {
 
     /// An edit whose answer is owed a comparison with the Rust.
     fn one(&mut self, edit: &Edit) -> Option<Rechecked> {
-        let report = &mut self.report;
-        report.edits += 1;
-        if let Err(why) = self.lent.compare_edit(edit) {
-            report.differs(edit, &why);
+        self.report.edits += 1;
+        let (rechecked, held) = match compare(&mut self.lent, edit) {
+            Ok(compared) => compared,
+            Err(why) => {
+                self.report.differs(edit, &why);
+                return None;
+            }
+        };
+        self.report.agrees(&held);
+        let speaks = rechecked.fails.is_none();
+        if speaks && rechecked.fresh.order_is_open {
+            self.report.unreachable += 1;
             return None;
         }
-        match compare_with_fresh(edit) {
-            Err(why) => report.differs(edit, &why),
-            Ok(Rechecked { number, fails: Some(premise), .. }) => {
-                *report.failing.entry(premise).or_default().entry(number).or_default() += 1;
-            }
-            Ok(rechecked) => {
-                *report.numbers.entry(rechecked.number).or_default() += 1;
-                if rechecked.fresh.order_is_open {
-                    report.unreachable += 1;
-                } else if !is_by_a_limit(rechecked.number) {
-                    return Some(rechecked);
-                }
-            }
-        }
-        None
+        (speaks && !is_by_a_limit(rechecked.number)).then_some(rechecked)
     }
 
     /// Recheck says the same as a check of the edited text, which must be what the Rust says.
@@ -179,6 +201,20 @@ impl EditComparison {
             }
         }
     }
+}
+
+/// Every answer to an edit: this crate's as the model's, the model's by demand 3, and the C functions' by demand 3. The last
+/// two must come to the same.
+fn compare(lent: &mut Lent, edit: &Edit) -> Result<(Rechecked, Held), String> {
+    lent.compare_edit(edit)?;
+    let rechecked = compare_with_fresh(edit)?;
+    let held = hold_to_demand_3(lent, edit)?;
+    let (by_cells, by_model) = ((held.number, held.fails), (rechecked.number, rechecked.fails));
+    if by_cells != by_model || held.edited != rechecked.edited {
+        let edited = Printable(&held.edited);
+        return Err(format!("the C functions come to {by_cells:?}, the model to {by_model:?}, with the text {edited}"));
+    }
+    Ok((rechecked, held))
 }
 
 /// The Rust knows no limits.

@@ -42,12 +42,6 @@ pub fn with_other_tables(seed: u64, numbers: std::ops::Range<u64>) -> impl Itera
     })
 }
 
-/// The cells of a table's bytes; fewer than four bytes at the end are none.
-pub fn cells_of(table: &[u8]) -> Vec<u32> {
-    let (cells, _) = table.as_chunks::<4>();
-    cells.iter().map(|cell| u32::from_le_bytes(*cell)).collect()
-}
-
 /// The header table of a text as check writes it; none of a text that is refused.
 pub fn table_of(said: &Said) -> Option<Vec<u32>> {
     let mut table = Cells::of_check(said).functions;

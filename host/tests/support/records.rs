@@ -1,9 +1,11 @@
 //! What the slices hold of an answer, as docs/INTERFACE.md lays it out: written from the document, without this crate's own
 //! decoding.
+use pitchsleet::raw::CheckAnswer;
+
 use super::said::{Said, SaidBlock, SaidFunction, SaidName, SaidOperation, SaidToken, SaidVariable, Ty};
 
 /// The cells of an accepted text, slice by slice. Those of a refused one are empty.
-#[derive(Default)]
+#[derive(Clone, Default)]
 pub struct Cells {
     pub tokens: Vec<u32>,
     pub names: Vec<u32>,
@@ -30,7 +32,35 @@ pub struct Counts {
 /// The sizes of the slices, in cells, in their order in `out`.
 pub const SIZES: [usize; 7] = [16_384, 2_048, 2_881, 24_576, 6_928, 8_192, 2_048];
 
+/// The cells of bytes; fewer than four bytes at the end are none.
+pub fn cells_of(bytes: &[u8]) -> Vec<u32> {
+    let (cells, _) = bytes.as_chunks::<4>();
+    cells.iter().map(|cell| u32::from_le_bytes(*cell)).collect()
+}
+
 impl Cells {
+    /// The cells that a check or a recheck has written to `out`: as many of each slice as the answer counts records.
+    pub fn of_out(answer: &CheckAnswer, out: &[u8]) -> Self {
+        let CheckAnswer { number, tokens, names, functions, items, arguments, blocks, predecessors, .. } = *answer;
+        let functions = if number == 0 { 1 + 45 * functions } else { 0 };
+        let counts = [4 * tokens, 2 * names, functions, 8 * items, 2 * arguments, 8 * blocks, predecessors];
+        let mut rest = out;
+        let mut slice = |at: usize| {
+            let (room, behind) = rest.split_at(4 * SIZES[at]);
+            rest = behind;
+            cells_of(&room[..4 * counts[at] as usize])
+        };
+        Self {
+            tokens: slice(0),
+            names: slice(1),
+            functions: slice(2),
+            items: slice(3),
+            arguments: slice(4),
+            blocks: slice(5),
+            predecessors: slice(6),
+        }
+    }
+
     /// The slices in their order.
     pub fn slices(&self) -> [&[u32]; 7] {
         let Self { tokens, names, functions, items, arguments, blocks, predecessors } = self;

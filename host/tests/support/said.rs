@@ -146,13 +146,35 @@ impl Ty {
     }
 }
 
+/// Number, line and place of an answer: of an accepted text all 0.
+#[derive(Clone, Copy, Debug, Default, PartialEq, Eq)]
+pub struct Verdict {
+    pub number: u32,
+    pub line: u32,
+    pub place: u32,
+}
+
+impl Display for Verdict {
+    fn fmt(&self, f: &mut Formatter<'_>) -> fmt::Result {
+        let Self { number, line, place } = self;
+        match number {
+            0 => write!(f, "accepted"),
+            _ => write!(f, "{number}, line {line}, place {place}"),
+        }
+    }
+}
+
 impl Said {
+    pub fn verdict(&self) -> Verdict {
+        match self {
+            Self::Accepted { .. } => Verdict::default(),
+            Self::Refused { number, line, place, .. } => Verdict { number: *number, line: *line, place: *place as u32 },
+        }
+    }
+
     /// 0 for an accepted text, else the refusal's number.
     pub fn number(&self) -> u32 {
-        match self {
-            Self::Accepted { .. } => 0,
-            Self::Refused { number, .. } => *number,
-        }
+        self.verdict().number
     }
 }
 
