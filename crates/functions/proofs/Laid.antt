@@ -38,7 +38,7 @@ row-long ts names f first base h =
     let vs : List Variable = f .head .formals in
     omega (arith, length-append (headCells ts names f first base) (variablesCells vs), length-variables vs)
 
-length-block-cells : (bs all : List Block) (first used j : ℕ) (tss : List (List ℕ))
+pub length-block-cells : (bs all : List Block) (first used j : ℕ) (tss : List (List ℕ))
     → length (blockCells first used j tss (successors all bs) bs) ≡ length bs * 8
 unfolding blockCells successors
 length-block-cells [] all first used j tss = refl

@@ -39,7 +39,7 @@ module _ {A : Type 0} (T : Move → ℕ → A → A → Type 0) (m : Move) (n : 
 
   module _ (f f′ : Refusal → A) where
     pub thenAtS : {c c′ : Consumed} (k k′ : ℕ → A) → Rel m n SimC c c′
-        → ((e e′ : Refusal) → SimE m e e′ → Rel m n T (f e) (f′ e′))
+        → ((e e′ : Refusal) → SimE m n e e′ → Rel m n T (f e) (f′ e′))
         → ((i : ℕ) → i < n → Rel m n T (k (m .by + i)) (k′ i))
         → Rel m n T (thenAt f c k) (thenAt f′ c′ k′)
     unfolding thenAt
@@ -47,7 +47,7 @@ module _ {A : Type 0} (T : Move → ℕ → A → A → Type 0) (m : Move) (n : 
     thenAtS k k′ (Rel.is (SimC.refused e e′ r)) w g = w e e′ r
 
     pub thenNamedS : {c c′ : Named} (k k′ : Identifier → ℕ → A) → Rel m n SimN c c′
-        → ((e e′ : Refusal) → SimE m e e′ → Rel m n T (f e) (f′ e′))
+        → ((e e′ : Refusal) → SimE m n e e′ → Rel m n T (f e) (f′ e′))
         → ((x x′ : Identifier) → SimName m x x′ → (i : ℕ) → i < n → Rel m n T (k x (m .by + i)) (k′ x′ i))
         → Rel m n T (thenNamed f c k) (thenNamed f′ c′ k′)
     unfolding thenNamed
@@ -55,7 +55,7 @@ module _ {A : Type 0} (T : Move → ℕ → A → A → Type 0) (m : Move) (n : 
     thenNamedS k k′ (Rel.is (SimN.refused e e′ r)) w g = w e e′ r
 
     pub thenTypeS : {c c′ : TypeRead} (k k′ : Ty → ℕ → A) → Rel m n SimR c c′
-        → ((e e′ : Refusal) → SimE m e e′ → Rel m n T (f e) (f′ e′))
+        → ((e e′ : Refusal) → SimE m n e e′ → Rel m n T (f e) (f′ e′))
         → ((t : Ty) (i : ℕ) → i < n → Rel m n T (k t (m .by + i)) (k′ t i))
         → Rel m n T (thenType f c k) (thenType f′ c′ k′)
     unfolding thenType
@@ -63,7 +63,7 @@ module _ {A : Type 0} (T : Move → ℕ → A → A → Type 0) (m : Move) (n : 
     thenTypeS k k′ (Rel.is (SimR.refused e e′ r)) w g = w e e′ r
 
     pub thenDefinedS : {c c′ : Defined} (k k′ : Variable → ℕ → A) → Rel m n SimD c c′
-        → ((e e′ : Refusal) → SimE m e e′ → Rel m n T (f e) (f′ e′))
+        → ((e e′ : Refusal) → SimE m n e e′ → Rel m n T (f e) (f′ e′))
         → ((v v′ : Variable) → SimV m v v′ → (i : ℕ) → i < n → Rel m n T (k v (m .by + i)) (k′ v′ i))
         → Rel m n T (thenDefined f c k) (thenDefined f′ c′ k′)
     unfolding thenDefined
@@ -92,7 +92,8 @@ eqbS {m} (SimName.renamed x h) (SimName.renamed y g) = go (ℕ-discrete x y)
     go (yes e) = eq-eqb _ _ (ap (m .name) e) ∙ sym (eq-eqb x y e)
     go (no e) = ne-eqb _ _ (λ q. e (m .apart x y h g q)) ∙ sym (ne-eqb x y e)
 
-pub hasS : {m : Move} {ys ys′ : List ℕ} {x x′ : ℕ} → Each (SimNumber m) ys ys′ → SimNumber m x x′ → has ys x ≡ has ys′ x′
+pub hasS : {m : Move} {ys ys′ : List ℕ} {x x′ : ℕ} → Each (SimNumber m) ys ys′ → SimNumber m x x′
+    → has ys x ≡ has ys′ x′
 unfolding has
 hasS Each.none p = refl
 hasS (Each.more q r) p = rw (eqbS q p, hasS r p)
@@ -106,8 +107,8 @@ lengthS r = ap (λ (k : ℕ). leb 255 k) (each-length r)
 
 -- a test that is the same in both
 pub testS : {A : Type 0} (T : Move → ℕ → A → A → Type 0) (m : Move) (n : ℕ) (q q′ : Bool) (x y x′ y′ : A)
-    → q ≡ q′ → Rel m n T x x′ → Rel m n T y y′ → Rel m n T (pick q x y) (pick q′ x′ y′)
-testS T m n q q′ x y x′ y′ e f g = rw e (pickS T m n q′ x y x′ y′ (λ _. f) g)
+    → q ≡ q′ → (q′ ≡ true → Rel m n T x x′) → Rel m n T y y′ → Rel m n T (pick q x y) (pick q′ x′ y′)
+testS T m n q q′ x y x′ y′ e f g = rw e (pickS T m n q′ x y x′ y′ f g)
 
 -- The definitions, from the steps up.
 module _ {m : Move} {n : ℕ} {ts ts′ : List Tok} (s : Sim m n ts ts′) where
@@ -156,25 +157,25 @@ module _ {m : Move} {n : ℕ} {ts ts′ : List Tok} (s : Sim m n ts ts′) where
 
   pub ruleset steps = (shapes, lookS, kindS, consumeS, localS, labelS, globalS, typeS)
 
-  pub printS : (w i : ℕ) → i < n → Rel m n SimP (printD ts (m .by + w) (m .by + i)) (printD ts′ w i)
+  pub printS : (w i : ℕ) → w < n → i < n → Rel m n SimP (printD ts (m .by + w) (m .by + i)) (printD ts′ w i)
   unfolding printD
-  printS w i h = search steps depth 14
+  printS w i l h = search steps depth 14
 
-  pub retS : (w i : ℕ) → i < n → Rel m n SimP (retD ts (m .by + w) (m .by + i)) (retD ts′ w i)
+  pub retS : (w i : ℕ) → w < n → i < n → Rel m n SimP (retD ts (m .by + w) (m .by + i)) (retD ts′ w i)
   unfolding retD
-  retS w i h = search steps depth 14
+  retS w i l h = search steps depth 14
 
-  pub jumpS : (w i : ℕ) → i < n → Rel m n SimP (jumpD ts (m .by + w) (m .by + i)) (jumpD ts′ w i)
+  pub jumpS : (w i : ℕ) → w < n → i < n → Rel m n SimP (jumpD ts (m .by + w) (m .by + i)) (jumpD ts′ w i)
   unfolding jumpD
-  jumpS w i h = search steps depth 14
+  jumpS w i l h = search steps depth 14
 
-  pub branchS : (w i : ℕ) → i < n → Rel m n SimP (branchD ts (m .by + w) (m .by + i)) (branchD ts′ w i)
+  pub branchS : (w i : ℕ) → w < n → i < n → Rel m n SimP (branchD ts (m .by + w) (m .by + i)) (branchD ts′ w i)
   unfolding branchD
-  branchS w i h = search steps depth 20
+  branchS w i l h = search steps depth 20
 
-  pub nopS : (w i : ℕ) → i < n → Rel m n SimP (nopD ts (m .by + w) (m .by + i)) (nopD ts′ w i)
+  pub nopS : (w i : ℕ) → w < n → i < n → Rel m n SimP (nopD ts (m .by + w) (m .by + i)) (nopD ts′ w i)
   unfolding nopD
-  nopS w i h = search steps depth 14
+  nopS w i l h = search steps depth 14
 
   pub definedS : (i : ℕ) → i < n → Rel m n SimD (definedD ts (m .by + i)) (definedD ts′ i)
   unfolding definedD
@@ -198,20 +199,20 @@ module _ {m : Move} {n : ℕ} {ts ts′ : List Tok} (s : Sim m n ts ts′) where
   unfolding isBinary pick
   binaryKindS k next f e = classS isBinary k next f e refl
 
-  pub constS : {v v′ : Variable} → SimV m v v′ → (w i : ℕ) → i < n
+  pub constS : {v v′ : Variable} → SimV m v v′ → (w i : ℕ) → w < n → i < n
       → Rel m n SimP (constD ts v (m .by + w) (m .by + i)) (constD ts′ v′ w i)
   unfolding constD
-  constS q w i h = search (steps, constantS) depth 16
+  constS q w i l h = search (steps, constantS) depth 16
 
-  pub unaryS : {v v′ : Variable} → SimV m v v′ → (w i : ℕ) → i < n
+  pub unaryS : {v v′ : Variable} → SimV m v v′ → (w i : ℕ) → w < n → i < n
       → Rel m n SimP (unaryD ts v (m .by + w) (m .by + i)) (unaryD ts′ v′ w i)
   unfolding unaryD
-  unaryS q w i h = search steps depth 16
+  unaryS q w i l h = search steps depth 16
 
-  pub binaryS : {v v′ : Variable} → SimV m v v′ → (w i : ℕ) → i < n
+  pub binaryS : {v v′ : Variable} → SimV m v v′ → (w i : ℕ) → w < n → i < n
       → Rel m n SimP (binaryD ts v (m .by + w) (m .by + i)) (binaryD ts′ v′ w i)
   unfolding binaryD
-  binaryS q w i h = search steps depth 18
+  binaryS q w i l h = search steps depth 18
 
   pub valueS : {v v′ : Variable} → SimV m v v′ → (i : ℕ) → i < n
       → Rel m n SimP (valueD ts v (m .by + i)) (valueD ts′ v′ i)

@@ -62,28 +62,34 @@ pub record Sim (m : Move) (n : ℕ) (ts ts′ : List Tok) : Type 0 where
 pub data SimName (m : Move) : Identifier → Identifier → Type 0 where
   renamed : (x : ℕ) → x < m .names → SimName m (record { 0 = m .name x }) (record { 0 = x })
 
--- the same refusal, at the moved token; where its message spells a name, that name is renamed
+-- the same refusal, at the moved token, which is one of the first l; where its message spells a name, that name is
+-- renamed
 abbrev pub spelling : ℕ → ℕ → ℕ → ℕ → Identifier → Refusal
 spelling number token wanted found x =
     record { number = number; token = token; wanted = wanted; found = found; name = x }
 
-pub data SimE (m : Move) : Refusal → Refusal → Type 0 where
-  moved : (number token wanted : ℕ) → SimE m (refusal number (m .by + token) wanted) (refusal number token wanted)
-  named : (number token wanted found : ℕ) {x x′ : Identifier} → SimName m x x′
-      → SimE m (spelling number (m .by + token) wanted found x) (spelling number token wanted found x′)
+pub data SimE (m : Move) (l : ℕ) : Refusal → Refusal → Type 0 where
+  moved : (number token wanted : ℕ) → token < l
+      → SimE m l (refusal number (m .by + token) wanted) (refusal number token wanted)
+  named : (number token wanted found : ℕ) {x x′ : Identifier} → SimName m x x′ → token < l
+      → SimE m l (spelling number (m .by + token) wanted found x) (spelling number token wanted found x′)
+  -- two types or counts, and no name (17, 20)
+  told : (number token wanted found : ℕ) → token < l
+      → SimE m l (spelling number (m .by + token) wanted found (record { 0 = 0 }))
+      (spelling number token wanted found (record { 0 = 0 }))
 
 -- related answers; an index to go on at is below l
 pub data SimC (m : Move) (l : ℕ) : Consumed → Consumed → Type 0 where
   at : (i : ℕ) → i < l → SimC m l (C.At (m .by + i)) (C.At i)
-  refused : (e e′ : Refusal) → SimE m e e′ → SimC m l (C.Refused e) (C.Refused e′)
+  refused : (e e′ : Refusal) → SimE m l e e′ → SimC m l (C.Refused e) (C.Refused e′)
 
 pub data SimN (m : Move) (l : ℕ) : Named → Named → Type 0 where
   at : {x x′ : Identifier} → SimName m x x′ → (i : ℕ) → i < l → SimN m l (N.At x (m .by + i)) (N.At x′ i)
-  refused : (e e′ : Refusal) → SimE m e e′ → SimN m l (N.Refused e) (N.Refused e′)
+  refused : (e e′ : Refusal) → SimE m l e e′ → SimN m l (N.Refused e) (N.Refused e′)
 
 pub data SimR (m : Move) (l : ℕ) : TypeRead → TypeRead → Type 0 where
   at : (t : Ty) (i : ℕ) → i < l → SimR m l (R.At t (m .by + i)) (R.At t i)
-  refused : (e e′ : Refusal) → SimE m e e′ → SimR m l (R.Refused e) (R.Refused e′)
+  refused : (e e′ : Refusal) → SimE m l e e′ → SimR m l (R.Refused e) (R.Refused e′)
 
 pub data SimV (m : Move) : Variable → Variable → Type 0 where
   of : {x x′ : Identifier} → SimName m x x′ → (t : Ty)
@@ -91,28 +97,30 @@ pub data SimV (m : Move) : Variable → Variable → Type 0 where
 
 pub data SimD (m : Move) (l : ℕ) : Defined → Defined → Type 0 where
   at : {v v′ : Variable} → SimV m v v′ → (i : ℕ) → i < l → SimD m l (D.At v (m .by + i)) (D.At v′ i)
-  refused : (e e′ : Refusal) → SimE m e e′ → SimD m l (D.Refused e) (D.Refused e′)
+  refused : (e e′ : Refusal) → SimE m l e e′ → SimD m l (D.Refused e) (D.Refused e′)
 
--- the same operation, with its token moved and its names renamed
-pub data SimO (m : Move) : Operation → Operation → Type 0 where
+-- the same operation, with its token, one of the first l, moved and its names renamed
+pub data SimO (m : Move) (l : ℕ) : Operation → Operation → Type 0 where
   binary : (w : ℕ) {v v′ : Variable} {x x′ y y′ : Identifier} → SimV m v v′ → SimName m x x′ → SimName m y y′
-      → SimO m (O.BinaryOp (m .by + w) v x y) (O.BinaryOp w v′ x′ y′)
+      → w < l
+      → SimO m l (O.BinaryOp (m .by + w) v x y) (O.BinaryOp w v′ x′ y′)
   unary : (w : ℕ) {v v′ : Variable} {x x′ : Identifier} → SimV m v v′ → SimName m x x′
-      → SimO m (O.UnaryOp (m .by + w) v x) (O.UnaryOp w v′ x′)
-  const : (w : ℕ) {v v′ : Variable} → SimV m v v′ → SimO m (O.Const (m .by + w) v) (O.Const w v′)
-  jump : (w : ℕ) {x x′ : Identifier} → SimName m x x′ → SimO m (O.Jump (m .by + w) x) (O.Jump w x′)
+      → w < l → SimO m l (O.UnaryOp (m .by + w) v x) (O.UnaryOp w v′ x′)
+  const : (w : ℕ) {v v′ : Variable} → SimV m v v′ → w < l → SimO m l (O.Const (m .by + w) v) (O.Const w v′)
+  jump : (w : ℕ) {x x′ : Identifier} → SimName m x x′ → w < l → SimO m l (O.Jump (m .by + w) x) (O.Jump w x′)
   branch : (w : ℕ) {x x′ y y′ z z′ : Identifier} → SimName m x x′ → SimName m y y′ → SimName m z z′
-      → SimO m (O.Branch (m .by + w) x y z) (O.Branch w x′ y′ z′)
-  ret : (w : ℕ) → SimO m (O.Ret (m .by + w)) (O.Ret w)
-  retValue : (w : ℕ) {x x′ : Identifier} → SimName m x x′ → SimO m (O.RetValue (m .by + w) x) (O.RetValue w x′)
-  print : (w : ℕ) {x x′ : Identifier} → SimName m x x′ → SimO m (O.Print (m .by + w) x) (O.Print w x′)
-  nop : (w : ℕ) → SimO m (O.Nop (m .by + w)) (O.Nop w)
+      → w < l → SimO m l (O.Branch (m .by + w) x y z) (O.Branch w x′ y′ z′)
+  ret : (w : ℕ) → w < l → SimO m l (O.Ret (m .by + w)) (O.Ret w)
+  retValue : (w : ℕ) {x x′ : Identifier} → SimName m x x′ → w < l
+      → SimO m l (O.RetValue (m .by + w) x) (O.RetValue w x′)
+  print : (w : ℕ) {x x′ : Identifier} → SimName m x x′ → w < l → SimO m l (O.Print (m .by + w) x) (O.Print w x′)
+  nop : (w : ℕ) → w < l → SimO m l (O.Nop (m .by + w)) (O.Nop w)
 
 pub data SimP (m : Move) (l : ℕ) : Parsed → Parsed → Type 0 where
-  done : {o o′ : Operation} → SimO m o o′ → (i : ℕ) → i < l → SimP m l (P.Done o (m .by + i)) (P.Done o′ i)
+  done : {o o′ : Operation} → SimO m l o o′ → (i : ℕ) → i < l → SimP m l (P.Done o (m .by + i)) (P.Done o′ i)
   call : (i : ℕ) → i < l → SimP m l (P.Call (m .by + i)) (P.Call i)
   callInto : {v v′ : Variable} → SimV m v v′ → (i : ℕ) → i < l → SimP m l (P.CallInto v (m .by + i)) (P.CallInto v′ i)
-  refused : (e e′ : Refusal) → SimE m e e′ → SimP m l (P.Refused e) (P.Refused e′)
+  refused : (e e′ : Refusal) → SimE m l e e′ → SimP m l (P.Refused e) (P.Refused e′)
 
 -- lists, element by element
 pub data Each {A : Type 0} (R : A → A → Type 0) : List A → List A → Type 0 where
@@ -127,55 +135,62 @@ pub record SimVs (m : Move) (l : ℕ) (r r′ : Variables) : Type 0 where
 pub data SimCalling (m : Move) (l : ℕ) : Calling → Calling → Type 0 where
   called : {g g′ : Identifier} {r r′ : Variables} → SimName m g g′ → SimVs m l r r′
       → SimCalling m l (calling g r) (calling g′ r′)
-  refused : (e e′ : Refusal) → SimE m e e′
+  refused : (e e′ : Refusal) → SimE m l e e′
       → SimCalling m l (calling (record { 0 = 0 }) (stopped e)) (calling (record { 0 = 0 }) (stopped e′))
 
 -- labels by their numbers
 abbrev pub SimNumber : Move → ℕ → ℕ → Type 0
 SimNumber m x x′ = SimName m (record { 0 = x }) (record { 0 = x′ })
 
--- the same item, with its token moved and its names renamed
-pub data SimItem (m : Move) : Item → Item → Type 0 where
-  label : (w : ℕ) {l l′ : Identifier} → SimName m l l′ → SimItem m (Item.label (m .by + w) l) (Item.label w l′)
-  plain : {o o′ : Operation} → SimO m o o′ → SimItem m (Item.plain o) (Item.plain o′)
-  call : (w : ℕ) {g g′ : Identifier} {xs xs′ : List Variable} → SimName m g g′ → Each (SimV m) xs xs′
-      → SimItem m (Item.call (m .by + w) g xs) (Item.call w g′ xs′)
+-- the same item, with its token, one of the first n, moved and its names renamed
+pub data SimItem (m : Move) (n : ℕ) : Item → Item → Type 0 where
+  label : (w : ℕ) {l l′ : Identifier} → SimName m l l′ → w < n
+      → SimItem m n (Item.label (m .by + w) l) (Item.label w l′)
+  plain : {o o′ : Operation} → SimO m n o o′ → SimItem m n (Item.plain o) (Item.plain o′)
+  call : (w : ℕ) {g g′ : Identifier} {xs xs′ : List Variable} → SimName m g g′ → Each (SimV m) xs xs′ → w < n
+      → SimItem m n (Item.call (m .by + w) g xs) (Item.call w g′ xs′)
   callInto : (w : ℕ) {v v′ : Variable} {g g′ : Identifier} {xs xs′ : List Variable}
-      → SimV m v v′ → SimName m g g′ → Each (SimV m) xs xs′
-      → SimItem m (Item.callInto (m .by + w) v g xs) (Item.callInto w v′ g′ xs′)
+      → SimV m v v′ → SimName m g g′ → Each (SimV m) xs xs′ → w < n
+      → SimItem m n (Item.callInto (m .by + w) v g xs) (Item.callInto w v′ g′ xs′)
 
 pub data SimItemAt (m : Move) (l : ℕ) : ItemAt → ItemAt → Type 0 where
-  item : {i i′ : Item} → SimItem m i i′ → (at : ℕ) → at < l
+  item : {i i′ : Item} → SimItem m l i i′ → (at : ℕ) → at < l
       → SimItemAt m l (ItemAt.item i (m .by + at)) (ItemAt.item i′ at)
-  refused : (e e′ : Refusal) → SimE m e e′ → SimItemAt m l (ItemAt.refused e) (ItemAt.refused e′)
+  refused : (e e′ : Refusal) → SimE m l e e′ → SimItemAt m l (ItemAt.refused e) (ItemAt.refused e′)
 
--- where the closing brace, which may be the last token, was asked for
+-- where the end was asked for, which may stand right behind the l tokens
 pub data SimClose (m : Move) (l : ℕ) : Consumed → Consumed → Type 0 where
   at : (i : ℕ) → i ≤ l → SimClose m l (C.At (m .by + i)) (C.At i)
-  refused : (e e′ : Refusal) → SimE m e e′ → SimClose m l (C.Refused e) (C.Refused e′)
+  refused : (e e′ : Refusal) → SimE m l e e′ → SimClose m l (C.Refused e) (C.Refused e′)
+
+-- where the closing brace, which may be the last token, was asked for; the index behind it isn't 0
+pub data SimBrace (m : Move) (l : ℕ) : Consumed → Consumed → Type 0 where
+  at : (i : ℕ) → i ≤ l → 1 ≤ i → SimBrace m l (C.At (m .by + i)) (C.At i)
+  refused : (e e′ : Refusal) → SimE m l e e′ → SimBrace m l (C.Refused e) (C.Refused e′)
 
 pub record SimBody (m : Move) (l : ℕ) (r r′ : Body) : Type 0 where
-  pub items : Each (SimItem m) (r .items) (r′ .items)
-  pub end : SimClose m l (r .end) (r′ .end)
+  pub items : Each (SimItem m l) (r .items) (r′ .items)
+  pub end : SimBrace m l (r .end) (r′ .end)
 
--- the same part, with its token moved and its names renamed
-pub data SimPart (m : Move) : Part → Part → Type 0 where
-  name : {l l′ : ℕ} → SimNumber m l l′ → SimPart m (Part.name l) (Part.name l′)
-  operation : (w : ℕ) {goes goes′ : List ℕ} → Each (SimNumber m) goes goes′
-      → SimPart m (Part.operation (m .by + w) goes) (Part.operation w goes′)
+-- the same part, with its token, one of the first n, moved and its names renamed
+pub data SimPart (m : Move) (n : ℕ) : Part → Part → Type 0 where
+  name : {l l′ : ℕ} → SimNumber m l l′ → SimPart m n (Part.name l) (Part.name l′)
+  operation : (w : ℕ) {goes goes′ : List ℕ} → Each (SimNumber m) goes goes′ → w < n
+      → SimPart m n (Part.operation (m .by + w) goes) (Part.operation w goes′)
 
 -- The same block, with its names renamed. The token is moved where there is one: a block without operation has none.
-pub record SimBlock (m : Move) (b b′ : Block) : Type 0 where
+pub record SimBlock (m : Move) (l : ℕ) (b b′ : Block) : Type 0 where
   pub labels : Each (SimNumber m) (b .labels) (b′ .labels)
   pub first : b .first ≡ b′ .first
   pub operations : b .operations ≡ b′ .operations
   pub token : (b′ .operations ≡ 0 → ⊥) → b .token ≡ m .by + b′ .token
+  pub below : (b′ .operations ≡ 0 → ⊥) → b′ .token < l
   pub goes : Each (SimNumber m) (b .goes) (b′ .goes)
 
 -- labels all resolved, or related refusals
-pub data SimResolved (m : Move) : Resolved → Resolved → Type 0 where
-  fine : SimResolved m Resolved.fine Resolved.fine
-  refused : (e e′ : Refusal) → SimE m e e′ → SimResolved m (Resolved.refused e) (Resolved.refused e′)
+pub data SimResolved (m : Move) (l : ℕ) : Resolved → Resolved → Type 0 where
+  fine : SimResolved m l Resolved.fine Resolved.fine
+  refused : (e e′ : Refusal) → SimE m l e e′ → SimResolved m l (Resolved.refused e) (Resolved.refused e′)
 
 -- The two answers are related by T; a family of its own, so that a search can read m, n and T off.
 pub data Rel (m : Move) (n : ℕ) {A : Type 0} (T : Move → ℕ → A → A → Type 0) : A → A → Type 0 where
