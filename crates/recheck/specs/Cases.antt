@@ -142,7 +142,7 @@ cases =
     ∷ []
 
 -- a message ends with a newline
-abbrev line : List ℕ → List ℕ
+abbrev pub line : List ℕ → List ℕ
 line [] = []
 line (b ∷ bs) = (b ∷ bs) ++ (10 ∷ [])
 
