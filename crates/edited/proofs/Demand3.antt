@@ -10,13 +10,13 @@ use Rattle.functions.specs.Functions.{Function}
 use Rattle.checker.specs.Check.{Checking, checkOf}
 use Rattle.recheck.specs.Recheck.{Verdict, refuses, accepts}
 use Rattle.edited.specs.Reading.{readingOf, movedReading}
-use Rattle.edited.specs.Demand3.{editedText, recheckedAs, Edits, Demand3}
+use Rattle.edited.specs.Demand3.{beginsAt, editedText, recheckedAs, Edits, Demand3}
 use Rattle.edited.proofs.Accepted.{functions-are}
 use Rattle.edited.proofs.Cutting.{Cutting, cutting}
 use Rattle.edited.proofs.Fresh.{Fresh, fresh, all, verdict, alone-refused, same-refusal, not-accepted}
 use Rattle.edited.proofs.Fresh.{accepted-as, fresh-zero, alone-zero}
 use Rattle.edited.proofs.Read.{answer-is, text, old-text, accepted-new, accepted-old, new-reads, before-long}
-use Rattle.edited.proofs.Read.{as-many, others-read}
+use Rattle.edited.proofs.Read.{new-begins, as-many, others-read}
 
 module _ {old : List ℕ} {k : ℕ} {new : List ℕ} (h : Edits old k new) where
   abbrev c : Cutting old k new
@@ -36,6 +36,7 @@ module _ {old : List ℕ} {k : ℕ} {new : List ℕ} (h : Edits old k new) where
         fresh-accepts = λ q. absurd (no q);
         refuses = λ q. same;
         new-reads = λ q. absurd (no q);
+        new-begins = λ q. absurd (no q);
         as-many = λ q. absurd (no q);
         others-read = λ q. absurd (no q);
       }
@@ -61,6 +62,14 @@ module _ {old : List ℕ} {k : ℕ} {new : List ℕ} (h : Edits old k new) where
         ∙ ap (λ (j : ℕ). readingOf (text c z g table e) (checkOf (text c z g table e)) j) i
         ∙ new-reads c z g table e ∙ ap (λ (r : Checking). readingOf new r 0) (sym (answer-is c z g table e))
 
+    begins-there : beginsAt (editedText old k new) k ≡ beginsAt old k
+    begins-there =
+        let i : k ≡ length (accepted-as c z g table e .before′) =
+        omega (arith, before-long c z g table e, c .counted) in
+        ap (λ (t : List ℕ). beginsAt t k) (c .edited-is)
+        ∙ ap (λ (j : ℕ). beginsAt (text c z g table e) j) i
+        ∙ new-begins c z g table e ∙ sym (c .begins)
+
     other-ones : (j : ℕ) → j < checkOf old .answer .functions → (j ≡ k → ⊥)
         → movedReading (editedText old k new) (checkOf (editedText old k new)) j ≡ movedReading old (checkOf old) j
     other-ones j l other =
@@ -76,6 +85,7 @@ module _ {old : List ℕ} {k : ℕ} {new : List ℕ} (h : Edits old k new) where
           fresh-accepts = λ q. alone-zero c z g table e;
           refuses = λ q. absurd (q (fresh-zero c z g table e));
           new-reads = λ q. new-one;
+          new-begins = λ q. begins-there;
           as-many = λ q. edited-many ∙ sym old-many;
           others-read = λ q. other-ones;
         }

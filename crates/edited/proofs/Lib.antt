@@ -44,6 +44,10 @@ pub mod Read
 -- The theorems. -----------------------------------------------------------------------------------------------------
 -- DEMAND 3
 pub mod Demand3
+-- what is refused with a number below 40
+pub mod Low
+-- one function with the old header is answered with neither 40 nor 41
+pub mod OfText
 -- a function of an accepted text, read alone
 pub mod ReadAlone
 -- its own text lexes, and is one function

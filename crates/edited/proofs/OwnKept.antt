@@ -5,14 +5,13 @@ use mathlib.Core.Path.{_≡_, sym, ap, _∙_}
 use mathlib.Core.Bool.{true, false}
 use mathlib.Core.List.{List, []}
 use native.Mathlib.Omega.{arith}
-use borrow.Author.Tests.{leb-true}
 use lib.ListN.{length, getD}
 use Rattle.utils.specs.Bytes.{pick, sameBytes}
 use Rattle.pieces.specs.declared.Token.{Token}
 use Rattle.pieces.specs.declared.Identifier.{Identifier}
 use Rattle.lexer.specs.Numbered as lexes
 use Rattle.lexer.specs.Numbered.{Part, namesCells}
-use Rattle.lexer.specs.Read.{Reading, lexedFrom}
+use Rattle.lexer.specs.Read.{lexedFrom}
 use Rattle.lexer.specs.Decoded.{Tok, nameOf}
 use Rattle.lexer.proofs.Same.{same-bytes-refl}
 use Rattle.parser.specs.Moved.{SimName}
@@ -21,21 +20,21 @@ use Rattle.functions.specs.Known.{signature}
 use Rattle.functions.specs.Functions.{Function, function, thenFunction, functionD}
 use Rattle.functions.specs.Rows.{signedAt}
 use Rattle.functions.proofs.SimFunctions.{signatureOfS}
-use Rattle.sema.specs.Symbols.{Typed}
 use Rattle.checker.specs.Check.{checkOf}
 use Rattle.checker.specs.Header.{lineAt}
 use Rattle.checker.specs.Numbers.{Accepts}
-use Rattle.checker.proofs.ParsedNumbers.{Fine, Is}
-use Rattle.checker.proofs.TypedNumbers.{FineT, function-fine}
+use Rattle.checker.proofs.TypedNumbers.{function-fine}
 use Rattle.typing.specs.Outcome.{untyped}
 use Rattle.recheck.specs.Table.{isTable}
 use Rattle.recheck.specs.Spelled.{rowName, globalsSpelled}
-use Rattle.recheck.specs.Recheck.{isWhole, keeps, typedAs, aloneD, functionAlone, verdictAs, recheckOf}
+use Rattle.recheck.specs.Recheck.{isWhole, keeps, typedAs, aloneD, functionAlone, recheckOf}
 use Rattle.recheck.proofs.Keeping.{kept-same}
 use Rattle.edited.specs.Demand3.{tableOf, recheckedAs}
 use Rattle.edited.specs.Itself.{ownText}
 use Rattle.edited.specs.Spelled.{tokensIn}
 use Rattle.edited.proofs.Accepted.{names-are}
+use Rattle.sema.specs.Program.{functionTyped}
+use Rattle.edited.proofs.Low.{typed-low, answer-low}
 use Rattle.edited.proofs.Rows.{is-table}
 use Rattle.edited.proofs.Located.{ts, there, s, typed, stands, row}
 use Rattle.edited.proofs.ReadAlone.{ReadFree, accepted-free, ReadOwn, read-own}
@@ -43,15 +42,6 @@ use Rattle.edited.proofs.OwnTokens.{f, own-tokens, own-names, own-lexes
 use Rattle.edited.proofs.OwnTokens.{own-ends, own-whole}
 
 -- A new text that is read and keeps its header. ----------------------------------------------------------------------
-
--- what typing refuses has a number below 40
-typed-low : (new : List ℕ) (r : Reading) (alone : List Tok) (callees : ℕ → ℕ) (type : ℕ) (g : Function) {x : Typed}
-    → Is FineT x → verdictAs new r alone callees type (typedAs g x) .answer .number < 40
-typed-low new r alone callees type g (Is.so (FineT.fine t)) = omega arith
-typed-low new r alone callees type g (Is.so (FineT.refused t e (Fine.low h l))) =
-    omega (arith, leb-true (e .number) 22 l)
-typed-low new r alone callees type g (Is.so (FineT.refused t e (Fine.high h l))) =
-    omega (arith, leb-true (e .number) 38 l)
 
 rechecked-low : (old table : List ℕ) (k : ℕ) (new : List ℕ) (toks : List Token) (ns : List Part) (g : Function)
     → isTable old table k ≡ true → lexedFrom (getD table (lineAt k) 0) new ≡ lexes.Outcome.done toks ns
@@ -61,8 +51,9 @@ rechecked-low : (old table : List ℕ) (k : ℕ) (new : List ℕ) (toks : List T
 unfolding recheckOf functionAlone thenFunction pick
 rechecked-low old table k new toks ns g t p w h e =
     rw (t, p, w, h, e)
-    (typed-low new _ (tokensIn toks) _ _ g
-    (function-fine (tokensIn toks) (globalsSpelled old table new (namesCells ns)) g untyped))
+    (answer-low new _ (tokensIn toks) _ _
+    (typedAs g (functionTyped (tokensIn toks) (globalsSpelled old table new (namesCells ns)) g untyped))
+    (typed-low g (function-fine (tokensIn toks) (globalsSpelled old table new (namesCells ns)) g untyped)))
 
 -- Function k, by its own text. ---------------------------------------------------------------------------------------
 

@@ -11,7 +11,8 @@ use Rattle.utils.specs.Bytes.{pick}
 use Rattle.pieces.specs.declared.Token.{Token}
 use Rattle.lexer.specs.Numbered.{Outcome, tokensCells, namesCells}
 use Rattle.lexer.specs.Read.{readingOf as lexedReading}
-use Rattle.lexer.specs.Decoded.{Tok, tokenAt, nameOf}
+use Rattle.lexer.specs.Decoded.{Tok, tokensOf, tokenAt, nameOf}
+use Rattle.lexer.specs.declared.TokenAt.{TokenAt}
 use Rattle.parser.specs.Step.{look, refusal}
 use Rattle.parser.specs.Moved.{Each}
 use Rattle.functions.specs.Functions.{Function, FunctionAt, function, noFunction, thenFunction, functionD}
@@ -37,9 +38,14 @@ use Rattle.related.proofs.Parts.{accepted-alone}
 use Rattle.related.proofs.Written.{writtenS}
 use Rattle.related.proofs.Reading as related
 use Rattle.edited.specs.Reading.{Own, firstsOf, seenOwn, readingOf, movedReading}
-use Rattle.edited.specs.Demand3.{recheckedAs}
+use Rattle.edited.specs.Demand3.{beginsAt, recheckedAs}
+use Rattle.edited.specs.Rows.{Split}
 use Rattle.edited.specs.Spelled.{tokensIn, wordCells, frontMove, insideMove, oldBackMove, newBackMove}
 use Rattle.edited.specs.Standing.{ownWritten, Stands}
+use Rattle.edited.proofs.Closing.{function-spans}
+use Rattle.edited.proofs.Replacing.{token-at}
+use Rattle.edited.proofs.Accepted.{tokens-are}
+use Rattle.edited.proofs.Rows.{its-row}
 use Rattle.edited.proofs.Lexing.{edited, alone-in, lengths, front-name, inside-name, old-back-name}
 use Rattle.edited.proofs.Lexing.{new-back-name}
 use Rattle.edited.proofs.Lexing.{inside-tokens, front-fits}
@@ -200,6 +206,26 @@ module _ {old : List ℕ} {k : ℕ} {new : List ℕ} (c : Cutting old k new) (z 
   pub new-reads : readingOf text (checkOf text) (length (x .before′)) ≡ readingOf new answer 0
   unfolding new-side
   new-reads = side-lines new-side alone-laid (x .before′) (x .behind′) refl refl ∙ sym alone-reads
+
+  -- .. and stands where the replaced one stood
+  pub new-begins : beginsAt text (length (x .before′)) ≡ length (c .pre)
+  unfolding edited alone-in
+  new-begins =
+      let s : Split (accepted-new .functions) (length (x .before′)) =
+      record { before = x .before′; function = x .f; behind = x .behind′; all = refl; counted = refl } in
+      let first : g .token ≡ 0 =
+      function-spans (alone c z) false [] 0 0 g (alone-read (alone c z) g accepted-there) .token in
+      let by : ℕ = insideMove (z .readings) .by in
+      let at : x .f .token ≡ by + 0 = x .same .token ∙ ap (λ (i : ℕ). by + i) first in
+      let opens : tokenAt (alone c z) 0 .place ≡ 0 =
+      ap (λ (t : TokenAt). t .place) (token-at (c .lexing .new-tokens) 0 (omega (arith, c .lexing .new-inner)))
+      ∙ c .lexing .new-opens-at in
+      its-row text accepted-new 2881 s .place
+      ∙ ap (λ (l : List ℕ). tokenAt (tokensOf l) (x .f .token) .place) (tokens-are text accepted-new)
+      ∙ ap (λ (i : ℕ). tokenAt (tokensIn (z .tokens)) i .place) at
+      ∙ ap (λ (t : TokenAt). t .place)
+      (inside-tokens (z .readings) (z .lexed) .same 0 (omega (arith, c .lexing .new-inner)))
+      ∙ omega (arith, opens)
 
   -- All others. -------------------------------------------------------------------------------------------------------
 

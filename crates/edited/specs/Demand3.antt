@@ -19,7 +19,8 @@ use Rattle.edited.specs.Reading.{readingOf, movedReading}
 
 -- The edited text. ---------------------------------------------------------------------------------------------------
 
--- the header table as check leaves it in a slice of its size
+-- the header table as check leaves it in a slice of its size. "For a table that check didn't write, only demands 1 and
+-- 2 apply."
 abbrev pub tableOf : List ℕ → List ℕ
 tableOf old = padTo 2881 (checkOf old .unit .functions)
 
@@ -48,15 +49,18 @@ recheckedAs old k new = recheckOf old (tableOf old) k new
 
 -- The premises. ------------------------------------------------------------------------------------------------------
 
+-- "Demand 3 speaks where the answer is no lexical number and none of 30, 40, 41, 42." (30 is the gate's, and with this
+-- table there is no 42.)
 pub record Edits (old : List ℕ) (k : ℕ) (new : List ℕ) : Type 0 where
   -- "Take an accepted text and replace one function"
   pub accepted : checkOf old .answer .number ≡ 0
   pub one : k < checkOf old .answer .functions
   -- "the new text lexes alone", from the replaced function's line on
   pub lexes : readFrom (lineOf old k) new .answer .number ≡ 0
-  -- "runs from its @ name to a closing brace as last byte, holds no second function": else recheck gives 40
+  -- "runs from its @ name to a closing brace as last byte, holds no second function": recheck doesn't answer with 40.
+  -- (A text that is refused before its second function is met is spoken of, too.)
   pub whole : recheckedAs old k new .answer .number ≡ 40 → ⊥
-  -- "keeping name, parameter types and return type": else 41
+  -- "keeping name, parameter types and return type": nor with 41, likewise
   pub keeps : recheckedAs old k new .answer .number ≡ 41 → ⊥
   -- "the edited text stays inside the limits on bytes, tokens and names"
   pub bytes-few : readOf (editedText old k new) .answer .number ≡ 31 → ⊥
@@ -65,8 +69,8 @@ pub record Edits (old : List ℕ) (k : ℕ) (new : List ℕ) : Type 0 where
 
 -- What follows. ------------------------------------------------------------------------------------------------------
 
--- "otherwise both give the same number at the same line and place": fresh places count from the replaced function's
--- first byte
+-- "otherwise both give the same number at the same line and place", and "fresh places count from the replaced
+-- function's first byte"
 pub record SameRefusal (p : ℕ) (fresh alone : Checking) : Type 0 where
   pub number : fresh .answer .number ≡ alone .answer .number
   pub line : fresh .answer .line ≡ alone .answer .line
@@ -78,10 +82,13 @@ pub record Demand3 (old : List ℕ) (k : ℕ) (new : List ℕ) : Type 0 where
   pub fresh-accepts : checkOf (editedText old k new) .answer .number ≡ 0 → recheckedAs old k new .answer .number ≡ 0
   pub refuses : (checkOf (editedText old k new) .answer .number ≡ 0 → ⊥)
       → SameRefusal (beginsAt old k) (checkOf (editedText old k new)) (recheckedAs old k new)
-  -- "On acceptance its reading is the fresh one"
+  -- "On acceptance its reading is the fresh one", lines as they are
   pub new-reads : checkOf (editedText old k new) .answer .number ≡ 0
       → readingOf (editedText old k new) (checkOf (editedText old k new)) k ≡ readingOf new (recheckedAs old k new) 0
-  -- "and all others read as before"
+  -- .. where the replaced one stood
+  pub new-begins : checkOf (editedText old k new) .answer .number ≡ 0
+      → beginsAt (editedText old k new) k ≡ beginsAt old k
+  -- "and all others read as before, but for name numbers and moved lines and places"
   pub as-many : checkOf (editedText old k new) .answer .number ≡ 0
       → checkOf (editedText old k new) .answer .functions ≡ checkOf old .answer .functions
   pub others-read : checkOf (editedText old k new) .answer .number ≡ 0

@@ -3,6 +3,8 @@
 pub mod Reading
 -- the premises, and what follows
 pub mod Demand3
+-- the premises by recheck's answer, as premises on the new text
+pub mod OfText
 -- a function rechecked by its own text
 pub mod Itself
 -- what tells readings apart, and what doesn't: pairs of texts, one claim

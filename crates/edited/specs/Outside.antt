@@ -38,7 +38,12 @@ cases =
     becomes (bytes "@f{ret;}#" ++ replicate 16375 120) 0 "@f{nop;ret;}" 0 "" 31 "[line 0] Error : too many bytes."
     -- the new text doesn't lex alone, what stands behind the function ends its comment
     ∷ becomes (bytes "@f{ret;}/* */") 0 "@f{ret;}/*" 2 "[line 1] Error : Multiline comment no closed." 0 ""
-    -- the same refusal, but the message has the name's number, among the names of the new text and of the whole one
+    -- the new text has a byte behind its brace, holds a second function, has another header
+    ∷ becomes (bytes "@f{ret;}") 0 "@f{ret;} " 40 "[line 1] Error : not one function." 0 ""
+    ∷ becomes (bytes "@f{ret;}") 0 "@f{ret;}@g{ret;}" 40 "[line 1] Error : not one function." 0 ""
+    ∷ becomes (bytes "@f{ret;}") 0 "@g{ret;}" 41 "[line 1] Error : header changed." 0 ""
+    -- inside the premises: the same refusal, but the message has the name's number, among the names of the new text and
+    -- among those of the whole one
     ∷ becomes (bytes "@g(a: int){ret;}@f{ret;}") 1 "@f{x y;}" 5 "[line 1] Error at 'local_2': ':' expected." 5
     "[line 1] Error at 'local_4': ':' expected."
     ∷ []

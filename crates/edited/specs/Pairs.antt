@@ -3,7 +3,7 @@
 use Prim.Native.Nat.{ℕ}
 use Prim.Native.String.{String}
 use mathlib.Core.Path.{_≡_, refl}
-use mathlib.Core.List.{List, [], _∷_, _++_}
+use mathlib.Core.List.{List, [], _∷_}
 use mathlib.Core.Bool.{Bool, true, false}
 use lib.Dec.{eqb}
 use Rattle.utils.specs.Bytes.{pick, bytes, sameBytes}
@@ -50,65 +50,104 @@ sameRecords [] (r ∷ rs) = false
 sameRecords (r ∷ rs) [] = false
 sameRecords (r ∷ rs) (s ∷ ss) = let more = sameRecords rs ss in pick (sameRecord r s) more false
 
-sameReading : ReadingOf → ReadingOf → Bool
-sameReading a b =
-    sameRecords
-    (a .row ∷ (a .tokens ++ (a .items ++ (a .arguments ++ (a .blocks ++ a .predecessors)))))
-    (b .row ∷ (b .tokens ++ (b .items ++ (b .arguments ++ (b .blocks ++ b .predecessors)))))
+-- the kinds of records in which two readings differ
+abbrev row : ℕ
+row = 1
+
+abbrev tokens : ℕ
+tokens = 2
+
+abbrev items : ℕ
+items = 3
+
+abbrev arguments : ℕ
+arguments = 4
+
+abbrev blocks : ℕ
+blocks = 5
+
+abbrev preds : ℕ
+preds = 6
+
+unlike : ℕ → List (List Seen) → List (List Seen) → List ℕ → List ℕ
+unlike kind rs ss more = pick (sameRecords rs ss) more (kind ∷ more)
+
+differing : ReadingOf → ReadingOf → List ℕ
+differing a b =
+    unlike row (a .row ∷ []) (b .row ∷ [])
+    (unlike tokens (a .tokens) (b .tokens)
+    (unlike items (a .items) (b .items)
+    (unlike arguments (a .arguments) (b .arguments)
+    (unlike blocks (a .blocks) (b .blocks)
+    (unlike preds (a .predecessors) (b .predecessors) [])))))
 
 -- The table. --------------------------------------------------------------------------------------------------------
 
--- the reading of a function, if its text is accepted
+-- its text's number, 0 where it is accepted, and the reading of a function
 pub record Read : Type 0 where
-  pub refused : ℕ
+  pub number-is : ℕ
   pub reading : ReadingOf
 
 -- with lines as they are, and counted from the function's own
 reads : String → ℕ → Read
 reads s j =
     let k = checkOf (bytes s) in
-    record { refused = k .answer .number; reading = readingOf (bytes s) k j }
+    record { number-is = k .answer .number; reading = readingOf (bytes s) k j }
 
 moves : String → ℕ → Read
 moves s j =
     let k = checkOf (bytes s) in
-    record { refused = k .answer .number; reading = movedReading (bytes s) k j }
+    record { number-is = k .answer .number; reading = movedReading (bytes s) k j }
 
 pub record Pair : Type 0 where
   pub one : Read
   pub other : Read
-  pub same : Bool
+  -- the kinds of records in which they differ, those and no others
+  pub in-kinds : List ℕ
 
-abbrev differ : String → String → Pair
-differ s t = record { one = reads s 0; other = reads t 0; same = false }
+abbrev differ : String → String → List ℕ → Pair
+differ s t kinds = record { one = reads s 0; other = reads t 0; in-kinds = kinds }
+
+abbrev apart : Read → Read → List ℕ → Pair
+apart r q kinds = record { one = r; other = q; in-kinds = kinds }
 
 abbrev agree : Read → Read → Pair
-agree r q = record { one = r; other = q; same = true }
+agree r q = apart r q []
 
 unfoldable pairs : List Pair
 pairs =
     -- an operator, a constant, the order of operands
-    differ "@f(a: int) { b: int = add a a; }" "@f(a: int) { b: int = mul a a; }"
-    ∷ differ "@f { a: int = const 1; }" "@f { a: int = const 2; }"
-    ∷ differ "@f(a: int, b: int) { a: int = sub a b; }" "@f(a: int, b: int) { a: int = sub b a; }"
-    -- an edge, by a `jmp` and by a `br`
-    ∷ differ "@f { jmp .a; .a: ret; .b: ret; }" "@f { jmp .b; .a: ret; .b: ret; }"
+    differ "@f(a: int) { b: int = add a a; }" "@f(a: int) { b: int = mul a a; }" (tokens ∷ [])
+    ∷ differ "@f { a: int = const 1; }" "@f { a: int = const 2; }" (tokens ∷ [])
+    ∷ differ "@f(a: int, b: int) { a: int = sub a b; }" "@f(a: int, b: int) { a: int = sub b a; }" (tokens ∷ items ∷ [])
+    -- an edge, by a `jmp` and by a `br`; the order of edges
+    ∷ differ "@f { jmp .a; .a: ret; .b: ret; }" "@f { jmp .b; .a: ret; .b: ret; }" (tokens ∷ items ∷ blocks ∷ [])
+    ∷ differ "@f { .a: br q .a .b; .b: jmp .a; }" "@f { .a: br q .a .b; .b: jmp .b; }"
+    (tokens ∷ items ∷ blocks ∷ preds ∷ [])
     ∷ differ "@f(c: bool) { br c .a .b; .a: ret; .b: ret; }" "@f(c: bool) { br c .b .a; .a: ret; .b: ret; }"
+    (tokens ∷ items ∷ blocks ∷ [])
     -- where a block ends
-    ∷ differ "@f { nop; nop; jmp .a; .a: ret; }" "@f { nop; jmp .a; .a: nop; ret; }"
+    ∷ differ "@f { nop; nop; jmp .a; .a: ret; }" "@f { nop; jmp .a; .a: nop; ret; }" (tokens ∷ items ∷ blocks ∷ [])
+    -- where a block begins: behind one label, and behind two
+    ∷ differ "@f { .a: nop; }" "@f { .a: .b: nop; }" (row ∷ tokens ∷ items ∷ blocks ∷ [])
     -- a type, a formal's type, a formal's name, the function's name
-    ∷ differ "@f(a: int) { b: int = id a; }" "@f(a: bool) { b: bool = id a; }"
-    ∷ differ "@f(a: int) { nop; }" "@f(a: bool) { nop; }"
-    ∷ differ "@f(a: int) { nop; }" "@f(b: int) { nop; }"
-    ∷ differ "@f { nop; }" "@g { nop; }"
-    -- a callee, an argument, a label's name
-    ∷ differ "@f { call @g; } @g { nop; } @h { nop; }" "@f { call @h; } @g { nop; } @h { nop; }"
-    ∷ differ "@f(a: int, b: int) { call @f a a; }" "@f(a: int, b: int) { call @f a b; }"
-    ∷ differ "@f { .a: nop; }" "@f { .b: nop; }"
+    ∷ differ "@f { a: int = const 1; }" "@f { a: bool = const true; }" (tokens ∷ items ∷ [])
+    ∷ differ "@f(a: int) { nop; }" "@f(a: bool) { nop; }" (row ∷ tokens ∷ [])
+    ∷ differ "@f(a: int) { nop; }" "@f(b: int) { nop; }" (row ∷ tokens ∷ [])
+    ∷ differ "@f { nop; }" "@g { nop; }" (row ∷ tokens ∷ [])
+    -- a callee, an argument, its type, a label's name
+    ∷ differ "@f { call @g; } @g { nop; } @h { nop; }" "@f { call @h; } @g { nop; } @h { nop; }" (tokens ∷ items ∷ [])
+    ∷ differ "@f(a: int, b: int) { call @f a a; }" "@f(a: int, b: int) { call @f a b; }" (tokens ∷ arguments ∷ [])
+    ∷ differ "@f(a: int) { call @f a; }" "@f(a: bool) { call @f a; }" (row ∷ tokens ∷ arguments ∷ [])
+    ∷ differ "@f { .a: nop; }" "@f { .b: nop; }" (tokens ∷ items ∷ [])
+    -- the same tokens, but the number of the function's type, and of its callee's
+    ∷ apart (reads "@f { nop; }" 0) (reads "@g(a: int) { nop; } @f { nop; }" 1) (row ∷ [])
+    ∷ differ "@f { a: int = const 1; call @g a; } @g(a: int) { nop; }"
+    "@f { a: int = const 1; call @g a; } @h(a: bool) { nop; } @g(a: int) { nop; }" (items ∷ [])
     -- an operation more, a place, a line
-    ∷ differ "@f { nop; }" "@f { nop; nop; }"
-    ∷ differ "@f { nop; }" "@f {  nop; }"
-    ∷ differ "@f { nop; }" "\n@f { nop; }"
+    ∷ differ "@f { nop; }" "@f { nop; nop; }" (row ∷ tokens ∷ items ∷ blocks ∷ [])
+    ∷ differ "@f { nop; }" "@f {  nop; }" (tokens ∷ [])
+    ∷ differ "@f { nop; }" "\n@f { nop; }" (row ∷ tokens ∷ [])
     -- what stands before and behind: blanks, comments, functions with names of their own
     ∷ agree (reads "@f { nop; }" 0) (reads "  @f { nop; }" 0)
     ∷ agree (reads "@f { nop; }" 0) (reads "/* before */ @f { nop; } # behind" 0)
@@ -125,11 +164,10 @@ right : List Pair → Bool
 right [] = true
 right (p ∷ ps) =
     let more = right ps in
-    let same = sameReading (p .one .reading) (p .other .reading) in
-    pick (sameBytes (p .one .refused ∷ p .other .refused ∷ []) (0 ∷ 0 ∷ []))
-    (pick (p .same) (pick same more false) (pick same false more)) false
+    pick (sameBytes (p .one .number-is ∷ p .other .number-is ∷ []) (0 ∷ 0 ∷ []))
+    (pick (sameBytes (differing (p .one .reading) (p .other .reading)) (p .in-kinds)) more false) false
 
 -- THE CLAIM
 all-right : right pairs ≡ true
-unfolding opened sameSeen sameRecord sameRecords sameReading reads moves pairs right
+unfolding opened sameSeen sameRecord sameRecords unlike differing reads moves pairs right
 all-right = refl

@@ -18,7 +18,8 @@ pub data Column : Type 0 where
   plain : Column
   -- a name's number, by what it spells
   spelled : Column
-  -- a number among all of a text, from the function's own first
+  -- a number among all of a text, from the function's own first; and so those that follow, but that a line is counted
+  -- from a given one
   token : Column
   line : Column
   place : Column
@@ -27,7 +28,7 @@ pub data Column : Type 0 where
   block : Column
   predecessor : Column
 
--- what the names spell, and the function's own first of each
+-- what the names spell, the function's own first of each, and the line to count from
 pub record Firsts : Type 0 where
   pub spells : ℕ → List ℕ
   pub token : ℕ
@@ -42,6 +43,7 @@ pub data Seen : Type 0 where
   number : ℕ → Seen
   word : List ℕ → Seen
 
+-- No cell of a function is below its own first, so that nothing is cut off.
 abbrev pub seenAs : Firsts → ℕ → Column → Seen
 seenAs o x Column.plain = number x
 seenAs o x Column.spelled = word (o .spells x)
@@ -118,11 +120,12 @@ blockColumns = item ∷ plain ∷ plain ∷ plain ∷ plain ∷ predecessor ∷ 
 
 -- The function's own records. ---------------------------------------------------------------------------------------
 
--- n records of w cells, from a record on
+-- the first n records of w cells
 unfoldable pub records : ℕ → ℕ → List ℕ → List (List ℕ)
 records w zero cells = []
 records w (suc n) cells = take w cells ∷ records w n (drop w cells)
 
+-- .. from a record on
 abbrev pub recordsFrom : ℕ → ℕ → ℕ → List ℕ → List (List ℕ)
 recordsFrom w first n cells = records w n (drop (first * w) cells)
 
@@ -158,17 +161,17 @@ pub record Own : Type 0 where
 
 -- the records of function j, by its row: its name's token to its closing one, its items, and so on
 abbrev pub ownOf : Checking → ℕ → Own
-ownOf k j =
-    let row = take 45 (drop (rowAt j) (k .unit .functions)) in
-    let items = recordsFrom 8 (getD row 8 0) (getD row 9 0) (k .unit .items) in
-    let blocks = recordsFrom 8 (getD row 10 0) (getD row 11 0) (k .unit .blocks) in
+ownOf given j =
+    let row = take 45 (drop (rowAt j) (given .unit .functions)) in
+    let items = recordsFrom 8 (getD row 8 0) (getD row 9 0) (given .unit .items) in
+    let blocks = recordsFrom 8 (getD row 10 0) (getD row 11 0) (given .unit .blocks) in
     record {
       row = row;
-      tokens = recordsFrom 4 (getD row 0 0) (getD row 2 0 + 1 - getD row 0 0) (k .tokens);
+      tokens = recordsFrom 4 (getD row 0 0) (getD row 2 0 + 1 - getD row 0 0) (given .tokens);
       items = items;
-      arguments = recordsFrom 2 (firstArgument items) (argumentsOf items) (k .unit .arguments);
+      arguments = recordsFrom 2 (firstArgument items) (argumentsOf items) (given .unit .arguments);
       blocks = blocks;
-      predecessors = recordsFrom 1 (firstPredecessor blocks) (predecessorsOf blocks) (k .unit .predecessors);
+      predecessors = recordsFrom 1 (firstPredecessor blocks) (predecessorsOf blocks) (given .unit .predecessors);
     }
 
 -- The reading. ------------------------------------------------------------------------------------------------------
@@ -181,7 +184,7 @@ pub record ReadingOf : Type 0 where
   pub blocks : List (List Seen)
   pub predecessors : List (List Seen)
 
--- each record by the columns that its first cell, a kind, gives
+-- each record by its columns, which for tokens and items depend on its first cell, the kind
 unfoldable pub seenEach : Firsts → (ℕ → List Column) → List (List ℕ) → List (List Seen)
 seenEach o columns [] = []
 seenEach o columns (r ∷ rs) = seen o (columns (getD r 0 0)) r ∷ seenEach o columns rs
@@ -210,16 +213,16 @@ seenOwn o own =
       predecessors = seenEach o (λ _. plain ∷ []) (own .predecessors);
     }
 
--- Function j of a text that was accepted as k, its lines counted from a given one.
+-- Function j of a text that was accepted as `given`, its lines counted from a given one.
 abbrev pub readingFrom : ℕ → List ℕ → Checking → ℕ → ReadingOf
-readingFrom first text k j =
-    let own = ownOf k j in
-    seenOwn (firstsOf (nameOf text (k .names)) first own) own
+readingFrom first text given j =
+    let own = ownOf given j in
+    seenOwn (firstsOf (nameOf text (given .names)) first own) own
 
 -- THE READING: lines as they are.
 unfoldable pub readingOf : List ℕ → Checking → ℕ → ReadingOf
-readingOf text k j = readingFrom 0 text k j
+readingOf text given j = readingFrom 0 text given j
 
 -- The same with lines, too, counted from the function's own first.
 unfoldable pub movedReading : List ℕ → Checking → ℕ → ReadingOf
-movedReading text k j = readingFrom (getD (ownOf k j .row) 5 0) text k j
+movedReading text given j = readingFrom (getD (ownOf given j .row) 5 0) text given j

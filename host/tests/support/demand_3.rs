@@ -128,6 +128,10 @@ fn same_readings(
     number: usize,
 ) -> Result<usize, String> {
     same_reading("the new function, alone and afresh", &alone.reading(0), &fresh.reading(number))?;
+    let expected = before.bytes_of(number).start..before.bytes_of(number).start + alone.text.len();
+    if fresh.bytes_of(number) != expected {
+        return Err(format!("the new function stands at {:?}, not at {expected:?}", fresh.bytes_of(number)));
+    }
     let others = (0..before.functions()).filter(|other| *other != number);
     for other in others.clone() {
         let what = format!("function {other}, afresh and before");
