@@ -20,10 +20,8 @@ use Rattle.checker.proofs.Numbers.{every-number}
 use Rattle.recheck.proofs.Laws.{zero-accepts}
 use Rattle.related.specs.Tables.{All}
 use Rattle.related.specs.Runs.{start}
-use Rattle.related.specs.Reading.{writtenAll, slicesFrom}
 use Rattle.related.proofs.Running.{cut}
 use Rattle.related.proofs.Edited.{accepted-by}
-use Rattle.related.proofs.Parts.{slices-are}
 use Rattle.edited.specs.Rows.{tokensRead, namesRead, Split, NamedAt}
 use Rattle.edited.proofs.Names.{run-named}
 
@@ -70,11 +68,6 @@ module _ (text : List ℕ) (a : Accepts text) where
       ap (λ (c : Checking). c .unit) whole
       ∙ ap (λ (l : List ℕ). unitSlices (tokensOf l) (namesCells (a .names)) (checked (a .functions))) (sym tokens-are)
       ∙ ap (λ (l : List ℕ). unitSlices (tokensRead text) l (checked (a .functions))) (sym names-are)
-
-  -- all slices, from what is written for each function
-  pub unit-written : checkOf text .unit
-      ≡ slicesFrom (writtenAll (tokensRead text) (namesRead text) (a .functions) none (a .functions))
-  unit-written = unit-is ∙ slices-are (tokensRead text) (namesRead text) (a .functions)
 
   pub functions-are : checkOf text .answer .functions ≡ length (a .functions)
   functions-are =

@@ -19,7 +19,7 @@ use Rattle.functions.specs.Functions.{Function}
 use Rattle.functions.specs.Rows.{typeAt}
 use Rattle.sema.specs.Typing.{Global}
 use Rattle.typing.specs.Outcome.{checked, unitD}
-use Rattle.checker.specs.Check.{checkedOr, checkOf}
+use Rattle.checker.specs.Check.{checkOf}
 use Rattle.checker.specs.Numbers.{Accepts}
 use Rattle.checker.proofs.Lexed.{is-done, lexed-itself}
 use Rattle.recheck.specs.Recheck.{functionAlone, verdictAs}
@@ -31,7 +31,7 @@ use Rattle.edited.specs.Demand3.{tableOf, beginsAt, lineOf, endsAt, edit
 use Rattle.edited.specs.Spelled.{spelledAlike, tokensIn}
 use Rattle.edited.specs.Rows.{Split}
 use Rattle.edited.proofs.Placed.{Placed}
-use Rattle.edited.proofs.Answers.{Alone, checked-as, rechecked-as}
+use Rattle.edited.proofs.Answers.{Alone, rechecked-as}
 use Rattle.edited.proofs.Replacing.{token-at, parts, first-long, part, from-to, to-inside, replaces}
 use Rattle.edited.proofs.Accepted.{accepted-text, sound, names-are}
 use Rattle.edited.proofs.Rows.{globals-listed, callees-listed, kept-listed, is-table}
@@ -57,10 +57,7 @@ pub record Cutting (old : List ℕ) (k : ℕ) (new : List ℕ) : Type 0 where
   pub stood : function .token ≡ lexing .opening
   pub closed : function .next ≡ lexing .closing + 1
   pub front : (i : ℕ) → i + 1 ≡ lexing .opening → kindOf (getD (lexing .old-tokens) i noToken .value) ≡ 28
-  pub ordered : function .token < function .next
-  -- check's answer for the old text, and recheck's
-  pub before-answer : checkOf old
-      ≡ checkedOr old (readFrom 1 old) (tokensIn (lexing .old-tokens)) (checked (before ++ (function ∷ behind)))
+  -- the header is kept, and recheck's answer
   pub keeps : Keeps (spellsOf lexing) function (tokensIn (lexing .new-tokens))
   pub answer : recheckedAs old k new
       ≡ verdictAs new (readFrom first new) (tokensIn (lexing .new-tokens))
@@ -208,8 +205,6 @@ module _ {old : List ℕ} {k : ℕ} {new : List ℕ} (h : Edits old k new) where
         front = λ i e.
             let l : i < length toks = omega (arith, stands .order, stands .within, sound old a .some) in
             sym (ap (λ (t : TokenAt). t .kind) (token-at toks i l)) ∙ stands .front i e;
-        ordered = omega (arith, stands .order);
-        before-answer = checked-as old toks (a .names) (checked all) (a .lexed) typed;
         keeps = keeps-header;
         answer = answer-is;
       }

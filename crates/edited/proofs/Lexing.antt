@@ -363,33 +363,3 @@ module _ {pre f post new : List ℕ} {line first : ℕ} {e : Edit pre f post new
     unfolding edited alone-in
     lengths =
         record { front = front-lengths; old-back = old-lengths; new-back = new-lengths; inside = inside-lengths }
-
-    -- where the parts stand, how they are moved, and which names are spelled alike
-    pub starts-is : edited .starts ≡ e .opening
-    unfolding edited
-    starts-is = refl
-
-    pub front-is : edited .front ≡ frontMove r
-    unfolding edited
-    front-is = refl
-
-    pub old-back-is : edited .old-back ≡ oldBackMove r
-    unfolding edited
-    old-back-is = refl
-
-    pub new-back-is : edited .new-back ≡ newBackMove r
-    unfolding edited
-    new-back-is = refl
-
-    pub inside-is : alone-in .inside ≡ insideMove r
-    unfolding alone-in
-    inside-is = refl
-
-    pub size-is : alone-in .size ≡ length (e .new-tokens) - 1
-    unfolding alone-in
-    size-is = refl
-
-    pub spells-is : alone-in .spells
-        ≡ spelledAlike (pre ++ (f ++ post)) (namesCells (e .old-names)) new (namesCells (e .new-names))
-    unfolding alone-in
-    spells-is = refl

@@ -1,7 +1,7 @@
 -- The header table of an accepted text holds its functions, row by row: what recheck reads in a row is the function
 -- that was parsed, and what it finds by a name's spelling among the rows is found so among the functions.
 use Prim.Native.Nat.{ℕ, suc, _+_, _*_, _-_, _≤_, _<_}
-use mathlib.Core.Path.{_≡_, refl, sym, ap, subst, fun-ext, _∙_}
+use mathlib.Core.Path.{_≡_, refl, sym, ap, subst, _∙_}
 use mathlib.Core.List.{List, [], _∷_, _++_}
 use mathlib.Core.Bool.{Bool, true, false}
 use native.Mathlib.Omega.{arith}
@@ -9,10 +9,7 @@ use native.Mathlib.Nat.{zero-add}
 use lib.ListN.{length, getD, drop, replicate}
 use Rattle.utils.specs.Bytes.{pick, padTo, sameBytes}
 use Rattle.pieces.specs.declared.Identifier.{Identifier}
-use Rattle.lexer.specs.Read.{readFrom}
 use Rattle.lexer.specs.Decoded.{Tok, tokenAt, nameOf}
-use Rattle.parser.specs.Step.{refusal}
-use Rattle.functions.specs.Known.{signature}
 use Rattle.functions.specs.Functions.{Function}
 use Rattle.functions.specs.Rows.{rowAt, typeAt, rowCells, signedAt}
 use Rattle.functions.specs.Answer.{Slices, countsWith}
@@ -31,12 +28,12 @@ use Rattle.checker.specs.Numbers.{Accepts}
 use Rattle.checker.proofs.Header.{header-in-range}
 use Rattle.recheck.specs.Table.{isTable}
 use Rattle.recheck.specs.Spelled.{rowName, rowSpelled, globalsSpelled, typeCellOf, calleesSpelled}
-use Rattle.recheck.specs.Recheck.{refuses, keeps, functionAlone, verdictD, lexedAs, recheckOf}
+use Rattle.recheck.specs.Recheck.{keeps}
 use Rattle.recheck.proofs.Ranges.{in-range-table}
 use Rattle.recheck.proofs.Brought.{row-name-part}
 use Rattle.recheck.proofs.Laws.{padded-long}
 use Rattle.related.specs.Tables.{All}
-use Rattle.related.specs.Alone.{Keeps, globalSpelt, aloneAmong}
+use Rattle.related.specs.Alone.{Keeps, globalSpelt}
 use Rattle.related.specs.Reading.{calleeSpelt}
 use Rattle.related.proofs.Keeping.{keeps-by}
 use Rattle.edited.specs.Demand3.{closeAt}
@@ -190,24 +187,6 @@ module _ (text : List ℕ) (a : Accepts text) (m : ℕ) where
         (callees-from text (tokensRead text) (namesRead text) (tableIn m text) (nameOf new new-names x) (a .functions) 0
         all-rows)
 
-    -- THE VERDICT of recheck, by the function itself and the functions of the text
-    pub verdict-listed : {k : ℕ} (s : Split (a .functions) k) (alone : List Tok)
-        → verdictD text (tableIn m text) k new new-names alone
-        ≡ pick
-        (keeps (sameBytes (nameOf text (namesRead text) (s .function .head .name .0)))
-        (signature (s .function .head .ret) (s .function .head .formals)) new new-names alone)
-        (aloneAmong alone (spelledAlike text (namesRead text) new new-names) (a .functions))
-        (refuses (refusal 41 0 0))
-    verdict-listed s alone =
-        rw (its-row s .name, its-row s .signed)
-        (ap
-        (λ (g : ℕ → Global).
-        pick
-        (keeps (sameBytes (nameOf text (namesRead text) (s .function .head .name .0)))
-        (signature (s .function .head .ret) (s .function .head .formals)) new new-names alone)
-        (functionAlone alone g) (refuses (refusal 41 0 0)))
-        (fun-ext globals-listed))
-
   -- no 41: the function at this row is kept
   pub kept-listed : (new new-names : List ℕ) {k : ℕ} (s : Split (a .functions) k) (alone : List Tok)
       → keeps (sameBytes (rowName text (tableIn m text) k)) (signedAt (tableIn m text) k) new new-names alone ≡ true
@@ -227,10 +206,3 @@ module _ (text : List ℕ) (a : Accepts text) (m : ℕ) where
         there = rw count-is h;
         in-range = header-in-range text m;
       })
-
-  -- .. so that recheck goes on to lex the new text
-  pub recheck-goes-on : 2881 ≤ m → (k : ℕ) → k < length (a .functions) → (new : List ℕ)
-      → recheckOf text (tableIn m text) k new
-      ≡ lexedAs text (tableIn m text) k new (readFrom (getD (tableIn m text) (lineAt k) 0) new)
-  unfolding recheckOf pick
-  recheck-goes-on long k h new = rw (is-table long k h)

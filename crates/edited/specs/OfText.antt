@@ -1,6 +1,6 @@
 -- The two premises of demand 3 that are stated by recheck's answer, no 40 and no 41, as premises on the new text alone,
--- by its tokens. That they give them is `text-decides` (proofs/OfText.antt); so a recheck that answers with 40 or 41
--- where the new text is one function with the old header is shut out.
+-- by its tokens. That they give them is `text-decides` (proofs/OfText.antt): 40 and 41 come from these tests alone. The
+-- first and the last are recheck's own (recheck/specs/Recheck.antt).
 use Prim.Native.Nat.{ℕ, _+_}
 use mathlib.Core.Path.{_≡_}
 use mathlib.Core.Bool.{true}

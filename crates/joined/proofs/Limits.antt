@@ -18,7 +18,7 @@ use Rattle.pieces.specs.declared.Token.{Token}
 use Rattle.pieces.specs.declared.Name.{Name}
 use Rattle.lexer.specs.Numbered.{Part, part, spellings, spellingOf, indexOf, onFound, identified, named, Outcome}
 use Rattle.lexer.specs.Numbered.{thenIdentified, thenRoom, numberedFrom, numbered}
-use Rattle.lexer.specs.Read.{lexedFrom, readingOf, readOf}
+use Rattle.lexer.specs.Read.{lexedFrom, readingOf}
 use Rattle.lexer.specs.declared.Found.{Found}
 use Rattle.lexer.specs.declared.Found.the-variants as F
 use Rattle.lexer.specs.declared.Identified.{Identified}
@@ -178,13 +178,3 @@ edited-lexes {pre} {f} {post} {new} {line} e = from (lexedFrom line (pre ++ (new
     from (Outcome.done ts ns) q h a b c = (ts, ns, q)
     from (Outcome.refused r) q h a b c = absurd (⊎-elim (λ x. a x) (λ y. ⊎-elim (λ x. b x) (λ x. c x) y) h)
     from Outcome.cut q h a b c = absurd h
-
-pub edited-accepted : {pre f post new : List ℕ} {first : ℕ} → Edit pre f post new 1 first
-    → (readOf (pre ++ (new ++ post)) .answer .number ≡ 31 → ⊥)
-    → (readOf (pre ++ (new ++ post)) .answer .number ≡ 32 → ⊥)
-    → (readOf (pre ++ (new ++ post)) .answer .number ≡ 33 → ⊥)
-    → readOf (pre ++ (new ++ post)) .answer .number ≡ 0
-unfolding readOf
-edited-accepted e a b c =
-    let z = edited-lexes e a b c in
-    rw (z .2)

@@ -37,14 +37,14 @@ use Rattle.sema.specs.Program.{globalsOf, functionTyped}
 use Rattle.sema.specs.Symbols.{Typed}
 use Rattle.sema.specs.declared.Checked.{Checked}
 use Rattle.sema.specs.declared.Checked.the-variants as K
-use Rattle.typing.specs.Outcome.{checked, refused, afterTyping, unitD, untyped}
-use Rattle.recheck.specs.Recheck.{Verdict, refuses, accepts, afterTyping as asTyped, typedAs, aloneD, functionAlone}
+use Rattle.typing.specs.Outcome.{refused, afterTyping, unitD, untyped}
+use Rattle.recheck.specs.Recheck.{refuses, afterTyping as asTyped, typedAs, aloneD, functionAlone}
 use Rattle.recheck.specs.Recheck.{retyped}
 use Rattle.related.specs.Tables.{SameGlobals, SimChecked, SimTyped, SameHead}
 use Rattle.related.specs.Runs.{Place, start, behindOne, behindAll, functionHere, functionsHere, allThen}
 use Rattle.related.specs.Entry.{retypedFunctionAt, UpToEntry, Enters}
 use Rattle.related.specs.Edited.{Edited, Replaced, EditedBehind}
-use Rattle.related.specs.Alone.{Alone, Keeps, globalSpelt, RefusedAs, AcceptedAs, aloneAmong, Follows, Exactly}
+use Rattle.related.specs.Alone.{Alone, Keeps, globalSpelt, RefusedAs, AcceptedAs, aloneAmong, Follows}
 use Rattle.related.proofs.SimProgram.{functionTypedS}
 use Rattle.related.proofs.Running.{turn-read}
 use Rattle.related.proofs.Entry.{function-known, function-entered, function-up-to}
@@ -448,28 +448,3 @@ module _ {old new : List Tok} {e : Edited old new} {before behind : List Functio
           typedAs f (typed-alone f)))
       by (noFunction x′) q = λ n. refused-alone x′ q
       by (function f′) q = behind-brace f′ q _ _ refl refl
-
-  -- accepted exactly when, where recheck's answer is not 40
-  pub exactly : ((x : Refusal) → aloneAmong alone (a .spells) (before ++ (replaced ∷ behind)) ≡ refuses x
-      → x .number ≡ 40 → ⊥)
-      → Exactly new alone (a .spells) (before ++ (replaced ∷ behind))
-  exactly single =
-      record {
-        fresh =
-            λ f table q. fresh f table (subst (λ (v : Verdict). Follows e before replaced behind alone a v) q verdict);
-        recheck = λ fs u. by fs u (aloneAmong alone (a .spells) (before ++ (replaced ∷ behind))) refl verdict;
-      }
-    where
-      fresh : (f : Function) (table : List ℕ) → Follows e before replaced behind alone a (accepts f table)
-          → (fs : List Function) × (unitD new ≡ checked fs)
-      fresh f table x = (x .before′ ++ (x .f ∷ x .behind′), x .accepted-so)
-
-      by : (fs : List Function) → unitD new ≡ checked fs → (v : Verdict)
-          → aloneAmong alone (a .spells) (before ++ (replaced ∷ behind)) ≡ v
-          → Follows e before replaced behind alone a v
-          → (f : Function) × (table : List ℕ)
-          × (aloneAmong alone (a .spells) (before ++ (replaced ∷ behind)) ≡ accepts f table)
-      by fs u (refuses x′) q w =
-          let so = w (single x′ q) .refused-so in
-          let z : _≡_ {A = ℕ} 0 1 = cc in absurd (omega arith)
-      by fs u (accepts f table) q w = (f, table, q)

@@ -112,9 +112,6 @@ pub renamed-is : {m : Move} {x y : ℕ} → SimNumber m x y → (x ≡ m .name y
 renamed-is (SimName.renamed y h) = (refl, h)
 
 module _ {old new : List Tok} (e : Edited old new) where
-  pub shared-below : (z : ℕ) → z < e .old-back .names → z < e .new-back .names
-  shared-below z h = rw (e .as-many) h
-
   -- a function before the replaced one, and one behind it, as calls see them
   pub head-before : {n : ℕ} {f f′ : Function} → SimFunction (e .front) n f′ f → SameHead (e .Spelt) f f′
   head-before {f = f} q =

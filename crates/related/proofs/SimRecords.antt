@@ -11,12 +11,10 @@ use Rattle.parser.specs.declared.Variable.{Variable}
 use Rattle.parser.proofs.SimBlocks.{countS}
 use Rattle.body.specs.Records.{recordOf, operationRecord}
 use Rattle.functions.specs.Functions.{Function}
-use Rattle.functions.specs.Moved.{SimFunction}
 use Rattle.elaborate.specs.Types.{calleeIn, isCall, typedLast, typedRecord, typedItemsCells, typedVariables}
 use Rattle.elaborate.specs.Types.{typedArgumentsCells}
 use Rattle.related.specs.Tables.{Tables, SameHead, Apart}
 use Rattle.related.specs.Records.{SimRecord, SimItemCells, SimArgumentCells, SameCallees}
-use Rattle.related.proofs.SimProgram.{each-map, apartS, headS}
 
 -- Callees. -----------------------------------------------------------------------------------------------------------
 
@@ -27,11 +25,6 @@ unfolding calleeIn
 calleeInS apart Each.none p = refl
 calleeInS {x = x} {x′} apart (Each.more {x = f} {x′ = f′} q r) p =
     rw (apart (f .head .name .0) (f′ .head .name .0) x x′ (q .name) p, q .type, calleeInS apart r p) refl
-
-pub calleesS : {m : Move} {n : ℕ} {fs fs′ : List Function} → Each (SimFunction m n) fs fs′
-    → SameCallees m (calleeIn fs) (calleeIn fs′)
-calleesS {m} r =
-    record { same = λ x h. calleeInS (apartS m) (each-map (λ f f′ q. headS q) r) (SimName.renamed x h) }
 
 -- Records. -----------------------------------------------------------------------------------------------------------
 

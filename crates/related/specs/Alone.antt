@@ -102,10 +102,3 @@ Follows {old} {new} e before replaced behind alone a (accepts f′ table) =
 -- recheck's answer, the old text's functions being known by their spellings
 abbrev pub aloneAmong : List Tok → (ℕ → ℕ → Bool) → List Function → Verdict
 aloneAmong alone spells all = functionAlone alone (λ x. globalSpelt (spells x) all)
-
--- "accepts exactly when the whole edited text, read afresh, is accepted"
-pub record Exactly (new alone : List Tok) (spells : ℕ → ℕ → Bool) (all : List Function) : Type 0 where
-  pub fresh : (f : Function) (table : List ℕ) → aloneAmong alone spells all ≡ accepts f table
-      → (fs : List Function) × (unitD new ≡ checked fs)
-  pub recheck : (fs : List Function) → unitD new ≡ checked fs
-      → (f : Function) × (table : List ℕ) × (aloneAmong alone spells all ≡ accepts f table)

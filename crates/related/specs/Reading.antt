@@ -3,12 +3,10 @@
 use Prim.Native.Nat.{ℕ, _+_}
 use mathlib.Core.List.{List, [], _∷_, _++_}
 use mathlib.Core.Bool.{Bool}
-use lib.ListN.{length}
-use Rattle.utils.specs.Bytes.{pick, padTo}
+use Rattle.utils.specs.Bytes.{pick}
 use Rattle.lexer.specs.Decoded.{Tok}
 use Rattle.parser.specs.Moved.{Move, Each}
 use Rattle.functions.specs.Functions.{Function}
-use Rattle.functions.specs.Answer.{Slices, slices, countsWith}
 use Rattle.functions.specs.declared.Counts.{Counts}
 use Rattle.sema.specs.Program.{globalsOf}
 use Rattle.elaborate.specs.Types.{calleeIn}
@@ -66,24 +64,3 @@ pub record WrittenAs {old new : List Tok} {e : Edited old new} {alone : List Tok
     pub behind-new : Each (λ g′ o. (n : Counts)
         → SimWritten (e .new-back) n (writtenIn new new-names (x .before′ ++ (x .f ∷ x .behind′)) n g′)
         (writtenOwn (e .rest) rest-names (e .old-back) (before ++ (replaced ∷ behind)) o)) (x .behind′) (x .own)
-
--- The slices of a whole text are made of these parts. ----------------------------------------------------------------
-
--- what check writes for each of these functions, of all, behind those that are counted
-unfoldable pub writtenAll : List Tok → List ℕ → List Function → Counts → List Function → List Written
-writtenAll ts names all n [] = []
-writtenAll ts names all n (f ∷ fs) = writtenIn ts names all n f ∷ writtenAll ts names all (countsWith n f) fs
-
--- one part of each, one behind the other
-unfoldable pub joined : (Written → List ℕ) → List Written → List ℕ
-joined part [] = []
-joined part (w ∷ ws) = part w ++ joined part ws
-
-abbrev pub slicesFrom : List Written → Slices
-slicesFrom ws =
-    slices
-    (length ws ∷ joined (λ w. padTo 45 (w .row)) ws)
-    (joined (λ w. w .items) ws)
-    (joined (λ w. w .arguments) ws)
-    (joined (λ w. w .blocks) ws)
-    (joined (λ w. w .predecessors) ws)
