@@ -1,42 +1,25 @@
 use Rattle.checker.proofs.Ends.{seen-by}
 use Rattle.utils.specs.Bytes.{pick}
 use Rattle.checker.specs.Promise.{sized}
-use borrow.Author.Needs.{needs}
-use borrow.Author.Tests.{lt-ltb, le-ltb, le-leb, lt-leb, eq-eqb, ne-eqb}
-use native.Mathlib.Omega.{arith}
-use native.Mathlib.Numerals.{add-one}
-use Prim.Native.Nat.{ℕ, suc, _+_, _-_, _*_, _≤_, _<_}
-use mathlib.Core.Path.{_≡_, refl, sym, ap, _∙_}
-use mathlib.Core.Logic.{⊎-elim}
-use mathlib.Core.List.{List, [], _∷_, _++_}
-use mathlib.Core.Bool.{Bool, true, false}
-use lib.ListN.{length, drop, take, getD}
-use lib.Seq.{drop-cons}
-use denote.Ref.{now}
+use borrow.Author.Tests.{lt-ltb, le-ltb}
 use Rattle.checker.proofs.fits.Statement.{statement}
 use Rattle.checker.proofs.fits.Tie as tie
-use Rattle.checker.proofs.fits.Reads as reads
-use Rattle.checker.proofs.fits.Lts as lts
 
--- src/lib.rt:193:9
 returns : tie.Need-returns
 unfolding sized pick
 returns c =
     (rw (lt-ltb _ _ (c .if1 .taken)), tt)
 
--- src/lib.rt:196:9
 returns-2 : tie.Need-returns-2
 unfolding sized pick
 returns-2 c =
     (rw (le-ltb _ _ (c .before .if1 .left), lt-ltb _ _ (c .if2 .taken)), tt)
 
--- src/lib.rt:199:9
 returns-3 : tie.Need-returns-3
 unfolding sized pick
 returns-3 c =
     (rw (le-ltb _ _ (c .before .before .if1 .left), le-ltb _ _ (c .before .if2 .left), lt-ltb _ _ (c .if3 .taken)), tt)
 
--- src/lib.rt:189:1
 returns-4 : tie.Need-returns-4
 unfolding sized pick
 returns-4 c =

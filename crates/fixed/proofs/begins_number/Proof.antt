@@ -11,9 +11,6 @@ returns c =
     let if1 = c .if1 in
     rw (if1 .taken)
 
-is-digit-requires : tie.Need-is-digit-requires
-is-digit-requires c κs = search needs
-
 returns-2 : tie.Need-returns-2
 unfolding beginsNumber pick
 returns-2 c =
@@ -22,4 +19,6 @@ returns-2 c =
     rw (if1 .left) (is-digit .ensures)
 
 pub begins-number-spec : {M : Type 1} → statement M
-begins-number-spec = tie.close (tie.spec returns is-digit-requires returns-2)
+begins-number-spec =
+    tie.close
+    (tie.spec returns (λ c κs. search needs) returns-2)

@@ -6,21 +6,12 @@ use Rattle.fixed.specs.Held.{wholeWith}
 use Rattle.fixed.proofs.is_whole.Statement.{statement}
 use Rattle.fixed.proofs.is_whole.Tie as tie
 
-number-at-requires : tie.Need-number-at-requires
-number-at-requires c κs = search needs
-
 returns : tie.Need-returns
 unfolding wholeWith pick
 returns c =
     let number-at = c .before .before .number-at in
     let if1 = c .if1 in
     rw (← number-at .ensures, eq-eqb _ _ (if1 .taken))
-
-cast-result : tie.Need-cast-result
-cast-result c = search needs
-
-wrapping-add-u64-requires : tie.Need-wrapping-add-u64-requires
-wrapping-add-u64-requires c κs = search needs
 
 returns-2 : tie.Need-returns-2
 unfolding wholeWith pick
@@ -32,4 +23,5 @@ returns-2 c =
 
 pub is-whole-spec : {M : Type 1} → statement M
 is-whole-spec =
-    tie.close (tie.spec number-at-requires returns cast-result wrapping-add-u64-requires returns-2)
+    tie.close
+    (tie.spec (λ c κs. search needs) returns (λ c. search needs) (λ c κs. search needs) returns-2)

@@ -1,25 +1,14 @@
 use Rattle.functions.proofs.Program.{Going, begin, at-end, refused-read, read-on}
-use Rattle.functions.specs.Answer.{slices, Room}
+use Rattle.functions.specs.Answer.{slices}
 use Rattle.lexer.specs.Decoded.{tokensOf}
 use lib.ListN.{length-set}
 use borrow.Author.Needs.{needs}
-use borrow.Author.Tests.{lt-ltb, le-ltb, le-leb, lt-leb, eq-eqb, ne-eqb}
 use native.Mathlib.Omega.{arith}
-use native.Mathlib.Numerals.{add-one}
-use Prim.Native.Nat.{ℕ, suc, _+_, _-_, _*_, _≤_, _<_}
-use mathlib.Core.Path.{_≡_, refl, sym, ap, _∙_}
-use mathlib.Core.Logic.{⊎-elim}
-use mathlib.Core.List.{List, [], _∷_, _++_}
-use mathlib.Core.Bool.{Bool, true, false}
-use lib.ListN.{length, drop, take, getD}
-use lib.Seq.{drop-cons}
+use Prim.Native.Nat.{_-_}
+use mathlib.Core.Path.{refl, sym, _∙_}
 use denote.Ref.{now}
 use Rattle.functions.proofs.parse.Statement.{statement}
 use Rattle.functions.proofs.parse.Tie as tie
-use Rattle.functions.proofs.parse.Reads as reads
-use Rattle.functions.proofs.parse.Lts as lts
-use Rattle.functions.proofs.parse_function.Reads as parse-function-reads
-use Rattle.lexer.proofs.token_at.Reads as token-at-reads
 
 abbrev Inv-loop : tie.InvT-loop
 Inv-loop tokens names functions₀ items₀ arguments₀ blocks₀ predecessors₀ at₀ types₀ n₀ functions items arguments blocks predecessors at types n =
@@ -30,7 +19,6 @@ abbrev μ-loop : tie.MeasureT-loop
 μ-loop tokens names functions₀ items₀ arguments₀ blocks₀ predecessors₀ at₀ types₀ n₀ functions items arguments blocks predecessors at types n =
     64 - n .functions
 
--- src/lib.rt:165:5
 loop-holds : tie.Need-loop-holds Inv-loop μ-loop
 loop-holds c =
     let within = c .before .before .before .before .before .before .before .pre .0 in
@@ -43,46 +31,36 @@ loop-holds c =
       predecessors-few = omega arith;
     })
 
--- src/lib.rt:166:13
 token-at-requires : tie.Need-token-at-requires Inv-loop μ-loop
 token-at-requires c κs = search needs
 
--- src/lib.rt:168:28
 cast-functions : tie.Need-cast-functions Inv-loop μ-loop
 cast-functions c = omega (arith, c .before .before .before .before .loop .inv .few)
 
--- src/lib.rt:168:13
 slice-write-functions : tie.Need-slice-write-functions Inv-loop μ-loop
 slice-write-functions c = omega (arith, c .before .before .before .before .loop .inv .functions-kept, c .before .before .before .before .before .before .before .before .before .before .before .before .pre .1)
 
--- src/lib.rt:169:13
 same-length : tie.Need-same-length Inv-loop μ-loop
 same-length c = simp length-set (c .before .before .before .before .loop .inv .functions-kept)
 
--- src/lib.rt:169:13
 same-length-2 : tie.Need-same-length-2 Inv-loop μ-loop
 same-length-2 c = c .before .before .before .before .loop .inv .items-kept
 
--- src/lib.rt:169:13
 same-length-3 : tie.Need-same-length-3 Inv-loop μ-loop
 same-length-3 c = c .before .before .before .before .loop .inv .arguments-kept
 
--- src/lib.rt:169:13
 same-length-4 : tie.Need-same-length-4 Inv-loop μ-loop
 same-length-4 c = c .before .before .before .before .loop .inv .blocks-kept
 
--- src/lib.rt:169:13
 same-length-5 : tie.Need-same-length-5 Inv-loop μ-loop
 same-length-5 c = c .before .before .before .before .loop .inv .predecessors-kept
 
--- src/lib.rt:169:13
 returns : tie.Need-returns Inv-loop μ-loop
 returns c =
     let a = c .before .before .before .before .before .before .before .before .before .before .before .before .args in
     let loop = c .before .before .before .before .loop in
     at-end (tokensOf (now (a .tokens))) (now (a .names)) _ (loop .inv) (c .before .before .before .token-at .ensures) (c .before .if1 .taken)
 
--- src/lib.rt:171:15
 parse-function-requires : tie.Need-parse-function-requires Inv-loop μ-loop
 parse-function-requires c κs =
     let a = c .before .before .before .before .before .before .before .before .before .before .before .before .before .before .before .before .args in
@@ -101,42 +79,33 @@ parse-function-requires c κs =
       },
     )
 
--- src/lib.rt:183:35
 enum-known-e : tie.Need-enum-known-e Inv-loop μ-loop
 enum-known-e c = search needs
 
--- src/lib.rt:184:17
 same-length-6 : tie.Need-same-length-6 Inv-loop μ-loop
 same-length-6 c = c .before .before .before .before .before .before .before .before .before .before .before .before .before .parse-function .kept .1 .1 .1 .1 .1 .0 ∙ c .before .before .before .before .before .before .before .before .before .before .before .before .before .before .before .before .before .before .before .before .before .before .loop .inv .functions-kept
 
--- src/lib.rt:184:17
 same-length-7 : tie.Need-same-length-7 Inv-loop μ-loop
 same-length-7 c = c .before .before .before .before .before .before .before .before .before .before .before .before .before .parse-function .kept .1 .1 .1 .1 .1 .1 .0 ∙ c .before .before .before .before .before .before .before .before .before .before .before .before .before .before .before .before .before .before .before .before .before .before .loop .inv .items-kept
 
--- src/lib.rt:184:17
 same-length-8 : tie.Need-same-length-8 Inv-loop μ-loop
 same-length-8 c = c .before .before .before .before .before .before .before .before .before .before .before .before .before .parse-function .kept .1 .1 .1 .1 .1 .1 .1 .0 ∙ c .before .before .before .before .before .before .before .before .before .before .before .before .before .before .before .before .before .before .before .before .before .before .loop .inv .arguments-kept
 
--- src/lib.rt:184:17
 same-length-9 : tie.Need-same-length-9 Inv-loop μ-loop
 same-length-9 c = c .before .before .before .before .before .before .before .before .before .before .before .before .before .parse-function .kept .1 .1 .1 .1 .1 .1 .1 .1 .0 ∙ c .before .before .before .before .before .before .before .before .before .before .before .before .before .before .before .before .before .before .before .before .before .before .loop .inv .blocks-kept
 
--- src/lib.rt:184:17
 same-length-10 : tie.Need-same-length-10 Inv-loop μ-loop
 same-length-10 c = c .before .before .before .before .before .before .before .before .before .before .before .before .before .parse-function .kept .1 .1 .1 .1 .1 .1 .1 .1 .1 .0 ∙ c .before .before .before .before .before .before .before .before .before .before .before .before .before .before .before .before .before .before .before .before .before .before .loop .inv .predecessors-kept
 
--- src/lib.rt:184:17
 returns-2 : tie.Need-returns-2 Inv-loop μ-loop
 returns-2 c =
     let a = c .before .before .before .before .before .before .before .before .before .before .before .before .before .before .before .before .before .before .before .before .before .before .before .before .before .before .before .before .before .before .args in
     let loop = c .before .before .before .before .before .before .before .before .before .before .before .before .before .before .before .before .before .before .before .before .before .before .loop in
     refused-read (tokensOf (now (a .tokens))) (now (a .names)) _ (loop .inv) (c .before .before .before .before .before .before .before .before .before .before .before .before .before .before .before .before .before .before .before .before .before .token-at .ensures) (c .before .before .before .before .before .before .before .before .before .before .before .before .before .before .before .before .before .before .before .if1 .left) _ refl (sym (c .before .e .given .1) ∙ c .before .before .before .before .before .before .before .before .before .before .before .before .before .parse-function .ensures .0) _
 
--- src/lib.rt:186:32
 enum-known-next : tie.Need-enum-known-next Inv-loop μ-loop
 enum-known-next c = search needs
 
--- src/lib.rt:165:5
 loop-less : tie.Need-loop-less Inv-loop μ-loop
 loop-less c =
     let a = c .before .before .before .before .before .before .before .before .before .before .before .before .before .before .before .before .before .before .before .before .before .before .before .before .before .before .before .before .before .before .args in
@@ -145,7 +114,6 @@ loop-less c =
     (sym (c .before .next .given .1) ∙ c .before .before .before .before .before .before .before .before .before .before .before .before .before .parse-function .ensures .0) in
     omega (arith, on .1, on .2)
 
--- src/lib.rt:165:5
 loop-again : tie.Need-loop-again Inv-loop μ-loop
 loop-again c =
     let a = c .before .before .before .before .before .before .before .before .before .before .before .before .before .before .before .before .before .before .before .before .before .before .before .before .before .before .before .before .before .before .args in

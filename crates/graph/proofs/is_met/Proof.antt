@@ -10,15 +10,11 @@ returns : tie.Need-returns
 unfolding flagged pick
 returns c = rw (le-ltb _ _ (c .if1 .taken))
 
-cast-i : tie.Need-cast-i
-cast-i c = search needs
-
-element-copy-out-result : tie.Need-element-copy-out-result
-element-copy-out-result c = search needs
-
 returns-2 : tie.Need-returns-2
 unfolding flagged pick
 returns-2 c = rw (lt-ltb _ _ (c .before .if1 .left))
 
 pub is-met-spec : {M : Type 1} → statement M
-is-met-spec = tie.close (tie.spec returns cast-i element-copy-out-result returns-2)
+is-met-spec =
+    tie.close
+    (tie.spec returns (λ c. search needs) (λ c. search needs) returns-2)

@@ -11,15 +11,6 @@ use Rattle.graph.proofs.Placing.{flags-placed}
 use Rattle.graph.proofs.met_blocks.Statement.{statement}
 use Rattle.graph.proofs.met_blocks.Tie as tie
 
-at-most-256-requires : tie.Need-at-most-256-requires
-at-most-256-requires c κs = search needs
-
-walk-requires : tie.Need-walk-requires
-walk-requires c κs = search needs
-
-put-flags-requires : tie.Need-put-flags-requires
-put-flags-requires c κs = search needs
-
 returns : tie.Need-returns
 returns c =
     let a = c .before .before .before .before .before .before .before .before .args in
@@ -32,4 +23,5 @@ returns c =
 
 pub met-blocks-spec : {M : Type 1} → statement M
 met-blocks-spec =
-    tie.close (tie.spec at-most-256-requires walk-requires put-flags-requires returns)
+    tie.close
+    (tie.spec (λ c κs. search needs) (λ c κs. search needs) (λ c κs. search needs) returns)

@@ -12,27 +12,6 @@ use Rattle.utils.specs.Bytes.{padTo}
 use Rattle.lexer.proofs.lex_from.Statement.{statement}
 use Rattle.lexer.proofs.lex_from.Tie as tie
 
-lex-text-requires : tie.Need-lex-text-requires
-lex-text-requires c κs = search needs
-
-enum-known-count : tie.Need-enum-known-count
-enum-known-count c = search needs
-
-enum-known-refusal : tie.Need-enum-known-refusal
-enum-known-refusal c = search needs
-
-clear-requires : tie.Need-clear-requires
-clear-requires c κs = search needs
-
-clear-requires-2 : tie.Need-clear-requires-2
-clear-requires-2 c κs = search needs
-
-same-length : tie.Need-same-length
-same-length c = search needs
-
-same-length-2 : tie.Need-same-length-2
-same-length-2 c = search needs
-
 returns : tie.Need-returns
 returns c =
     let back8 = c .before .before .before .before .before .before .before .before in
@@ -45,12 +24,6 @@ returns c =
     held-done (lexedFrom (a .line) s) _ _ (now (a .tokens)) (now (a .names)) _ _ (never-cut (a .line) s) e
     (lex-text .ensures .1) in
     (e, (held .0, held .1))
-
-same-length-3 : tie.Need-same-length-3
-same-length-3 c = search needs
-
-same-length-4 : tie.Need-same-length-4
-same-length-4 c = search needs
 
 returns-2 : tie.Need-returns-2
 returns-2 c =
@@ -75,15 +48,6 @@ returns-2 c =
 pub lex-from-spec : {M : Type 1} → statement M
 lex-from-spec =
     tie.close
-    (tie.spec
-    lex-text-requires
-    enum-known-count
-    enum-known-refusal
-    clear-requires
-    clear-requires-2
-    same-length
-    same-length-2
-    returns
-    same-length-3
-    same-length-4
+    (tie.spec (λ c κs. search needs) (λ c. search needs) (λ c. search needs) (λ c κs. search needs)
+    (λ c κs. search needs) (λ c. search needs) (λ c. search needs) returns (λ c. search needs) (λ c. search needs)
     returns-2)

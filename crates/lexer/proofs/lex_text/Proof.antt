@@ -13,9 +13,6 @@ returns c =
     let if1 = c .if1 in
     rw (lt-ltb _ _ (if1 .taken)) (refl, tt)
 
-is-ascii-requires : tie.Need-is-ascii-requires
-is-ascii-requires c κs = search needs
-
 returns-2 : tie.Need-returns-2
 unfolding lexedFrom pick
 returns-2 c =
@@ -23,15 +20,6 @@ returns-2 c =
     let is-ascii = c .before .is-ascii in
     let if2 = c .if2 in
     rw (le-ltb _ _ (if1 .left), ← is-ascii .ensures, not-true (is-ascii .result) (if2 .taken)) (refl, tt)
-
-lex-all-requires : tie.Need-lex-all-requires
-lex-all-requires c κs = search needs
-
-same-length : tie.Need-same-length
-same-length c = search needs
-
-same-length-2 : tie.Need-same-length-2
-same-length-2 c = search needs
 
 returns-3 : tie.Need-returns-3
 unfolding lexedFrom pick
@@ -50,11 +38,5 @@ returns-3 c =
 pub lex-text-spec : {M : Type 1} → statement M
 lex-text-spec =
     tie.close
-    (tie.spec
-    returns
-    is-ascii-requires
-    returns-2
-    lex-all-requires
-    same-length
-    same-length-2
+    (tie.spec returns (λ c κs. search needs) returns-2 (λ c κs. search needs) (λ c. search needs) (λ c. search needs)
     returns-3)

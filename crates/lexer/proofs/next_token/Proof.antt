@@ -8,18 +8,6 @@ use Rattle.lexer.specs.Steps.{nextOf, addedBy}
 use Rattle.lexer.proofs.next_token.Statement.{statement}
 use Rattle.lexer.proofs.next_token.Tie as tie
 
-lex-at-requires : tie.Need-lex-at-requires
-lex-at-requires c κs = search needs
-
-enum-known-next : tie.Need-enum-known-next
-enum-known-next c = search needs
-
-enum-known-token : tie.Need-enum-known-token
-enum-known-token c = search needs
-
-enum-known-name : tie.Need-enum-known-name
-enum-known-name c = search needs
-
 number-name-requires : tie.Need-number-name-requires
 number-name-requires c κs =
     let lex-at = c .before .before .before .before .lex-at in
@@ -29,12 +17,6 @@ number-name-requires c κs =
     let past =
     rw (← lex-at .ensures, name .given .1) at (piece-past (now (a .text)) (a .at .place) (a .at .line) (pre .1)) in
     (pre .0, omega (arith, past .name-end, past .within))
-
-enum-known-end : tie.Need-enum-known-end
-enum-known-end c = search needs
-
-enum-known-refusal : tie.Need-enum-known-refusal
-enum-known-refusal c = search needs
 
 returns : tie.Need-returns
 unfolding nextOf addedBy
@@ -49,9 +31,6 @@ returns-2 c =
     let lex-at = c .before .before .before .lex-at in
     let token = c .before .token in
     rw (← lex-at .ensures, token .given .1) (refl, refl)
-
-same-length : tie.Need-same-length
-same-length c = search needs
 
 returns-3 : tie.Need-returns-3
 unfolding nextOf addedBy
@@ -78,17 +57,5 @@ returns-5 c =
 pub next-token-spec : {M : Type 1} → statement M
 next-token-spec =
     tie.close
-    (tie.spec
-    lex-at-requires
-    enum-known-next
-    enum-known-token
-    enum-known-name
-    number-name-requires
-    enum-known-end
-    enum-known-refusal
-    returns
-    returns-2
-    same-length
-    returns-3
-    returns-4
-    returns-5)
+    (tie.spec (λ c κs. search needs) (λ c. search needs) (λ c. search needs) (λ c. search needs) number-name-requires
+    (λ c. search needs) (λ c. search needs) returns returns-2 (λ c. search needs) returns-3 returns-4 returns-5)

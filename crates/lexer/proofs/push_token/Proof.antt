@@ -7,12 +7,6 @@ use Rattle.utils.specs.Bytes.{pick}
 use Rattle.lexer.proofs.push_token.Statement.{statement}
 use Rattle.lexer.proofs.push_token.Tie as tie
 
-put-token-requires : tie.Need-put-token-requires
-put-token-requires c κs = search needs
-
-same-length : tie.Need-same-length
-same-length c = search needs
-
 returns : tie.Need-returns
 unfolding pushed pick
 returns c =
@@ -27,4 +21,6 @@ returns-2 c =
     rw (le-ltb _ _ (if1 .left)) (refl, refl)
 
 pub push-token-spec : {M : Type 1} → statement M
-push-token-spec = tie.close (tie.spec put-token-requires same-length returns returns-2)
+push-token-spec =
+    tie.close
+    (tie.spec (λ c κs. search needs) (λ c. search needs) returns returns-2)

@@ -8,24 +8,12 @@ use Rattle.utils.specs.Bytes.{pick}
 use Rattle.lexer.proofs.read.Statement.{statement}
 use Rattle.lexer.proofs.read.Tie as tie
 
-fits-requires : tie.Need-fits-requires
-fits-requires c κs = search needs
-
 read-from-requires : tie.Need-read-from-requires
 read-from-requires c κs =
     let if1 = c .before .before .before .if1 in
     let fits2 = c .before .before .before .before .fits2 in
     let sizes = rw (if1 .taken) at (fits2 .ensures .1) in
     (omega arith, sizes .0, sizes .1, sizes .2)
-
-same-length : tie.Need-same-length
-same-length c = search needs
-
-same-length-2 : tie.Need-same-length-2
-same-length-2 c = search needs
-
-same-length-3 : tie.Need-same-length-3
-same-length-3 c = search needs
 
 returns : tie.Need-returns
 unfolding readDef readOf pick
@@ -34,9 +22,6 @@ returns c =
     let if1 = c .before .before .before .before .before .before .before .before .before .before .if1 in
     let read-from = c .before .before .before .before .before .before .read-from in
     by-parts (rw (sym (fits2 .ensures .0) ∙ if1 .taken) (read-from .ensures))
-
-refuse-at-requires : tie.Need-refuse-at-requires
-refuse-at-requires c κs = search needs
 
 returns-2 : tie.Need-returns-2
 unfolding readDef pick
@@ -49,12 +34,5 @@ returns-2 c =
 pub read-spec : {M : Type 1} → statement M
 read-spec =
     tie.close
-    (tie.spec
-    fits-requires
-    read-from-requires
-    same-length
-    same-length-2
-    same-length-3
-    returns
-    refuse-at-requires
-    returns-2)
+    (tie.spec (λ c κs. search needs) read-from-requires (λ c. search needs) (λ c. search needs) (λ c. search needs)
+    returns (λ c κs. search needs) returns-2)

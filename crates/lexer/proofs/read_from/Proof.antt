@@ -9,15 +9,6 @@ use Rattle.lexer.proofs.Accepted.{result-done, result-refused}
 use Rattle.lexer.proofs.read_from.Statement.{statement}
 use Rattle.lexer.proofs.read_from.Tie as tie
 
-lex-from-requires : tie.Need-lex-from-requires
-lex-from-requires c κs = search needs
-
-enum-known-refusal : tie.Need-enum-known-refusal
-enum-known-refusal c = search needs
-
-report-requires : tie.Need-report-requires
-report-requires c κs = search needs
-
 answer-of-requires : tie.Need-answer-of-requires
 answer-of-requires c κs =
     let back8 = c .before .before .before .before .before .before .before .before in
@@ -28,21 +19,6 @@ answer-of-requires c κs =
     let s = now (a .text) in
     let o = result-refused (a .line) s _ (sym (refusal .given .1) ∙ lex-from .ensures .0) in
     omega (arith, refused-sound (a .line) s _ o .place-small)
-
-enum-known-count : tie.Need-enum-known-count
-enum-known-count c = search needs
-
-clear-bytes-requires : tie.Need-clear-bytes-requires
-clear-bytes-requires c κs = search needs
-
-same-length : tie.Need-same-length
-same-length c = search needs
-
-same-length-2 : tie.Need-same-length-2
-same-length-2 c = search needs
-
-same-length-3 : tie.Need-same-length-3
-same-length-3 c = search needs
 
 returns : tie.Need-returns
 returns c =
@@ -58,15 +34,6 @@ returns c =
     let tokens = rw o at (lex-from .ensures .1 .0) in
     let names = rw o at (lex-from .ensures .1 .1) in
     rw (o, tokens, names, answer-of .ensures, report .ensures)
-
-same-length-4 : tie.Need-same-length-4
-same-length-4 c = search needs
-
-same-length-5 : tie.Need-same-length-5
-same-length-5 c = search needs
-
-same-length-6 : tie.Need-same-length-6
-same-length-6 c = search needs
 
 returns-2 : tie.Need-returns-2
 returns-2 c =
@@ -85,18 +52,6 @@ returns-2 c =
 pub read-from-spec : {M : Type 1} → statement M
 read-from-spec =
     tie.close
-    (tie.spec
-    lex-from-requires
-    enum-known-refusal
-    report-requires
-    answer-of-requires
-    enum-known-count
-    clear-bytes-requires
-    same-length
-    same-length-2
-    same-length-3
-    returns
-    same-length-4
-    same-length-5
-    same-length-6
-    returns-2)
+    (tie.spec (λ c κs. search needs) (λ c. search needs) (λ c κs. search needs) answer-of-requires (λ c. search needs)
+    (λ c κs. search needs) (λ c. search needs) (λ c. search needs) (λ c. search needs) returns (λ c. search needs)
+    (λ c. search needs) (λ c. search needs) returns-2)

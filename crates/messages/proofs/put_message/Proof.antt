@@ -10,18 +10,6 @@ use Rattle.messages.specs.Messages.{messageAt}
 use Rattle.messages.proofs.put_message.Statement.{statement}
 use Rattle.messages.proofs.put_message.Tie as tie
 
-clear-bytes-requires : tie.Need-clear-bytes-requires
-clear-bytes-requires c κs = search needs
-
-token-at-requires : tie.Need-token-at-requires
-token-at-requires c κs = search needs
-
-put-at-requires : tie.Need-put-at-requires
-put-at-requires c κs = search needs
-
-same-length : tie.Need-same-length
-same-length c = search needs
-
 returns : tie.Need-returns
 returns c =
     let a = c .before .before .before .before .before .before .before .before .before .before .before .before
@@ -41,4 +29,5 @@ returns c =
 
 pub put-message-spec : {M : Type 1} → statement M
 put-message-spec =
-    tie.close (tie.spec clear-bytes-requires token-at-requires put-at-requires same-length returns)
+    tie.close
+    (tie.spec (λ c κs. search needs) (λ c κs. search needs) (λ c κs. search needs) (λ c. search needs) returns)

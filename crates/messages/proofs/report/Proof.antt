@@ -12,15 +12,6 @@ use Rattle.messages.specs.Messages.{fixed}
 use Rattle.messages.proofs.report.Statement.{statement}
 use Rattle.messages.proofs.report.Tie as tie
 
-clear-bytes-requires : tie.Need-clear-bytes-requires
-clear-bytes-requires c κs = search needs
-
-put-without-item-requires : tie.Need-put-without-item-requires
-put-without-item-requires c κs = search needs
-
-same-length : tie.Need-same-length
-same-length c = search needs
-
 returns : tie.Need-returns
 returns c =
     let back8 = c .before .before .before .before .before .before .before .before in
@@ -34,4 +25,6 @@ returns c =
     (rw (cleared .ensures, sub-zero) at (p .ensures .1)) ∙ h
 
 pub report-spec : {M : Type 1} → statement M
-report-spec = tie.close (tie.spec clear-bytes-requires put-without-item-requires same-length returns)
+report-spec =
+    tie.close
+    (tie.spec (λ c κs. search needs) (λ c κs. search needs) (λ c. search needs) returns)

@@ -6,9 +6,6 @@ use Rattle.parser.specs.Step.{opened}
 use Rattle.parser.proofs.consume.Statement.{statement}
 use Rattle.parser.proofs.consume.Tie as tie
 
-token-at-requires : tie.Need-token-at-requires
-token-at-requires c κs = search needs
-
 returns : tie.Need-returns
 unfolding consumeD opened
 returns c =
@@ -24,4 +21,6 @@ returns-2 c =
     rw (← token-at .ensures, ne-eqb _ _ (if1 .left))
 
 pub consume-spec : {M : Type 1} → statement M
-consume-spec = tie.close (tie.spec token-at-requires returns returns-2)
+consume-spec =
+    tie.close
+    (tie.spec (λ c κs. search needs) returns returns-2)

@@ -6,18 +6,12 @@ use Rattle.parser.specs.Step.{opened}
 use Rattle.parser.proofs.consume_named.Statement.{statement}
 use Rattle.parser.proofs.consume_named.Tie as tie
 
-token-at-requires : tie.Need-token-at-requires
-token-at-requires c κs = search needs
-
 returns : tie.Need-returns
 unfolding namedD opened
 returns c =
     let token-at = c .before .before .before .token-at in
     let if1 = c .before .if1 in
     rw (← token-at .ensures, eq-eqb _ _ (if1 .taken))
-
-refuse-requires : tie.Need-refuse-requires
-refuse-requires c κs = search needs
 
 returns-2 : tie.Need-returns-2
 unfolding namedD opened
@@ -28,4 +22,6 @@ returns-2 c =
     rw (← token-at .ensures, ne-eqb _ _ (if1 .left), refuse .ensures)
 
 pub consume-named-spec : {M : Type 1} → statement M
-consume-named-spec = tie.close (tie.spec token-at-requires returns refuse-requires returns-2)
+consume-named-spec =
+    tie.close
+    (tie.spec (λ c κs. search needs) returns (λ c κs. search needs) returns-2)

@@ -5,18 +5,6 @@ use Rattle.parser.specs.Step.{opened}
 use Rattle.parser.proofs.parse_definition.Statement.{statement}
 use Rattle.parser.proofs.parse_definition.Tie as tie
 
-parse-defined-requires : tie.Need-parse-defined-requires
-parse-defined-requires c κs = search needs
-
-enum-known-e : tie.Need-enum-known-e
-enum-known-e c = search needs
-
-enum-known-result : tie.Need-enum-known-result
-enum-known-result c = search needs
-
-parse-value-requires : tie.Need-parse-value-requires
-parse-value-requires c κs = search needs
-
 returns : tie.Need-returns
 unfolding definitionD opened
 returns c =
@@ -35,10 +23,4 @@ returns-2 c =
 pub parse-definition-spec : {M : Type 1} → statement M
 parse-definition-spec =
     tie.close
-    (tie.spec
-    parse-defined-requires
-    enum-known-e
-    enum-known-result
-    parse-value-requires
-    returns
-    returns-2)
+    (tie.spec (λ c κs. search needs) (λ c. search needs) (λ c. search needs) (λ c κs. search needs) returns returns-2)

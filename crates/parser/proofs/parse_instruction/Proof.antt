@@ -6,27 +6,6 @@ use Rattle.parser.specs.Step.{opened}
 use Rattle.parser.proofs.parse_instruction.Statement.{statement}
 use Rattle.parser.proofs.parse_instruction.Tie as tie
 
-token-at-requires : tie.Need-token-at-requires
-token-at-requires c κs = search needs
-
-parse-print-requires : tie.Need-parse-print-requires
-parse-print-requires c κs = search needs
-
-parse-ret-requires : tie.Need-parse-ret-requires
-parse-ret-requires c κs = search needs
-
-parse-jump-requires : tie.Need-parse-jump-requires
-parse-jump-requires c κs = search needs
-
-parse-branch-requires : tie.Need-parse-branch-requires
-parse-branch-requires c κs = search needs
-
-parse-nop-requires : tie.Need-parse-nop-requires
-parse-nop-requires c κs = search needs
-
-parse-definition-requires : tie.Need-parse-definition-requires
-parse-definition-requires c κs = search needs
-
 returns : tie.Need-returns
 unfolding instructionD opened
 returns c =
@@ -99,18 +78,6 @@ returns-7 c =
 pub parse-instruction-spec : {M : Type 1} → statement M
 parse-instruction-spec =
     tie.close
-    (tie.spec
-    token-at-requires
-    parse-print-requires
-    parse-ret-requires
-    parse-jump-requires
-    parse-branch-requires
-    parse-nop-requires
-    parse-definition-requires
-    returns
-    returns-2
-    returns-3
-    returns-4
-    returns-5
-    returns-6
-    returns-7)
+    (tie.spec (λ c κs. search needs) (λ c κs. search needs) (λ c κs. search needs) (λ c κs. search needs)
+    (λ c κs. search needs) (λ c κs. search needs) (λ c κs. search needs) returns returns-2 returns-3 returns-4
+    returns-5 returns-6 returns-7)

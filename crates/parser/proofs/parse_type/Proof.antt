@@ -6,9 +6,6 @@ use Rattle.parser.specs.Step.{opened}
 use Rattle.parser.proofs.parse_type.Statement.{statement}
 use Rattle.parser.proofs.parse_type.Tie as tie
 
-token-at-requires : tie.Need-token-at-requires
-token-at-requires c κs = search needs
-
 returns : tie.Need-returns
 unfolding typeD opened
 returns c =
@@ -24,9 +21,6 @@ returns-2 c =
     let if2 = c .if2 in
     rw (← token-at .ensures, ne-eqb _ _ (if1 .left), eq-eqb _ _ (if2 .taken))
 
-refuse-requires : tie.Need-refuse-requires
-refuse-requires c κs = search needs
-
 returns-3 : tie.Need-returns-3
 unfolding typeD opened
 returns-3 c =
@@ -38,4 +32,5 @@ returns-3 c =
 
 pub parse-type-spec : {M : Type 1} → statement M
 parse-type-spec =
-    tie.close (tie.spec token-at-requires returns returns-2 refuse-requires returns-3)
+    tie.close
+    (tie.spec (λ c κs. search needs) returns returns-2 (λ c κs. search needs) returns-3)

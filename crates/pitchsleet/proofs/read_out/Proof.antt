@@ -7,24 +7,6 @@ use borrow.Author.Needs.{needs}
 use Rattle.pitchsleet.proofs.read_out.Statement.{statement}
 use Rattle.pitchsleet.proofs.read_out.Tie as tie
 
-read-requires : tie.Need-read-requires
-read-requires c κs = search needs
-
-put-cells-requires : tie.Need-put-cells-requires
-put-cells-requires c κs = search needs
-
-put-cells-requires-2 : tie.Need-put-cells-requires-2
-put-cells-requires-2 c κs = search needs
-
-clear-from-requires : tie.Need-clear-from-requires
-clear-from-requires c κs = search needs
-
-same-length : tie.Need-same-length
-same-length c = search needs
-
-same-length-2 : tie.Need-same-length-2
-same-length-2 c = search needs
-
 returns : tie.Need-returns
 returns c =
     let back8 = c .before .before .before .before .before .before .before .before in
@@ -47,11 +29,5 @@ returns c =
 pub read-out-spec : {M : Type 1} → statement M
 read-out-spec =
     tie.close
-    (tie.spec
-    read-requires
-    put-cells-requires
-    put-cells-requires-2
-    clear-from-requires
-    same-length
-    same-length-2
-    returns)
+    (tie.spec (λ c κs. search needs) (λ c κs. search needs) (λ c κs. search needs) (λ c κs. search needs)
+    (λ c. search needs) (λ c. search needs) returns)

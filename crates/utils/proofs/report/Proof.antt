@@ -10,15 +10,6 @@ use borrow.Author.Needs.{needs}
 use Rattle.utils.proofs.report.Statement.{statement}
 use Rattle.utils.proofs.report.Tie as tie
 
-clear-bytes-requires : tie.Need-clear-bytes-requires
-clear-bytes-requires c κs = search needs
-
-put-report-requires : tie.Need-put-report-requires
-put-report-requires c κs = search needs
-
-same-length : tie.Need-same-length
-same-length c = search needs
-
 returns : tie.Need-returns
 returns c =
     let back8 = c .before .before .before .before .before .before .before .before in
@@ -36,4 +27,6 @@ returns c =
     (rw (c .before .before .before .before .before .before .clear-bytes .ensures, sub-zero) at (p .ensures .2)) ∙ h
 
 pub report-spec : {M : Type 1} → statement M
-report-spec = tie.close (tie.spec clear-bytes-requires put-report-requires same-length returns)
+report-spec =
+    tie.close
+    (tie.spec (λ c κs. search needs) (λ c κs. search needs) (λ c. search needs) returns)

@@ -12,21 +12,6 @@ use Rattle.body.proofs.Items.{called-done, called-refused}
 use Rattle.body.proofs.item.parse_call_item.Statement.{statement}
 use Rattle.body.proofs.item.parse_call_item.Tie as tie
 
-mul-parse-call : tie.Need-mul-parse-call
-mul-parse-call c = search needs
-
-parse-call-requires : tie.Need-parse-call-requires
-parse-call-requires c κs = search needs
-
-enum-known-e : tie.Need-enum-known-e
-enum-known-e c = search needs
-
-enum-known-callee : tie.Need-enum-known-callee
-enum-known-callee c = search needs
-
-cast-t21 : tie.Need-cast-t21
-cast-t21 c = search needs
-
 cast-t22 : tie.Need-cast-t22
 cast-t22 c =
     let back8 = c .before .before .before .before .before .before .before .before in
@@ -39,12 +24,6 @@ cast-t22 c =
     let d = called-done (callD ts (a .word)) (sym (callee .given .1) ∙ parse-call .ensures .0) in
     let few = call-in ts (w .last) (w .ends) (a .word) (w .reached) .few in
     omega (arith, few, d .2)
-
-record-of-requires : tie.Need-record-of-requires
-record-of-requires c κs = search needs
-
-put-record-requires : tie.Need-put-record-requires
-put-record-requires c κs = search needs
 
 add-t26 : tie.Need-add-t26
 add-t26 c =
@@ -59,9 +38,6 @@ add-t26 c =
     let few = call-in ts (w .last) (w .ends) (a .word) (w .reached) .few in
     omega (arith, few, d .2, pre .1)
 
-same-length : tie.Need-same-length
-same-length c = search needs
-
 returns : tie.Need-returns
 unfolding callRead thenAt
 returns c =
@@ -72,12 +48,6 @@ returns c =
     let ts = tokensOf (now (a .tokens)) in
     let end = called-refused (callD ts (a .word)) (sym (e .given .1) ∙ parse-call .ensures .0) in
     rw end (refl, tt)
-
-same-length-2 : tie.Need-same-length-2
-same-length-2 c = search needs
-
-same-length-3 : tie.Need-same-length-3
-same-length-3 c = search needs
 
 returns-2 : tie.Need-returns-2
 unfolding callRead thenAt
@@ -101,18 +71,6 @@ returns-2 c =
 pub parse-call-item-spec : {M : Type 1} → statement M
 parse-call-item-spec =
     tie.close
-    (tie.spec
-    mul-parse-call
-    parse-call-requires
-    enum-known-e
-    enum-known-callee
-    cast-t21
-    cast-t22
-    record-of-requires
-    put-record-requires
-    add-t26
-    same-length
-    returns
-    same-length-2
-    same-length-3
-    returns-2)
+    (tie.spec (λ c. search needs) (λ c κs. search needs) (λ c. search needs) (λ c. search needs) (λ c. search needs)
+    cast-t22 (λ c κs. search needs) (λ c κs. search needs) add-t26 (λ c. search needs) returns (λ c. search needs)
+    (λ c. search needs) returns-2)

@@ -14,15 +14,6 @@ use Rattle.body.proofs.Items.{call-item, call-into-item}
 use Rattle.body.proofs.item.parse_item.Statement.{statement}
 use Rattle.body.proofs.item.parse_item.Tie as tie
 
-parse-instruction-requires : tie.Need-parse-instruction-requires
-parse-instruction-requires c κs = search needs
-
-enum-known-e : tie.Need-enum-known-e
-enum-known-e c = search needs
-
-enum-known-o : tie.Need-enum-known-o
-enum-known-o c = search needs
-
 operation-record-requires : tie.Need-operation-record-requires
 operation-record-requires c κs =
     let a = c .before .before .before .before .before .before .before .args in
@@ -34,12 +25,6 @@ operation-record-requires c κs =
     let p = rw (← parse-instruction .ensures, o .given .1) at
     (instruction-in ts (w .last) (w .ends) (a .at) (w .reached)) in
     omega (arith, p .2, w .few)
-
-put-record-requires : tie.Need-put-record-requires
-put-record-requires c κs = search needs
-
-enum-known-word : tie.Need-enum-known-word
-enum-known-word c = search needs
 
 parse-call-item-requires : tie.Need-parse-call-item-requires
 parse-call-item-requires c κs =
@@ -53,12 +38,6 @@ parse-call-item-requires c κs =
     let p = rw (← parse-instruction .ensures, word .given .1) at
     (instruction-in ts (w .last) (w .ends) (a .at) (w .reached)) in
     (record { last = w .last; ends = w .ends; reached = p .1; few = w .few }, pre .1, pre .2, pre .3)
-
-enum-known-v : tie.Need-enum-known-v
-enum-known-v c = search needs
-
-type-cell-requires : tie.Need-type-cell-requires
-type-cell-requires c κs = search needs
 
 parse-call-item-requires-2 : tie.Need-parse-call-item-requires-2
 parse-call-item-requires-2 c κs =
@@ -80,9 +59,6 @@ returns c =
     let e = c .before .e in
     rw (← parse-instruction .ensures, e .given .1) (refl, tt)
 
-same-length : tie.Need-same-length
-same-length c = search needs
-
 returns-2 : tie.Need-returns-2
 unfolding itemD parsedItem itemRead recordOf variablesCells
 returns-2 c =
@@ -92,12 +68,6 @@ returns-2 c =
     let put-record = c .before .before .put-record in
     rw (← parse-instruction .ensures, o .given .1, operation-record .ensures, add-zero)
     (refl, record { items-are = rw (operation-record .ensures) at (put-record .ensures); arguments-are = refl })
-
-same-length-2 : tie.Need-same-length-2
-same-length-2 c = search needs
-
-same-length-3 : tie.Need-same-length-3
-same-length-3 c = search needs
 
 returns-3 : tie.Need-returns-3
 unfolding itemD parsedItem
@@ -113,12 +83,6 @@ returns-3 c =
     let h = call-item word (a .n) (a .used) (callD ts word) (now (a .items)) (call .last .1 .1 .1 .1 .1 .0)
     (now (a .arguments)) (call .last .1 .1 .1 .1 .1 .1 .1 .0) (call .ensures .1) in
     rw (← parse-instruction .ensures, word-known .given .1, call .ensures .0) (h .0, h .1)
-
-same-length-4 : tie.Need-same-length-4
-same-length-4 c = search needs
-
-same-length-5 : tie.Need-same-length-5
-same-length-5 c = search needs
 
 returns-4 : tie.Need-returns-4
 unfolding itemD parsedItem recordOf
@@ -145,23 +109,7 @@ returns-4 c =
 pub parse-item-spec : {M : Type 1} → statement M
 parse-item-spec =
     tie.close
-    (tie.spec
-    parse-instruction-requires
-    enum-known-e
-    enum-known-o
-    operation-record-requires
-    put-record-requires
-    enum-known-word
-    parse-call-item-requires
-    enum-known-v
-    type-cell-requires
-    parse-call-item-requires-2
-    returns
-    same-length
-    returns-2
-    same-length-2
-    same-length-3
-    returns-3
-    same-length-4
-    same-length-5
-    returns-4)
+    (tie.spec (λ c κs. search needs) (λ c. search needs) (λ c. search needs) operation-record-requires
+    (λ c κs. search needs) (λ c. search needs) parse-call-item-requires (λ c. search needs) (λ c κs. search needs)
+    parse-call-item-requires-2 returns (λ c. search needs) returns-2 (λ c. search needs) (λ c. search needs) returns-3
+    (λ c. search needs) (λ c. search needs) returns-4)

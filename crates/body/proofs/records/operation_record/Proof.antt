@@ -4,17 +4,11 @@ use Rattle.body.specs.Records.{operationRecord}
 use Rattle.body.proofs.records.operation_record.Statement.{statement}
 use Rattle.body.proofs.records.operation_record.Tie as tie
 
-enum-known-o : tie.Need-enum-known-o
-enum-known-o c = search needs
-
 valued-record-requires : tie.Need-valued-record-requires
 valued-record-requires c κs =
     let o = c .before .o in
     let pre = c .before .before .before .pre in
     rw (o .given .1) at (pre)
-
-enum-known-o-2 : tie.Need-enum-known-o-2
-enum-known-o-2 c = search needs
 
 valued-record-requires-2 : tie.Need-valued-record-requires-2
 valued-record-requires-2 c κs =
@@ -22,17 +16,11 @@ valued-record-requires-2 c κs =
     let pre = c .before .before .before .pre in
     rw (o2 .given .1) at (pre)
 
-enum-known-o-3 : tie.Need-enum-known-o-3
-enum-known-o-3 c = search needs
-
 valued-record-requires-3 : tie.Need-valued-record-requires-3
 valued-record-requires-3 c κs =
     let o3 = c .before .o3 in
     let pre = c .before .before .before .pre in
     rw (o3 .given .1) at (pre)
-
-enum-known-o-4 : tie.Need-enum-known-o-4
-enum-known-o-4 c = search needs
 
 record-of-requires : tie.Need-record-of-requires
 record-of-requires c κs =
@@ -40,17 +28,11 @@ record-of-requires c κs =
     let pre = c .before .before .before .pre in
     rw (o4 .given .1) at (pre)
 
-enum-known-o-5 : tie.Need-enum-known-o-5
-enum-known-o-5 c = search needs
-
 record-of-requires-2 : tie.Need-record-of-requires-2
 record-of-requires-2 c κs =
     let o5 = c .before .o5 in
     let pre = c .before .before .before .pre in
     rw (o5 .given .1) at (pre)
-
-enum-known-o-6 : tie.Need-enum-known-o-6
-enum-known-o-6 c = search needs
 
 record-of-requires-3 : tie.Need-record-of-requires-3
 record-of-requires-3 c κs =
@@ -58,26 +40,17 @@ record-of-requires-3 c κs =
     let pre = c .before .before .before .pre in
     rw (o6 .given .1) at (pre)
 
-enum-known-o-7 : tie.Need-enum-known-o-7
-enum-known-o-7 c = search needs
-
 record-of-requires-4 : tie.Need-record-of-requires-4
 record-of-requires-4 c κs =
     let o7 = c .before .o7 in
     let pre = c .before .before .before .pre in
     rw (o7 .given .1) at (pre)
 
-enum-known-o-8 : tie.Need-enum-known-o-8
-enum-known-o-8 c = search needs
-
 record-of-requires-5 : tie.Need-record-of-requires-5
 record-of-requires-5 c κs =
     let o8 = c .before .o8 in
     let pre = c .before .before .before .pre in
     rw (o8 .given .1) at (pre)
-
-enum-known-o-9 : tie.Need-enum-known-o-9
-enum-known-o-9 c = search needs
 
 record-of-requires-6 : tie.Need-record-of-requires-6
 record-of-requires-6 c κs =
@@ -151,31 +124,8 @@ returns-9 c =
 pub operation-record-spec : {M : Type 1} → statement M
 operation-record-spec =
     tie.close
-    (tie.spec
-    enum-known-o
-    valued-record-requires
-    enum-known-o-2
-    valued-record-requires-2
-    enum-known-o-3
-    valued-record-requires-3
-    enum-known-o-4
-    record-of-requires
-    enum-known-o-5
-    record-of-requires-2
-    enum-known-o-6
-    record-of-requires-3
-    enum-known-o-7
-    record-of-requires-4
-    enum-known-o-8
-    record-of-requires-5
-    enum-known-o-9
-    record-of-requires-6
-    returns
-    returns-2
-    returns-3
-    returns-4
-    returns-5
-    returns-6
-    returns-7
-    returns-8
-    returns-9)
+    (tie.spec (λ c. search needs) valued-record-requires (λ c. search needs) valued-record-requires-2
+    (λ c. search needs) valued-record-requires-3 (λ c. search needs) record-of-requires (λ c. search needs)
+    record-of-requires-2 (λ c. search needs) record-of-requires-3 (λ c. search needs) record-of-requires-4
+    (λ c. search needs) record-of-requires-5 (λ c. search needs) record-of-requires-6 returns returns-2 returns-3
+    returns-4 returns-5 returns-6 returns-7 returns-8 returns-9)

@@ -1,5 +1,4 @@
 -- The last two cells are those that the calls give.
-use mathlib.Core.Path.{ap}
 use borrow.Author.Needs.{needs}
 use Rattle.body.proofs.records.put_record.Statement.{statement}
 use Rattle.body.proofs.records.put_record.Tie as tie

@@ -3,12 +3,6 @@ use borrow.Author.Needs.{needs}
 use Rattle.body.proofs.records.valued_record.Statement.{statement}
 use Rattle.body.proofs.records.valued_record.Tie as tie
 
-type-cell-requires : tie.Need-type-cell-requires
-type-cell-requires c κs = search needs
-
-record-of-requires : tie.Need-record-of-requires
-record-of-requires c κs = search needs
-
 returns : tie.Need-returns
 returns c =
     let record-of = c .record-of in
@@ -16,4 +10,6 @@ returns c =
     rw (record-of .ensures, type-cell .ensures)
 
 pub valued-record-spec : {M : Type 1} → statement M
-valued-record-spec = tie.close (tie.spec type-cell-requires record-of-requires returns)
+valued-record-spec =
+    tie.close
+    (tie.spec (λ c κs. search needs) (λ c κs. search needs) returns)

@@ -8,15 +8,6 @@ use Rattle.body.specs.Turns.{added}
 use Rattle.body.proofs.turns.add_ret.Statement.{statement}
 use Rattle.body.proofs.turns.add_ret.Tie as tie
 
-put-record-requires : tie.Need-put-record-requires
-put-record-requires c κs = search needs
-
-add-result : tie.Need-add-result
-add-result c = search needs
-
-same-length : tie.Need-same-length
-same-length c = search needs
-
 returns : tie.Need-returns
 unfolding added pick itemsCells recordOf operationRecord
 returns c =
@@ -31,4 +22,6 @@ returns-2 c =
     rw (if1 .left) (omega arith, refl)
 
 pub add-ret-spec : {M : Type 1} → statement M
-add-ret-spec = tie.close (tie.spec put-record-requires add-result same-length returns returns-2)
+add-ret-spec =
+    tie.close
+    (tie.spec (λ c κs. search needs) (λ c. search needs) (λ c. search needs) returns returns-2)

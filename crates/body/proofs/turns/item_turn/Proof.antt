@@ -10,18 +10,6 @@ use Rattle.body.proofs.Items.{read-refused, read-done, item-refused, it
 use Rattle.body.proofs.turns.item_turn.Statement.{statement}
 use Rattle.body.proofs.turns.item_turn.Tie as tie
 
-parse-item-requires : tie.Need-parse-item-requires
-parse-item-requires c κs = search needs
-
-refuse-requires : tie.Need-refuse-requires
-refuse-requires c κs = search needs
-
-same-length : tie.Need-same-length
-same-length c = search needs
-
-same-length-2 : tie.Need-same-length-2
-same-length-2 c = search needs
-
 returns : tie.Need-returns
 returns c =
     let back8 = c .before .before .before .before .before .before .before .before in
@@ -36,24 +24,6 @@ returns c =
     item-late ts (s .before) (s .at) (s .arguments) (if1 .taken) k
     ∙ ap bodyStop (sym (refuse .ensures ∙ ap lateRefusal (parse .ensures .0)))
 
-enum-known-read : tie.Need-enum-known-read
-enum-known-read c = search needs
-
-enum-known-read-2 : tie.Need-enum-known-read-2
-enum-known-read-2 c = search needs
-
-add-t20 : tie.Need-add-t20
-add-t20 c = search needs
-
-behind-kind-requires : tie.Need-behind-kind-requires
-behind-kind-requires c κs = search needs
-
-same-length-3 : tie.Need-same-length-3
-same-length-3 c = search needs
-
-same-length-4 : tie.Need-same-length-4
-same-length-4 c = search needs
-
 returns-2 : tie.Need-returns-2
 returns-2 c =
     let back8 = c .before .before .before .before .before .before .before .before in
@@ -65,12 +35,6 @@ returns-2 c =
     let parse = parse-item in
     let q = read-refused (s .arguments) (itemD ts (s .at)) (sym (read .given .1) ∙ parse .ensures .0) in
     item-refused ts (s .before) (s .at) (read .given .0 .0) q
-
-same-length-5 : tie.Need-same-length-5
-same-length-5 c = search needs
-
-same-length-6 : tie.Need-same-length-6
-same-length-6 c = search needs
 
 returns-3 : tie.Need-returns-3
 returns-3 c =
@@ -106,19 +70,6 @@ returns-3 c =
 pub item-turn-spec : {M : Type 1} → statement M
 item-turn-spec =
     tie.close
-    (tie.spec
-    parse-item-requires
-    refuse-requires
-    same-length
-    same-length-2
-    returns
-    enum-known-read
-    enum-known-read-2
-    add-t20
-    behind-kind-requires
-    same-length-3
-    same-length-4
-    returns-2
-    same-length-5
-    same-length-6
-    returns-3)
+    (tie.spec (λ c κs. search needs) (λ c κs. search needs) (λ c. search needs) (λ c. search needs) returns
+    (λ c. search needs) (λ c. search needs) (λ c. search needs) (λ c κs. search needs) (λ c. search needs)
+    (λ c. search needs) returns-2 (λ c. search needs) (λ c. search needs) returns-3)

@@ -10,24 +10,6 @@ use Rattle.body.proofs.Turning.{added-short, label-room, label-taken}
 use Rattle.body.proofs.turns.label_turn.Statement.{statement}
 use Rattle.body.proofs.turns.label_turn.Tie as tie
 
-parse-label-requires : tie.Need-parse-label-requires
-parse-label-requires c κs = search needs
-
-enum-known-e : tie.Need-enum-known-e
-enum-known-e c = search needs
-
-enum-known-label : tie.Need-enum-known-label
-enum-known-label c = search needs
-
-lacks-ret-requires : tie.Need-lacks-ret-requires
-lacks-ret-requires c κs = search needs
-
-add-ret-requires : tie.Need-add-ret-requires
-add-ret-requires c κs = search needs
-
-record-of-requires : tie.Need-record-of-requires
-record-of-requires c κs = search needs
-
 put-record-requires : tie.Need-put-record-requires
 put-record-requires c κs =
     let back8 = c .before .before .before .before .before .before .before .before in
@@ -116,20 +98,11 @@ add-t28 c =
     let room = label-room ts (a .void) s l next (now (a .labels)) (pre .0 .within) few q (pre .0 .items-few) in
     omega (arith, room .1)
 
-same-length : tie.Need-same-length
-same-length c = search needs
-
 returns : tie.Need-returns
 returns c =
     let parse-label = c .before .before .before .parse-label in
     let e = c .before .e in
     sym (parse-label .ensures) ∙ e .given .1
-
-same-length-2 : tie.Need-same-length-2
-same-length-2 c = search needs
-
-same-length-3 : tie.Need-same-length-3
-same-length-3 c = search needs
 
 returns-2 : tie.Need-returns-2
 returns-2 c =
@@ -157,20 +130,6 @@ returns-2 c =
 pub label-turn-spec : {M : Type 1} → statement M
 label-turn-spec =
     tie.close
-    (tie.spec
-    parse-label-requires
-    enum-known-e
-    enum-known-label
-    lacks-ret-requires
-    add-ret-requires
-    record-of-requires
-    put-record-requires
-    mul-labels
-    slice-write-labels
-    add-t26
-    add-t28
-    same-length
-    returns
-    same-length-2
-    same-length-3
-    returns-2)
+    (tie.spec (λ c κs. search needs) (λ c. search needs) (λ c. search needs) (λ c κs. search needs)
+    (λ c κs. search needs) (λ c κs. search needs) put-record-requires mul-labels slice-write-labels add-t26 add-t28
+    (λ c. search needs) returns (λ c. search needs) (λ c. search needs) returns-2)

@@ -4,21 +4,6 @@ use borrow.Author.Needs.{needs}
 use Rattle.body.proofs.turns.refuse.Statement.{statement}
 use Rattle.body.proofs.turns.refuse.Tie as tie
 
-enum-known-read : tie.Need-enum-known-read
-enum-known-read c = search needs
-
-enum-known-read-2 : tie.Need-enum-known-read-2
-enum-known-read-2 c = search needs
-
-cast-refuse : tie.Need-cast-refuse
-cast-refuse c = search needs
-
-refuse-requires : tie.Need-refuse-requires
-refuse-requires c κs = search needs
-
-returns : tie.Need-returns
-returns c = search needs
-
 returns-2 : tie.Need-returns-2
 returns-2 c =
     let refuse = c .refuse in
@@ -28,4 +13,5 @@ returns-2 c =
 pub refuse-spec : {M : Type 1} → statement M
 refuse-spec =
     tie.close
-    (tie.spec enum-known-read enum-known-read-2 cast-refuse refuse-requires returns returns-2)
+    (tie.spec (λ c. search needs) (λ c. search needs) (λ c. search needs) (λ c κs. search needs) (λ c. search needs)
+    returns-2)

@@ -8,21 +8,6 @@ use Rattle.body.proofs.Turning.{body-ended, label-turned, item-turned}
 use Rattle.body.proofs.turns.turn.Statement.{statement}
 use Rattle.body.proofs.turns.turn.Tie as tie
 
-token-at-requires : tie.Need-token-at-requires
-token-at-requires c κs = search needs
-
-closes-body-requires : tie.Need-closes-body-requires
-closes-body-requires c κs = search needs
-
-lacks-ret-requires : tie.Need-lacks-ret-requires
-lacks-ret-requires c κs = search needs
-
-add-ret-requires : tie.Need-add-ret-requires
-add-ret-requires c κs = search needs
-
-same-length : tie.Need-same-length
-same-length c = search needs
-
 returns : tie.Need-returns
 returns c =
     let back8 = c .before .before .before .before .before .before .before .before in
@@ -42,15 +27,6 @@ returns c =
     (rw (token-at .ensures) refl) (rw (lacks-ret .ensures) at (add-ret .ensures .0)) refl refl
     (rw (lacks-ret .ensures) at (add-ret .ensures .1))
 
-label-turn-requires : tie.Need-label-turn-requires
-label-turn-requires c κs = search needs
-
-same-length-2 : tie.Need-same-length-2
-same-length-2 c = search needs
-
-same-length-3 : tie.Need-same-length-3
-same-length-3 c = search needs
-
 returns-2 : tie.Need-returns-2
 returns-2 c =
     let back8 = c .before .before .before .before .before .before .before .before in
@@ -69,15 +45,6 @@ returns-2 c =
     label-turned ts (a .void) s (now (a .items)) (label-turn .last .1 .1 .1 .0) (now (a .labels)) k
     (pre .0 .labels-few) (pre .3) (label-turn .result) (now (a .arguments)) (label-turn .last .1 .1 .1 .1 .0) j
     (label-turn .ensures)
-
-item-turn-requires : tie.Need-item-turn-requires
-item-turn-requires c κs = search needs
-
-same-length-4 : tie.Need-same-length-4
-same-length-4 c = search needs
-
-same-length-5 : tie.Need-same-length-5
-same-length-5 c = search needs
 
 returns-3 : tie.Need-returns-3
 returns-3 c =
@@ -101,18 +68,6 @@ returns-3 c =
 pub turn-spec : {M : Type 1} → statement M
 turn-spec =
     tie.close
-    (tie.spec
-    token-at-requires
-    closes-body-requires
-    lacks-ret-requires
-    add-ret-requires
-    same-length
-    returns
-    label-turn-requires
-    same-length-2
-    same-length-3
-    returns-2
-    item-turn-requires
-    same-length-4
-    same-length-5
-    returns-3)
+    (tie.spec (λ c κs. search needs) (λ c κs. search needs) (λ c κs. search needs) (λ c κs. search needs)
+    (λ c. search needs) returns (λ c κs. search needs) (λ c. search needs) (λ c. search needs) returns-2
+    (λ c κs. search needs) (λ c. search needs) (λ c. search needs) returns-3)

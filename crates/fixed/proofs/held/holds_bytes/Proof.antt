@@ -12,28 +12,10 @@ use Rattle.fixed.proofs.Runs.{stored-first}
 use Rattle.fixed.proofs.held.holds_bytes.Statement.{statement}
 use Rattle.fixed.proofs.held.holds_bytes.Tie as tie
 
-load-requires : tie.Need-load-requires
-load-requires c κs = search needs
-
-wide-requires : tie.Need-wide-requires
-wide-requires c κs = search needs
-
-rest-of-requires : tie.Need-rest-of-requires
-rest-of-requires c κs = search needs
-
-slice-reshare-prefix-same-bytes : tie.Need-slice-reshare-prefix-same-bytes
-slice-reshare-prefix-same-bytes c = search needs
-
 slice-aggregate-same-bytes : tie.Need-slice-aggregate-same-bytes
 slice-aggregate-same-bytes c =
     let load = c .before .before .before .before .before .load in
     sym (length-take-le (load .result .count) (load .last .1 .1 .1 .0) (omega (arith, load .ensures .1, load .kept .1 .1 .1 .0)))
-
-same-bytes-requires : tie.Need-same-bytes-requires
-same-bytes-requires c κs = search needs
-
-same-length : tie.Need-same-length
-same-length c = search needs
 
 returns : tie.Need-returns
 unfolding holding
@@ -51,12 +33,5 @@ returns c =
 pub holds-bytes-spec : {M : Type 1} → statement M
 holds-bytes-spec =
     tie.close
-    (tie.spec
-    load-requires
-    wide-requires
-    rest-of-requires
-    slice-reshare-prefix-same-bytes
-    slice-aggregate-same-bytes
-    same-bytes-requires
-    same-length
-    returns)
+    (tie.spec (λ c κs. search needs) (λ c κs. search needs) (λ c κs. search needs) (λ c. search needs)
+    slice-aggregate-same-bytes (λ c κs. search needs) (λ c. search needs) returns)

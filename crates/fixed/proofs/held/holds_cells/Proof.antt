@@ -12,25 +12,10 @@ use Rattle.fixed.proofs.Runs.{stored-first}
 use Rattle.fixed.proofs.held.holds_cells.Statement.{statement}
 use Rattle.fixed.proofs.held.holds_cells.Tie as tie
 
-load-requires : tie.Need-load-requires
-load-requires c κs = search needs
-
-rest-of-requires : tie.Need-rest-of-requires
-rest-of-requires c κs = search needs
-
-slice-reshare-prefix-same-cells : tie.Need-slice-reshare-prefix-same-cells
-slice-reshare-prefix-same-cells c = search needs
-
 slice-aggregate-same-cells : tie.Need-slice-aggregate-same-cells
 slice-aggregate-same-cells c =
     let load = c .before .before .before .before .load in
     sym (length-take-le (load .result .count) (load .last .1 .1 .1 .0) (omega (arith, load .ensures .1, load .kept .1 .1 .1 .0)))
-
-same-cells-requires : tie.Need-same-cells-requires
-same-cells-requires c κs = search needs
-
-same-length : tie.Need-same-length
-same-length c = search needs
 
 returns : tie.Need-returns
 unfolding holding
@@ -47,11 +32,5 @@ returns c =
 pub holds-cells-spec : {M : Type 1} → statement M
 holds-cells-spec =
     tie.close
-    (tie.spec
-    load-requires
-    rest-of-requires
-    slice-reshare-prefix-same-cells
-    slice-aggregate-same-cells
-    same-cells-requires
-    same-length
-    returns)
+    (tie.spec (λ c κs. search needs) (λ c κs. search needs) (λ c. search needs) slice-aggregate-same-cells
+    (λ c κs. search needs) (λ c. search needs) returns)

@@ -8,12 +8,6 @@ use Rattle.fixed.proofs.Filled.{getD-any}
 use Rattle.fixed.proofs.held.is_at.Statement.{statement}
 use Rattle.fixed.proofs.held.is_at.Tie as tie
 
-mul-result : tie.Need-mul-result
-mul-result c = search needs
-
-shared-slice-read-result : tie.Need-shared-slice-read-result
-shared-slice-read-result c = search needs
-
 returns : tie.Need-returns
 returns c =
     let a = c .before .before .args in
@@ -27,4 +21,6 @@ returns-2 c =
     ap (eqb (a .cell)) (sym (List·getD-eq-default (now (a .list)) (a .rest) (if1 .left)))
 
 pub is-at-spec : {M : Type 1} → statement M
-is-at-spec = tie.close (tie.spec mul-result shared-slice-read-result returns returns-2)
+is-at-spec =
+    tie.close
+    (tie.spec (λ c. search needs) (λ c. search needs) returns returns-2)

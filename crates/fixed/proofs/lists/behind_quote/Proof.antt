@@ -21,18 +21,12 @@ returns-2 c =
     let if1 = c .before .if1 in
     rw (not-false (a .quoted) (if1 .left)) (omega arith)
 
-sub-if3 : tie.Need-sub-if3
-sub-if3 c = search needs
-
 returns-3 : tie.Need-returns-3
 unfolding behindQuote pick
 returns-3 c =
     let a = c .before .before .before .args in
     let if1 = c .before .before .if1 in
     rw (not-false (a .quoted) (if1 .left)) (omega arith)
-
-add-result : tie.Need-add-result
-add-result c = search needs
 
 returns-4 : tie.Need-returns-4
 unfolding behindQuote pick
@@ -42,4 +36,6 @@ returns-4 c =
     rw (not-false (a .quoted) (if1 .left)) (omega arith)
 
 pub behind-quote-spec : {M : Type 1} → statement M
-behind-quote-spec = tie.close (tie.spec returns returns-2 sub-if3 returns-3 add-result returns-4)
+behind-quote-spec =
+    tie.close
+    (tie.spec returns returns-2 (λ c. search needs) returns-3 (λ c. search needs) returns-4)

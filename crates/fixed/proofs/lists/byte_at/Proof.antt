@@ -13,12 +13,6 @@ returns c =
     let if1 = c .if1 in
     rw (le-leb _ _ (if1 .taken))
 
-shared-slice-read-b : tie.Need-shared-slice-read-b
-shared-slice-read-b c = search needs
-
-escaped-at-requires : tie.Need-escaped-at-requires
-escaped-at-requires c κs = search needs
-
 returns-2 : tie.Need-returns-2
 unfolding byteAt pick
 returns-2 c =
@@ -30,9 +24,6 @@ returns-2 c =
 cast-t8 : tie.Need-cast-t8
 cast-t8 c = omega (arith, c .before .shared-slice-known2 .given (c .before .before .before .before .args .at))
 
-add-t9 : tie.Need-add-t9
-add-t9 c = search needs
-
 returns-3 : tie.Need-returns-3
 unfolding byteAt pick
 returns-3 c =
@@ -43,4 +34,4 @@ returns-3 c =
 pub byte-at-spec : {M : Type 1} → statement M
 byte-at-spec =
     tie.close
-    (tie.spec returns shared-slice-read-b escaped-at-requires returns-2 cast-t8 add-t9 returns-3)
+    (tie.spec returns (λ c. search needs) (λ c κs. search needs) returns-2 cast-t8 (λ c. search needs) returns-3)

@@ -18,8 +18,7 @@ add-result c =
     let width : c .args .width ≤ 4294967295 = omega arith in
     omega (arith, mul-le-mul more width)
 
-returns : tie.Need-returns
-returns c = search needs
-
 pub has-room-spec : {M : Type 1} → statement M
-has-room-spec = tie.close (tie.spec mul-result add-result returns)
+has-room-spec =
+    tie.close
+    (tie.spec mul-result add-result (λ c. search needs))

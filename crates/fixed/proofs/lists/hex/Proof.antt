@@ -10,9 +10,6 @@ use native.Mathlib.Nat.{mod-lt}
 use Rattle.fixed.proofs.lists.hex.Statement.{statement}
 use Rattle.fixed.proofs.lists.hex.Tie as tie
 
-is-digit-requires : tie.Need-is-digit-requires
-is-digit-requires c κs = search needs
-
 sub-result : tie.Need-sub-result
 sub-result c = omega (arith, digit-low _ (sym (c .before .is-digit .ensures) ∙ c .if1 .taken))
 
@@ -24,9 +21,6 @@ returns c =
     let digit = sym (is-digit .ensures) ∙ if1 .taken in
     (rw digit, omega (arith, digit-high _ digit))
 
-add-result : tie.Need-add-result
-add-result c = search needs
-
 returns-2 : tie.Need-returns-2
 unfolding hexOf pick
 returns-2 c =
@@ -37,4 +31,6 @@ returns-2 c =
     (rw digit, omega (arith, mod-lt (a .b + 9) {m = 16} (omega arith)))
 
 pub hex-spec : {M : Type 1} → statement M
-hex-spec = tie.close (tie.spec is-digit-requires sub-result returns add-result returns-2)
+hex-spec =
+    tie.close
+    (tie.spec (λ c κs. search needs) sub-result returns (λ c. search needs) returns-2)

@@ -8,21 +8,6 @@ use Rattle.fixed.proofs.Runs.{without-room, with-room}
 use Rattle.fixed.proofs.lists.load_run.Statement.{statement}
 use Rattle.fixed.proofs.lists.load_run.Tie as tie
 
-number-at-requires : tie.Need-number-at-requires
-number-at-requires c κs = search needs
-
-number-at-requires-2 : tie.Need-number-at-requires-2
-number-at-requires-2 c κs = search needs
-
-times-more-requires : tie.Need-times-more-requires
-times-more-requires c κs = search needs
-
-sub-has-room : tie.Need-sub-has-room
-sub-has-room c = search needs
-
-has-room-requires : tie.Need-has-room-requires
-has-room-requires c κs = search needs
-
 returns : tie.Need-returns
 returns c =
     let a = c .before .before .before .before .before .before .before .args in
@@ -34,9 +19,6 @@ returns c =
     without-room (a .quoted) (now (a .«data»)) (now (a .cells)) (a .from) (a .start) (number-at .result) (number-at2 .result)
     (times-more .result) (number-at .ensures) (number-at2 .ensures) (times-more .ensures) _
     (sym (has-room .ensures) ∙ not-true (has-room .result) (if1 .taken)) refl refl
-
-behind-quote-requires : tie.Need-behind-quote-requires
-behind-quote-requires c κs = search needs
 
 load-values-requires : tie.Need-load-values-requires
 load-values-requires c κs =
@@ -53,9 +35,6 @@ load-rows-requires c κs =
     let room = sym (has-room .ensures) ∙ not-false (has-room .result) (if1 .left) in
     let size = load-values .kept .1 .1 .1 .0 in
     omega (arith, leb-true)
-
-same-length : tie.Need-same-length
-same-length c = search needs
 
 returns-2 : tie.Need-returns-2
 returns-2 c =
@@ -78,15 +57,6 @@ returns-2 c =
 pub load-run-spec : {M : Type 1} → statement M
 load-run-spec =
     tie.close
-    (tie.spec
-    number-at-requires
-    number-at-requires-2
-    times-more-requires
-    sub-has-room
-    has-room-requires
-    returns
-    behind-quote-requires
-    load-values-requires
-    load-rows-requires
-    same-length
+    (tie.spec (λ c κs. search needs) (λ c κs. search needs) (λ c κs. search needs) (λ c. search needs)
+    (λ c κs. search needs) returns (λ c κs. search needs) load-values-requires load-rows-requires (λ c. search needs)
     returns-2)

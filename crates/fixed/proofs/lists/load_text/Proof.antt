@@ -11,25 +11,10 @@ use Rattle.fixed.proofs.Runs.{stored-first}
 use Rattle.fixed.proofs.lists.load_text.Statement.{statement}
 use Rattle.fixed.proofs.lists.load_text.Tie as tie
 
-load-requires : tie.Need-load-requires
-load-requires c κs = search needs
-
-slice-reshare-prefix-narrow : tie.Need-slice-reshare-prefix-narrow
-slice-reshare-prefix-narrow c = search needs
-
 slice-aggregate-narrow : tie.Need-slice-aggregate-narrow
 slice-aggregate-narrow c =
     let load = c .before .before .before .load in
     sym (length-take-le (load .result .count) (load .last .1 .1 .1 .0) (omega (arith, load .ensures .1, load .kept .1 .1 .1 .0)))
-
-narrow-requires : tie.Need-narrow-requires
-narrow-requires c κs = search needs
-
-same-length : tie.Need-same-length
-same-length c = search needs
-
-same-length-2 : tie.Need-same-length-2
-same-length-2 c = search needs
 
 returns : tie.Need-returns
 returns c =
@@ -44,11 +29,5 @@ returns c =
 pub load-text-spec : {M : Type 1} → statement M
 load-text-spec =
     tie.close
-    (tie.spec
-    load-requires
-    slice-reshare-prefix-narrow
-    slice-aggregate-narrow
-    narrow-requires
-    same-length
-    same-length-2
-    returns)
+    (tie.spec (λ c κs. search needs) (λ c. search needs) slice-aggregate-narrow (λ c κs. search needs)
+    (λ c. search needs) (λ c. search needs) returns)

@@ -18,9 +18,6 @@ returns-2 c =
     let if1 = c .before .if1 in
     rw (ne-eqb _ _ (if1 .left)) (omega arith)
 
-sub-result : tie.Need-sub-result
-sub-result c = search needs
-
 returns-3 : tie.Need-returns-3
 unfolding pick
 returns-3 c =
@@ -28,4 +25,6 @@ returns-3 c =
     rw (ne-eqb _ _ (if1 .left))
 
 pub times-more-spec : {M : Type 1} → statement M
-times-more-spec = tie.close (tie.spec returns returns-2 sub-result returns-3)
+times-more-spec =
+    tie.close
+    (tie.spec returns returns-2 (λ c. search needs) returns-3)

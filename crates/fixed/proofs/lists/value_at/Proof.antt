@@ -5,18 +5,12 @@ use Rattle.fixed.specs.Lists.{valueAt}
 use Rattle.fixed.proofs.lists.value_at.Statement.{statement}
 use Rattle.fixed.proofs.lists.value_at.Tie as tie
 
-byte-at-requires : tie.Need-byte-at-requires
-byte-at-requires c κs = search needs
-
 returns : tie.Need-returns
 unfolding valueAt pick
 returns c =
     let if1 = c .before .if1 in
     let byte-at = c .byte-at in
     rw (if1 .taken) (byte-at .ensures)
-
-number-at-requires : tie.Need-number-at-requires
-number-at-requires c κs = search needs
 
 returns-2 : tie.Need-returns-2
 unfolding valueAt pick
@@ -26,4 +20,6 @@ returns-2 c =
     rw (if1 .left) (number-at .ensures)
 
 pub value-at-spec : {M : Type 1} → statement M
-value-at-spec = tie.close (tie.spec byte-at-requires returns number-at-requires returns-2)
+value-at-spec =
+    tie.close
+    (tie.spec (λ c κs. search needs) returns (λ c κs. search needs) returns-2)

@@ -1,24 +1,15 @@
 use native.Mathlib.Nat.{sub-zero}
-use Rattle.functions.proofs.Turns.{known-more, known-none, types-more, types-none}
-use Rattle.functions.specs.Rows.{knownFrom, typesAt, formalsAt}
-use Rattle.functions.specs.Known.{expectedType, typeNumber}
+use Rattle.functions.proofs.Turns.{types-more, types-none}
+use Rattle.functions.specs.Rows.{typesAt, formalsAt}
 use Rattle.utils.specs.Bytes.{pick, sameBytes}
 use borrow.Author.Needs.{needs}
-use borrow.Author.Tests.{lt-ltb, le-ltb, le-leb, lt-leb, eq-eqb, ne-eqb}
+use borrow.Author.Tests.{eq-eqb, ne-eqb}
 use native.Mathlib.Omega.{arith}
-use native.Mathlib.Numerals.{add-one}
-use Prim.Native.Nat.{ℕ, suc, _+_, _-_, _*_, _≤_, _<_}
-use mathlib.Core.Path.{_≡_, refl, sym, ap, _∙_}
-use mathlib.Core.Logic.{⊎-elim}
-use mathlib.Core.List.{List, [], _∷_, _++_}
-use mathlib.Core.Bool.{Bool, true, false}
-use lib.ListN.{length, drop, take, getD}
-use lib.Seq.{drop-cons}
+use Prim.Native.Nat.{_+_, _-_, _*_, _≤_}
+use mathlib.Core.Path.{_≡_}
 use denote.Ref.{now}
 use Rattle.functions.proofs.known.same_formals.Statement.{statement}
 use Rattle.functions.proofs.known.same_formals.Tie as tie
-use Rattle.functions.proofs.known.same_formals.Reads as reads
-use Rattle.functions.proofs.known.same_formals.Lts as lts
 
 abbrev Inv-loop : tie.InvT-loop
 Inv-loop rows a b count k₀ i₀ j₀ k i j =
@@ -29,51 +20,39 @@ Inv-loop rows a b count k₀ i₀ j₀ k i j =
 abbrev μ-loop : tie.MeasureT-loop
 μ-loop rows a b count k₀ i₀ j₀ k i j = count - k
 
--- src/known.rt:17:22
 mul-i : tie.Need-mul-i Inv-loop μ-loop
 mul-i c = search needs
 
--- src/known.rt:17:17
 add-i : tie.Need-add-i Inv-loop μ-loop
 add-i c = search needs
 
--- src/known.rt:18:22
 mul-j : tie.Need-mul-j Inv-loop μ-loop
 mul-j c = search needs
 
--- src/known.rt:18:17
 add-j : tie.Need-add-j Inv-loop μ-loop
 add-j c = search needs
 
--- src/known.rt:19:5
 loop-holds : tie.Need-loop-holds Inv-loop μ-loop
 loop-holds c = (omega arith, omega arith, omega arith, rw sub-zero)
 
--- src/known.rt:20:17
 add-if1 : tie.Need-add-if1 Inv-loop μ-loop
 add-if1 c = search needs
 
--- src/known.rt:20:12
 mul-if1 : tie.Need-mul-if1 Inv-loop μ-loop
 mul-if1 c = search needs
 
--- src/known.rt:20:12
 shared-slice-read-if1 : tie.Need-shared-slice-read-if1 Inv-loop μ-loop
 shared-slice-read-if1 c = search needs
 
--- src/known.rt:20:32
 add-if1-2 : tie.Need-add-if1-2 Inv-loop μ-loop
 add-if1-2 c = search needs
 
--- src/known.rt:20:27
 mul-if1-2 : tie.Need-mul-if1-2 Inv-loop μ-loop
 mul-if1-2 c = search needs
 
--- src/known.rt:20:27
 shared-slice-read-if1-2 : tie.Need-shared-slice-read-if1-2 Inv-loop μ-loop
 shared-slice-read-if1-2 c = search needs
 
--- src/known.rt:21:13
 returns : tie.Need-returns Inv-loop μ-loop
 unfolding sameBytes pick
 returns c =
@@ -83,23 +62,18 @@ returns c =
     let if1 = c .if1 in
     rw (← loop .inv .3, types-more (now (a .rows)) (loop .i) (loop .k) (a .count) (loop-test .taken), types-more (now (a .rows)) (loop .j) (loop .k) (a .count) (loop-test .taken), ne-eqb _ _ (if1 .taken))
 
--- src/known.rt:23:9
 add-i-2 : tie.Need-add-i-2 Inv-loop μ-loop
 add-i-2 c = search needs
 
--- src/known.rt:24:9
 add-j-2 : tie.Need-add-j-2 Inv-loop μ-loop
 add-j-2 c = search needs
 
--- src/known.rt:25:9
 add-k : tie.Need-add-k Inv-loop μ-loop
 add-k c = search needs
 
--- src/known.rt:19:5
 loop-less : tie.Need-loop-less Inv-loop μ-loop
 loop-less c = search needs
 
--- src/known.rt:19:5
 loop-again : tie.Need-loop-again Inv-loop μ-loop
 unfolding sameBytes pick
 loop-again c =
@@ -109,7 +83,6 @@ loop-again c =
     let if1 = c .if1 in
     (omega arith, omega arith, omega arith, rw (← loop .inv .3, types-more (now (a .rows)) (loop .i) (loop .k) (a .count) (loop-test .taken), types-more (now (a .rows)) (loop .j) (loop .k) (a .count) (loop-test .taken), eq-eqb _ _ (if1 .left)))
 
--- src/known.rt:11:1
 returns-2 : tie.Need-returns-2 Inv-loop μ-loop
 unfolding sameBytes
 returns-2 c =

@@ -12,15 +12,6 @@ use Rattle.graph.proofs.Placing.{room-unmet, order-placed}
 use Rattle.graph.proofs.RPOWorklist.new.Statement.{statement}
 use Rattle.graph.proofs.RPOWorklist.new.Tie as tie
 
-at-most-256-requires : tie.Need-at-most-256-requires
-at-most-256-requires c κs = search needs
-
-walk-requires : tie.Need-walk-requires
-walk-requires c κs = search needs
-
-put-left-requires : tie.Need-put-left-requires
-put-left-requires c κs = search needs
-
 put-unmet-requires : tie.Need-put-unmet-requires
 put-unmet-requires c κs =
     let a = c .before .before .before .before .before .before .before .before .before .before .args in
@@ -51,4 +42,4 @@ returns c =
 pub new-spec : {M : Type 1} → statement M
 new-spec =
     tie.close
-    (tie.spec at-most-256-requires walk-requires put-left-requires put-unmet-requires returns)
+    (tie.spec (λ c κs. search needs) (λ c κs. search needs) (λ c κs. search needs) put-unmet-requires returns)

@@ -14,22 +14,12 @@ returns-2 : tie.Need-returns-2
 unfolding popped pick
 returns-2 c = rw (lt-ltb _ _ (c .before .if1 .left), le-ltb _ _ (c .if2 .taken))
 
-cast-i : tie.Need-cast-i
-cast-i c = search needs
-
-mul-t9 : tie.Need-mul-t9
-mul-t9 c = search needs
-
-element-copy-out-t12 : tie.Need-element-copy-out-t12
-element-copy-out-t12 c = search needs
-
-add-t12 : tie.Need-add-t12
-add-t12 c = search needs
-
 returns-3 : tie.Need-returns-3
 unfolding popped pick
 returns-3 c = rw (lt-ltb _ _ (c .before .before .if1 .left), lt-ltb _ _ (c .before .if2 .left))
 
 pub pop-spec : {M : Type 1} → statement M
 pop-spec =
-    tie.close (tie.spec returns returns-2 cast-i mul-t9 element-copy-out-t12 add-t12 returns-3)
+    tie.close
+    (tie.spec returns returns-2 (λ c. search needs) (λ c. search needs) (λ c. search needs) (λ c. search needs)
+    returns-3)

@@ -7,17 +7,11 @@ use Rattle.utils.specs.Bytes.{pick}
 use Rattle.graph.proofs.place.put_one.Statement.{statement}
 use Rattle.graph.proofs.place.put_one.Tie as tie
 
-mul-out : tie.Need-mul-out
-mul-out c = search needs
-
 element-write-out : tie.Need-element-write-out
 unfolding pick
 element-write-out c =
     let room = rw (eq-eqb _ _ (c .if1 .taken)) at (c .before .pre) in
     omega arith
-
-add-result : tie.Need-add-result
-add-result c = search needs
 
 returns : tie.Need-returns
 unfolding pick
@@ -28,4 +22,6 @@ unfolding pick
 returns-2 c = rw (ne-eqb _ _ (c .if1 .left)) (omega arith, refl)
 
 pub put-one-spec : {M : Type 1} → statement M
-put-one-spec = tie.close (tie.spec mul-out element-write-out add-result returns returns-2)
+put-one-spec =
+    tie.close
+    (tie.spec (λ c. search needs) element-write-out (λ c. search needs) returns returns-2)

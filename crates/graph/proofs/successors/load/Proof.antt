@@ -1,9 +1,8 @@
 -- Each turn stores one block's row, and leaves the others.
 use borrow.Author.Needs.{needs}
 use native.Mathlib.Omega.{arith}
-use Prim.Native.Nat.{ℕ, _-_, _≤_, _<_}
+use Prim.Native.Nat.{_-_, _≤_}
 use mathlib.Core.Path.{_≡_}
-use mathlib.Core.List.{List}
 use lib.ListN.{length, length-set}
 use denote.Ref.{now}
 use Rattle.graph.specs.Records.{Loaded}

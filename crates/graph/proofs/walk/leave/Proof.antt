@@ -8,15 +8,6 @@ use Rattle.graph.proofs.Placing.{drop-set}
 use Rattle.graph.proofs.walk.leave.Statement.{statement}
 use Rattle.graph.proofs.walk.leave.Tie as tie
 
-sub-k : tie.Need-sub-k
-sub-k c = search needs
-
-mul-left : tie.Need-mul-left
-mul-left c = search needs
-
-element-write-left : tie.Need-element-write-left
-element-write-left c = search needs
-
 returns : tie.Need-returns
 returns c =
     let left = c .args .left .now in
@@ -25,4 +16,6 @@ returns c =
     (omega arith, simp length-set (omega arith), rw k at (drop-set left (at - 1) (c .args .block .0) (omega arith)))
 
 pub leave-spec : {M : Type 1} → statement M
-leave-spec = tie.close (tie.spec sub-k mul-left element-write-left returns)
+leave-spec =
+    tie.close
+    (tie.spec (λ c. search needs) (λ c. search needs) (λ c. search needs) returns)

@@ -8,15 +8,6 @@ use Rattle.graph.specs.Frames.{pushOne}
 use Rattle.graph.proofs.walk.push.Statement.{statement}
 use Rattle.graph.proofs.walk.push.Tie as tie
 
-mul-processing : tie.Need-mul-processing
-mul-processing c = search needs
-
-element-write-processing : tie.Need-element-write-processing
-element-write-processing c = search needs
-
-add-result : tie.Need-add-result
-add-result c = search needs
-
 returns : tie.Need-returns
 unfolding pushOne pick
 returns c = rw (lt-ltb _ _ (c .if1 .taken)) (refl, omega arith)
@@ -27,4 +18,5 @@ returns-2 c = rw (le-ltb _ _ (c .if1 .left)) (refl, omega arith)
 
 pub push-spec : {M : Type 1} → statement M
 push-spec =
-    tie.close (tie.spec mul-processing element-write-processing add-result returns returns-2)
+    tie.close
+    (tie.spec (λ c. search needs) (λ c. search needs) (λ c. search needs) returns returns-2)

@@ -16,15 +16,6 @@ G s = rowOf (s .args .succs .now) (s .args .counts .now)
 abbrev A : tie.Start → State
 A s = state (s .args .met .now) (s .args .left .now) (s .args .processing .now) (s .args .top) (s .args .at)
 
-sub-t : tie.Need-sub-t
-sub-t c = search needs
-
-mul-current : tie.Need-mul-current
-mul-current c = search needs
-
-element-copy-out-current : tie.Need-element-copy-out-current
-element-copy-out-current c = search needs
-
 leave-requires : tie.Need-leave-requires
 leave-requires c κs =
     let s = c .before .before .before in (
@@ -39,28 +30,10 @@ returns c =
     turn-leave (G s) (s .args .n) (A s) (s .pre .0) (s .pre .1) (c .leave .last .0) (c .leave .result)
     (c .before .before .if1 .taken) (c .leave .ensures)
 
-cast-i : tie.Need-cast-i
-cast-i c = search needs
-
-element-copy-out-if2 : tie.Need-element-copy-out-if2
-element-copy-out-if2 c = search needs
-
 returns-2 : tie.Need-returns-2
 returns-2 c =
     let s = c .before .before .before .before in
     turn-old (G s) (s .args .n) (A s) (s .pre .0) (s .pre .1) (c .before .before .if1 .left) (c .if2 .taken)
-
-element-write-met : tie.Need-element-write-met
-element-write-met c = search needs
-
-add-processing : tie.Need-add-processing
-add-processing c = search needs
-
-mul-processing : tie.Need-mul-processing
-mul-processing c = search needs
-
-element-write-processing : tie.Need-element-write-processing
-element-write-processing c = search needs
 
 push-successors-requires : tie.Need-push-successors-requires
 push-successors-requires c κs =
@@ -81,18 +54,6 @@ returns-3 c =
 pub turn-spec : {M : Type 1} → statement M
 turn-spec =
     tie.close
-    (tie.spec
-    sub-t
-    mul-current
-    element-copy-out-current
-    leave-requires
-    returns
-    cast-i
-    element-copy-out-if2
-    returns-2
-    element-write-met
-    add-processing
-    mul-processing
-    element-write-processing
-    push-successors-requires
-    returns-3)
+    (tie.spec (λ c. search needs) (λ c. search needs) (λ c. search needs) leave-requires returns (λ c. search needs)
+    (λ c. search needs) returns-2 (λ c. search needs) (λ c. search needs) (λ c. search needs) (λ c. search needs)
+    push-successors-requires returns-3)

@@ -12,12 +12,6 @@ use Rattle.graph.proofs.Rows.{loaded-row}
 use Rattle.graph.proofs.walk.walk.Statement.{statement}
 use Rattle.graph.proofs.walk.walk.Tie as tie
 
-load-requires : tie.Need-load-requires
-load-requires c κs = search needs
-
-push-requires : tie.Need-push-requires
-push-requires c κs = search needs
-
 process-requires : tie.Need-process-requires
 process-requires c κs =
     let push = c .before .before .before .before .before .push in
@@ -44,4 +38,6 @@ returns c =
     (process .last .1 .1 .1 .0) (process .last .1 .1 .1 .1 .0) (process .result) same (process .ensures)
 
 pub walk-spec : {M : Type 1} → statement M
-walk-spec = tie.close (tie.spec load-requires push-requires process-requires returns)
+walk-spec =
+    tie.close
+    (tie.spec (λ c κs. search needs) (λ c κs. search needs) process-requires returns)

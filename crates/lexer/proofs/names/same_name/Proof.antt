@@ -14,9 +14,6 @@ returns c =
     let s = now (a .text) in
     sym (other-part s s (a .a) (a .m) (a .b) (a .n) (omega arith) (omega arith) (if1 .taken))
 
-same-bytes-requires : tie.Need-same-bytes-requires
-same-bytes-requires c κs = search needs
-
 returns-2 : tie.Need-returns-2
 returns-2 c =
     let if1 = c .before .if1 in
@@ -24,4 +21,6 @@ returns-2 c =
     rw (if1 .left) (same-bytes .ensures)
 
 pub same-name-spec : {M : Type 1} → statement M
-same-name-spec = tie.close (tie.spec returns same-bytes-requires returns-2)
+same-name-spec =
+    tie.close
+    (tie.spec returns (λ c κs. search needs) returns-2)

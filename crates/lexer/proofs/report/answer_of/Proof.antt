@@ -3,23 +3,11 @@ use borrow.Author.Needs.{needs}
 use Rattle.lexer.proofs.report.answer_of.Statement.{statement}
 use Rattle.lexer.proofs.report.answer_of.Tie as tie
 
-enum-known-refusal : tie.Need-enum-known-refusal
-enum-known-refusal c = search needs
-
-refuse-at-requires : tie.Need-refuse-at-requires
-refuse-at-requires c κs = search needs
-
-enum-known-refusal-2 : tie.Need-enum-known-refusal-2
-enum-known-refusal-2 c = search needs
-
 refuse-at-requires-2 : tie.Need-refuse-at-requires-2
 refuse-at-requires-2 c κs =
     let refusal2 = c .before .refusal2 in
     let pre = c .before .before .before .pre in
     rw (refusal2 .given .1) at (pre)
-
-enum-known-refusal-3 : tie.Need-enum-known-refusal-3
-enum-known-refusal-3 c = search needs
 
 refuse-at-requires-3 : tie.Need-refuse-at-requires-3
 refuse-at-requires-3 c κs =
@@ -27,23 +15,11 @@ refuse-at-requires-3 c κs =
     let pre = c .before .before .before .pre in
     rw (refusal3 .given .1) at (pre)
 
-enum-known-refusal-4 : tie.Need-enum-known-refusal-4
-enum-known-refusal-4 c = search needs
-
 refuse-at-requires-4 : tie.Need-refuse-at-requires-4
 refuse-at-requires-4 c κs =
     let refusal4 = c .before .refusal4 in
     let pre = c .before .before .before .pre in
     rw (refusal4 .given .1) at (pre)
-
-enum-told : tie.Need-enum-told
-enum-told c = search needs
-
-refuse-at-requires-5 : tie.Need-refuse-at-requires-5
-refuse-at-requires-5 c κs = search needs
-
-enum-known-refusal-5 : tie.Need-enum-known-refusal-5
-enum-known-refusal-5 c = search needs
 
 refuse-at-requires-6 : tie.Need-refuse-at-requires-6
 refuse-at-requires-6 c κs =
@@ -51,17 +27,11 @@ refuse-at-requires-6 c κs =
     let pre = c .before .before .before .pre in
     rw (refusal5 .given .1) at (pre)
 
-enum-known-refusal-6 : tie.Need-enum-known-refusal-6
-enum-known-refusal-6 c = search needs
-
 refuse-at-requires-7 : tie.Need-refuse-at-requires-7
 refuse-at-requires-7 c κs =
     let refusal6 = c .before .refusal6 in
     let pre = c .before .before .before .pre in
     rw (refusal6 .given .1) at (pre)
-
-enum-known-refusal-7 : tie.Need-enum-known-refusal-7
-enum-known-refusal-7 c = search needs
 
 refuse-at-requires-8 : tie.Need-refuse-at-requires-8
 refuse-at-requires-8 c κs =
@@ -120,28 +90,7 @@ returns-8 c =
 pub answer-of-spec : {M : Type 1} → statement M
 answer-of-spec =
     tie.close
-    (tie.spec
-    enum-known-refusal
-    refuse-at-requires
-    enum-known-refusal-2
-    refuse-at-requires-2
-    enum-known-refusal-3
-    refuse-at-requires-3
-    enum-known-refusal-4
-    refuse-at-requires-4
-    enum-told
-    refuse-at-requires-5
-    enum-known-refusal-5
-    refuse-at-requires-6
-    enum-known-refusal-6
-    refuse-at-requires-7
-    enum-known-refusal-7
-    refuse-at-requires-8
-    returns
-    returns-2
-    returns-3
-    returns-4
-    returns-5
-    returns-6
-    returns-7
-    returns-8)
+    (tie.spec (λ c. search needs) (λ c κs. search needs) (λ c. search needs) refuse-at-requires-2 (λ c. search needs)
+    refuse-at-requires-3 (λ c. search needs) refuse-at-requires-4 (λ c. search needs) (λ c κs. search needs)
+    (λ c. search needs) refuse-at-requires-6 (λ c. search needs) refuse-at-requires-7 (λ c. search needs)
+    refuse-at-requires-8 returns returns-2 returns-3 returns-4 returns-5 returns-6 returns-7 returns-8)

@@ -1,6 +1,5 @@
 -- `block_of` tests what `blockOf` tests.
 use borrow.Author.Tests.{lt-ltb, le-ltb}
-use Prim.Native.Nat.{_-_}
 use borrow.Author.Needs.{needs}
 use Rattle.utils.specs.Bytes.{pick}
 use Rattle.link.specs.Table.{blockOf}
@@ -13,15 +12,6 @@ returns c =
     let if1 = c .if1 in
     rw (lt-ltb _ _ (if1 .taken))
 
-add-k : tie.Need-add-k
-add-k c = search needs
-
-sub-k : tie.Need-sub-k
-sub-k c = search needs
-
-cast-k : tie.Need-cast-k
-cast-k c = search needs
-
 returns-2 : tie.Need-returns-2
 unfolding blockOf pick
 returns-2 c =
@@ -29,4 +19,6 @@ returns-2 c =
     rw (le-ltb _ _ (if1 .left))
 
 pub block-of-spec : {M : Type 1} → statement M
-block-of-spec = tie.close (tie.spec returns add-k sub-k cast-k returns-2)
+block-of-spec =
+    tie.close
+    (tie.spec returns (λ c. search needs) (λ c. search needs) (λ c. search needs) returns-2)

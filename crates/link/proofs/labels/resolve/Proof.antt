@@ -1,6 +1,5 @@
 -- By what the record's last two cells hold, as the definition.
 use borrow.Author.Tests.{eq-eqb, ne-eqb}
-use mathlib.Core.Path.{refl}
 use borrow.Author.Needs.{needs}
 use Rattle.utils.specs.Bytes.{pick}
 use Rattle.link.specs.Steps.{leadsBy, goesD}

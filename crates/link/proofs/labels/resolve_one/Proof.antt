@@ -1,21 +1,8 @@
 -- The label's block is what `get` finds.
-use Prim.Native.Nat.{_-_}
 use borrow.Author.Needs.{needs}
 use Rattle.link.specs.Steps.{thenFound, oneD}
 use Rattle.link.proofs.labels.resolve_one.Statement.{statement}
 use Rattle.link.proofs.labels.resolve_one.Tie as tie
-
-get-requires : tie.Need-get-requires
-get-requires c κs = search needs
-
-enum-known-to : tie.Need-enum-known-to
-enum-known-to c = search needs
-
-enum-told : tie.Need-enum-told
-enum-told c = search needs
-
-unknown-requires : tie.Need-unknown-requires
-unknown-requires c κs = search needs
 
 returns : tie.Need-returns
 unfolding oneD thenFound
@@ -34,4 +21,5 @@ returns-2 c =
 
 pub resolve-one-spec : {M : Type 1} → statement M
 resolve-one-spec =
-    tie.close (tie.spec get-requires enum-known-to enum-told unknown-requires returns returns-2)
+    tie.close
+    (tie.spec (λ c κs. search needs) (λ c. search needs) (λ c. search needs) (λ c κs. search needs) returns returns-2)

@@ -1,33 +1,8 @@
 -- The first label's block is looked for first, and only then the second's.
-use Prim.Native.Nat.{_-_}
 use borrow.Author.Needs.{needs}
 use Rattle.link.specs.Steps.{thenFound, twoD}
 use Rattle.link.proofs.labels.resolve_two.Statement.{statement}
 use Rattle.link.proofs.labels.resolve_two.Tie as tie
-
-get-requires : tie.Need-get-requires
-get-requires c κs = search needs
-
-enum-known-to : tie.Need-enum-known-to
-enum-known-to c = search needs
-
-get-requires-2 : tie.Need-get-requires-2
-get-requires-2 c κs = search needs
-
-enum-known-other : tie.Need-enum-known-other
-enum-known-other c = search needs
-
-enum-told : tie.Need-enum-told
-enum-told c = search needs
-
-unknown-requires : tie.Need-unknown-requires
-unknown-requires c κs = search needs
-
-enum-told-2 : tie.Need-enum-told-2
-enum-told-2 c = search needs
-
-unknown-requires-2 : tie.Need-unknown-requires-2
-unknown-requires-2 c κs = search needs
 
 returns : tie.Need-returns
 unfolding twoD thenFound
@@ -59,15 +34,5 @@ returns-3 c =
 pub resolve-two-spec : {M : Type 1} → statement M
 resolve-two-spec =
     tie.close
-    (tie.spec
-    get-requires
-    enum-known-to
-    get-requires-2
-    enum-known-other
-    enum-told
-    unknown-requires
-    enum-told-2
-    unknown-requires-2
-    returns
-    returns-2
-    returns-3)
+    (tie.spec (λ c κs. search needs) (λ c. search needs) (λ c κs. search needs) (λ c. search needs)
+    (λ c. search needs) (λ c κs. search needs) (λ c. search needs) (λ c κs. search needs) returns returns-2 returns-3)

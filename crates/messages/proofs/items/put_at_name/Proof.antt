@@ -8,18 +8,6 @@ use Rattle.messages.proofs.Puts.{one, then}
 use Rattle.messages.proofs.items.put_at_name.Statement.{statement}
 use Rattle.messages.proofs.items.put_at_name.Tie as tie
 
-slice-aggregate-put : tie.Need-slice-aggregate-put
-slice-aggregate-put c = search needs
-
-put-requires : tie.Need-put-requires
-put-requires c κs = search needs
-
-put-quoted-name-requires : tie.Need-put-quoted-name-requires
-put-quoted-name-requires c κs = search needs
-
-same-length : tie.Need-same-length
-same-length c = search needs
-
 returns : tie.Need-returns
 returns c =
     let a = c .before .before .before .before .before .before .before .before .before .before .before .before .args
@@ -33,4 +21,4 @@ returns c =
 pub put-at-name-spec : {M : Type 1} → statement M
 put-at-name-spec =
     tie.close
-    (tie.spec slice-aggregate-put put-requires put-quoted-name-requires same-length returns)
+    (tie.spec (λ c. search needs) (λ c κs. search needs) (λ c κs. search needs) (λ c. search needs) returns)

@@ -9,15 +9,6 @@ use Rattle.messages.proofs.Puts.{one, then, wider}
 use Rattle.messages.proofs.items.put_at_token.Statement.{statement}
 use Rattle.messages.proofs.items.put_at_token.Tie as tie
 
-slice-aggregate-put : tie.Need-slice-aggregate-put
-slice-aggregate-put c = search needs
-
-put-requires : tie.Need-put-requires
-put-requires c κs = search needs
-
-same-length : tie.Need-same-length
-same-length c = search needs
-
 returns : tie.Need-returns
 unfolding atToken pick
 returns c =
@@ -26,18 +17,6 @@ returns c =
     rw (eq-eqb _ _ (c .before .before .before .before .before .if1 .taken)) (wider (now (a .buf)) (a .at) (bytes
     "at end of file") (p .last .0) (p .result) 14 26 (omega arith) (one (now (a .buf)) (a .at) (bytes
     "at end of file") (p .last .0) (p .result) (p .ensures)))
-
-slice-aggregate-put-2 : tie.Need-slice-aggregate-put-2
-slice-aggregate-put-2 c = search needs
-
-put-requires-2 : tie.Need-put-requires-2
-put-requires-2 c κs = search needs
-
-put-quoted-shown-requires : tie.Need-put-quoted-shown-requires
-put-quoted-shown-requires c κs = search needs
-
-same-length-2 : tie.Need-same-length-2
-same-length-2 c = search needs
 
 returns-2 : tie.Need-returns-2
 unfolding atToken pick
@@ -53,13 +32,5 @@ returns-2 c =
 pub put-at-token-spec : {M : Type 1} → statement M
 put-at-token-spec =
     tie.close
-    (tie.spec
-    slice-aggregate-put
-    put-requires
-    same-length
-    returns
-    slice-aggregate-put-2
-    put-requires-2
-    put-quoted-shown-requires
-    same-length-2
-    returns-2)
+    (tie.spec (λ c. search needs) (λ c κs. search needs) (λ c. search needs) returns (λ c. search needs)
+    (λ c κs. search needs) (λ c κs. search needs) (λ c. search needs) returns-2)

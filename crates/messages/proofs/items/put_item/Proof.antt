@@ -9,12 +9,6 @@ use Rattle.messages.proofs.Puts.{nothing, wider}
 use Rattle.messages.proofs.items.put_item.Statement.{statement}
 use Rattle.messages.proofs.items.put_item.Tie as tie
 
-put-at-token-requires : tie.Need-put-at-token-requires
-put-at-token-requires c κs = search needs
-
-same-length : tie.Need-same-length
-same-length c = search needs
-
 returns : tie.Need-returns
 unfolding itemOf pick
 returns c =
@@ -22,12 +16,6 @@ returns c =
     let p = c .before .before .put-at-token in
     rw (lt-ltb _ _ (c .before .before .before .before .if1 .taken)) (wider (now (a .buf)) (a .at) (atToken (a .kind)
     (a .own) (a .integer)) (p .last .0) (p .result) 26 69 (omega arith) (p .ensures))
-
-put-at-name-requires : tie.Need-put-at-name-requires
-put-at-name-requires c κs = search needs
-
-same-length-2 : tie.Need-same-length-2
-same-length-2 c = search needs
 
 returns-2 : tie.Need-returns-2
 unfolding itemOf pick
@@ -47,12 +35,6 @@ returns-3 c =
     (nothing (now (c .before .before .before .before .before .before .args .buf)) (c .before .before .before .before
     .before .before .args .at) 69)
 
-put-at-name-requires-2 : tie.Need-put-at-name-requires-2
-put-at-name-requires-2 c κs = search needs
-
-same-length-3 : tie.Need-same-length-3
-same-length-3 c = search needs
-
 returns-4 : tie.Need-returns-4
 unfolding itemOf pick
 returns-4 c =
@@ -66,12 +48,6 @@ returns-4 c =
           .left),
       lt-ltb _ _ (c .before .before .before .before .if4 .taken),
     ) (p .ensures)
-
-put-at-token-requires-2 : tie.Need-put-at-token-requires-2
-put-at-token-requires-2 c κs = search needs
-
-same-length-4 : tie.Need-same-length-4
-same-length-4 c = search needs
 
 returns-5 : tie.Need-returns-5
 unfolding itemOf pick
@@ -108,18 +84,6 @@ returns-6 c =
 pub put-item-spec : {M : Type 1} → statement M
 put-item-spec =
     tie.close
-    (tie.spec
-    put-at-token-requires
-    same-length
-    returns
-    put-at-name-requires
-    same-length-2
-    returns-2
-    returns-3
-    put-at-name-requires-2
-    same-length-3
-    returns-4
-    put-at-token-requires-2
-    same-length-4
-    returns-5
-    returns-6)
+    (tie.spec (λ c κs. search needs) (λ c. search needs) returns (λ c κs. search needs) (λ c. search needs) returns-2
+    returns-3 (λ c κs. search needs) (λ c. search needs) returns-4 (λ c κs. search needs) (λ c. search needs)
+    returns-5 returns-6)

@@ -7,18 +7,6 @@ use Rattle.messages.proofs.Puts.{one, then}
 use Rattle.messages.proofs.texts.put_expected.Statement.{statement}
 use Rattle.messages.proofs.texts.put_expected.Tie as tie
 
-put-quoted-shown-requires : tie.Need-put-quoted-shown-requires
-put-quoted-shown-requires c κs = search needs
-
-slice-aggregate-put : tie.Need-slice-aggregate-put
-slice-aggregate-put c = search needs
-
-put-requires : tie.Need-put-requires
-put-requires c κs = search needs
-
-same-length : tie.Need-same-length
-same-length c = search needs
-
 returns : tie.Need-returns
 returns c =
     let a = c .before .before .before .before .before .before .before .before .before .before .args in
@@ -31,4 +19,4 @@ returns c =
 pub put-expected-spec : {M : Type 1} → statement M
 put-expected-spec =
     tie.close
-    (tie.spec put-quoted-shown-requires slice-aggregate-put put-requires same-length returns)
+    (tie.spec (λ c κs. search needs) (λ c. search needs) (λ c κs. search needs) (λ c. search needs) returns)

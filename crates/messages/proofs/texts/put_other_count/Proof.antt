@@ -8,21 +8,6 @@ use Rattle.messages.proofs.Puts.{one, then}
 use Rattle.messages.proofs.texts.put_other_count.Statement.{statement}
 use Rattle.messages.proofs.texts.put_other_count.Tie as tie
 
-put-decimal-requires : tie.Need-put-decimal-requires
-put-decimal-requires c κs = search needs
-
-slice-aggregate-put : tie.Need-slice-aggregate-put
-slice-aggregate-put c = search needs
-
-put-requires : tie.Need-put-requires
-put-requires c κs = search needs
-
-put-decimal-requires-2 : tie.Need-put-decimal-requires-2
-put-decimal-requires-2 c κs = search needs
-
-same-length : tie.Need-same-length
-same-length c = search needs
-
 returns : tie.Need-returns
 returns c =
     let a = c .before .before .before .before .before .before .before .before .before .before .before .before
@@ -41,10 +26,5 @@ returns c =
 pub put-other-count-spec : {M : Type 1} → statement M
 put-other-count-spec =
     tie.close
-    (tie.spec
-    put-decimal-requires
-    slice-aggregate-put
-    put-requires
-    put-decimal-requires-2
-    same-length
-    returns)
+    (tie.spec (λ c κs. search needs) (λ c. search needs) (λ c κs. search needs) (λ c κs. search needs)
+    (λ c. search needs) returns)

@@ -8,27 +8,6 @@ use Rattle.messages.proofs.Puts.{one, then}
 use Rattle.messages.proofs.texts.put_other_type.Statement.{statement}
 use Rattle.messages.proofs.texts.put_other_type.Tie as tie
 
-put-quoted-type-requires : tie.Need-put-quoted-type-requires
-put-quoted-type-requires c κs = search needs
-
-slice-aggregate-put : tie.Need-slice-aggregate-put
-slice-aggregate-put c = search needs
-
-put-requires : tie.Need-put-requires
-put-requires c κs = search needs
-
-put-quoted-type-requires-2 : tie.Need-put-quoted-type-requires-2
-put-quoted-type-requires-2 c κs = search needs
-
-slice-aggregate-put-2 : tie.Need-slice-aggregate-put-2
-slice-aggregate-put-2 c = search needs
-
-put-requires-2 : tie.Need-put-requires-2
-put-requires-2 c κs = search needs
-
-same-length : tie.Need-same-length
-same-length c = search needs
-
 returns : tie.Need-returns
 returns c =
     let a = c .before .before .before .before .before .before .before .before .before .before .before .before
@@ -52,12 +31,5 @@ returns c =
 pub put-other-type-spec : {M : Type 1} → statement M
 put-other-type-spec =
     tie.close
-    (tie.spec
-    put-quoted-type-requires
-    slice-aggregate-put
-    put-requires
-    put-quoted-type-requires-2
-    slice-aggregate-put-2
-    put-requires-2
-    same-length
-    returns)
+    (tie.spec (λ c κs. search needs) (λ c. search needs) (λ c κs. search needs) (λ c κs. search needs)
+    (λ c. search needs) (λ c κs. search needs) (λ c. search needs) returns)

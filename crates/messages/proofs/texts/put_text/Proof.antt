@@ -9,27 +9,6 @@ use Rattle.messages.proofs.Puts.{wider}
 use Rattle.messages.proofs.texts.put_text.Statement.{statement}
 use Rattle.messages.proofs.texts.put_text.Tie as tie
 
-put-expected-requires : tie.Need-put-expected-requires
-put-expected-requires c κs = search needs
-
-put-missing-requires : tie.Need-put-missing-requires
-put-missing-requires c κs = search needs
-
-put-unexpected-requires : tie.Need-put-unexpected-requires
-put-unexpected-requires c κs = search needs
-
-put-other-type-requires : tie.Need-put-other-type-requires
-put-other-type-requires c κs = search needs
-
-put-other-count-requires : tie.Need-put-other-count-requires
-put-other-count-requires c κs = search needs
-
-put-fixed-requires : tie.Need-put-fixed-requires
-put-fixed-requires c κs = search needs
-
-same-length : tie.Need-same-length
-same-length c = search needs
-
 returns : tie.Need-returns
 unfolding textOf pick
 returns c =
@@ -38,18 +17,12 @@ returns c =
     rw (c .before .before .before .before .match .keys1) (wider (now (a .buf)) (a .at) (expected (a .wanted)) (p
     .last .0) (p .result) 33 91 (omega arith) (p .ensures))
 
-same-length-2 : tie.Need-same-length-2
-same-length-2 c = search needs
-
 returns-2 : tie.Need-returns-2
 unfolding textOf pick
 returns-2 c =
     let a = c .before .before .before .before .before .before .before .before .args in
     let p = c .before .before .put-missing in
     rw (c .before .before .before .before .match .keys2) (p .ensures)
-
-same-length-3 : tie.Need-same-length-3
-same-length-3 c = search needs
 
 returns-3 : tie.Need-returns-3
 unfolding textOf pick
@@ -59,9 +32,6 @@ returns-3 c =
     rw (c .before .before .before .before .match .keys3) (wider (now (a .buf)) (a .at) (unexpected (a .found) (a
     .wanted)) (p .last .0) (p .result) 54 91 (omega arith) (p .ensures))
 
-same-length-4 : tie.Need-same-length-4
-same-length-4 c = search needs
-
 returns-4 : tie.Need-returns-4
 unfolding textOf pick
 returns-4 c =
@@ -70,9 +40,6 @@ returns-4 c =
     rw (c .before .before .before .before .match .keys4) (wider (now (a .buf)) (a .at) (otherType (a .wanted) (a
     .found)) (p .last .0) (p .result) 48 91 (omega arith) (p .ensures))
 
-same-length-5 : tie.Need-same-length-5
-same-length-5 c = search needs
-
 returns-5 : tie.Need-returns-5
 unfolding textOf pick
 returns-5 c =
@@ -80,9 +47,6 @@ returns-5 c =
     let p = c .before .before .put-other-count in
     rw (c .before .before .before .before .match .keys5) (wider (now (a .buf)) (a .at) (otherCount (a .wanted) (a
     .found)) (p .last .0) (p .result) 45 91 (omega arith) (p .ensures))
-
-same-length-6 : tie.Need-same-length-6
-same-length-6 c = search needs
 
 returns-6 : tie.Need-returns-6
 unfolding textOf pick
@@ -103,22 +67,7 @@ returns-6 c =
 pub put-text-spec : {M : Type 1} → statement M
 put-text-spec =
     tie.close
-    (tie.spec
-    put-expected-requires
-    put-missing-requires
-    put-unexpected-requires
-    put-other-type-requires
-    put-other-count-requires
-    put-fixed-requires
-    same-length
-    returns
-    same-length-2
-    returns-2
-    same-length-3
-    returns-3
-    same-length-4
-    returns-4
-    same-length-5
-    returns-5
-    same-length-6
+    (tie.spec (λ c κs. search needs) (λ c κs. search needs) (λ c κs. search needs) (λ c κs. search needs)
+    (λ c κs. search needs) (λ c κs. search needs) (λ c. search needs) returns (λ c. search needs) returns-2
+    (λ c. search needs) returns-3 (λ c. search needs) returns-4 (λ c. search needs) returns-5 (λ c. search needs)
     returns-6)

@@ -8,33 +8,6 @@ use Rattle.messages.proofs.Puts.{one, then}
 use Rattle.messages.proofs.texts.put_unexpected.Statement.{statement}
 use Rattle.messages.proofs.texts.put_unexpected.Tie as tie
 
-slice-aggregate-put : tie.Need-slice-aggregate-put
-slice-aggregate-put c = search needs
-
-put-requires : tie.Need-put-requires
-put-requires c κs = search needs
-
-put-quoted-type-requires : tie.Need-put-quoted-type-requires
-put-quoted-type-requires c κs = search needs
-
-slice-aggregate-put-2 : tie.Need-slice-aggregate-put-2
-slice-aggregate-put-2 c = search needs
-
-put-requires-2 : tie.Need-put-requires-2
-put-requires-2 c κs = search needs
-
-put-quoted-type-requires-2 : tie.Need-put-quoted-type-requires-2
-put-quoted-type-requires-2 c κs = search needs
-
-slice-aggregate-put-3 : tie.Need-slice-aggregate-put-3
-slice-aggregate-put-3 c = search needs
-
-put-requires-3 : tie.Need-put-requires-3
-put-requires-3 c κs = search needs
-
-same-length : tie.Need-same-length
-same-length c = search needs
-
 returns : tie.Need-returns
 returns c =
     let a = c .before .before .before .before .before .before .before .before .before .before .before .before
@@ -63,14 +36,6 @@ returns c =
 pub put-unexpected-spec : {M : Type 1} → statement M
 put-unexpected-spec =
     tie.close
-    (tie.spec
-    slice-aggregate-put
-    put-requires
-    put-quoted-type-requires
-    slice-aggregate-put-2
-    put-requires-2
-    put-quoted-type-requires-2
-    slice-aggregate-put-3
-    put-requires-3
-    same-length
+    (tie.spec (λ c. search needs) (λ c κs. search needs) (λ c κs. search needs) (λ c. search needs)
+    (λ c κs. search needs) (λ c κs. search needs) (λ c. search needs) (λ c κs. search needs) (λ c. search needs)
     returns)

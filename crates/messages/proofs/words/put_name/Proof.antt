@@ -8,17 +8,11 @@ use Rattle.messages.proofs.Puts.{one, wider}
 use Rattle.messages.proofs.words.put_name.Statement.{statement}
 use Rattle.messages.proofs.words.put_name.Tie as tie
 
-get-name-requires : tie.Need-get-name-requires
-get-name-requires c κs = search needs
-
 put-requires : tie.Need-put-requires
 put-requires c κs =
     let pre = c .before .before .before .before .before .pre in
     let a = c .before .before .before .before .before .args in
     rw (c .before .get-name .ensures) (omega (arith, pre .0, pre .1 (a .name .0)))
-
-same-length : tie.Need-same-length
-same-length c = search needs
 
 returns : tie.Need-returns
 returns c =
@@ -32,4 +26,6 @@ returns c =
     .buf)) (a .at) part (p .last .0) (p .result) (p .ensures)))
 
 pub put-name-spec : {M : Type 1} → statement M
-put-name-spec = tie.close (tie.spec get-name-requires put-requires same-length returns)
+put-name-spec =
+    tie.close
+    (tie.spec (λ c κs. search needs) put-requires (λ c. search needs) returns)

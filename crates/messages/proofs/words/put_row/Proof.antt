@@ -14,15 +14,6 @@ returns c =
     let a = c .before .before .before .args in
     rw (past 39 0 (a .kind) (now (a .table)) (c .if1 .taken)) (nothing (now (a .buf)) (a .at) 11)
 
-mul-row : tie.Need-mul-row
-mul-row c = search needs
-
-add-start : tie.Need-add-start
-add-start c = search needs
-
-shared-slice-read-end : tie.Need-shared-slice-read-end
-shared-slice-read-end c = search needs
-
 cast-end : tie.Need-cast-end
 cast-end c =
     omega (arith, c .shared-slice-known2 .given (c .before .before .before .before .args .kind * 12))
@@ -33,12 +24,6 @@ add-end c =
     let f = fits39 (a .kind) (now (a .table)) (omega (arith, c .before .if1 .left)) (c .before .before .before
     .before .pre .2) in
     omega (arith, f)
-
-sub-put : tie.Need-sub-put
-sub-put c = search needs
-
-part-put-start : tie.Need-part-put-start
-part-put-start c = search needs
 
 part-put-end : tie.Need-part-put-end
 part-put-end c =
@@ -55,9 +40,6 @@ put-requires c κs =
     let part = part-of (now (a .table)) (a .kind) in
     let short : length part ≤ 11 = part-short (now (a .table)) (a .kind) f in
     omega (arith, short, c .before .before .before .before .before .before .pre .0)
-
-same-length : tie.Need-same-length
-same-length c = search needs
 
 returns-2 : tie.Need-returns-2
 returns-2 c =
@@ -83,16 +65,5 @@ returns-2 c =
 pub put-row-spec : {M : Type 1} → statement M
 put-row-spec =
     tie.close
-    (tie.spec
-    returns
-    mul-row
-    add-start
-    shared-slice-read-end
-    cast-end
-    add-end
-    sub-put
-    part-put-start
-    part-put-end
-    put-requires
-    same-length
-    returns-2)
+    (tie.spec returns (λ c. search needs) (λ c. search needs) (λ c. search needs) cast-end add-end (λ c. search needs)
+    (λ c. search needs) part-put-end put-requires (λ c. search needs) returns-2)

@@ -10,12 +10,6 @@ use Rattle.messages.proofs.Puts.{then, wider}
 use Rattle.messages.proofs.words.put_shown.Statement.{statement}
 use Rattle.messages.proofs.words.put_shown.Tie as tie
 
-put-word-requires : tie.Need-put-word-requires
-put-word-requires c κs = search needs
-
-same-length : tie.Need-same-length
-same-length c = search needs
-
 returns : tie.Need-returns
 unfolding shown pick
 returns c =
@@ -23,12 +17,6 @@ returns c =
     let p = c .before .before .put-word in
     rw (lt-ltb _ _ (c .before .before .before .before .if1 .taken)) (wider (now (a .buf)) (a .at) (wordOf (a .kind))
     (p .last .0) (p .result) 11 21 (omega arith) (p .ensures))
-
-put-signed-requires : tie.Need-put-signed-requires
-put-signed-requires c κs = search needs
-
-same-length-2 : tie.Need-same-length-2
-same-length-2 c = search needs
 
 returns-2 : tie.Need-returns-2
 unfolding shown pick
@@ -41,15 +29,6 @@ returns-2 c =
           .before .if2 .taken),
     ) (wider (now (a .buf)) (a .at) (signed (a .integer)) (p .last .0) (p .result) 11 21 (omega
     arith) (p .ensures))
-
-put-word-requires-2 : tie.Need-put-word-requires-2
-put-word-requires-2 c κs = search needs
-
-put-decimal-requires : tie.Need-put-decimal-requires
-put-decimal-requires c κs = search needs
-
-same-length-3 : tie.Need-same-length-3
-same-length-3 c = search needs
 
 returns-3 : tie.Need-returns-3
 unfolding shown pick
@@ -68,14 +47,5 @@ returns-3 c =
 pub put-shown-spec : {M : Type 1} → statement M
 put-shown-spec =
     tie.close
-    (tie.spec
-    put-word-requires
-    same-length
-    returns
-    put-signed-requires
-    same-length-2
-    returns-2
-    put-word-requires-2
-    put-decimal-requires
-    same-length-3
-    returns-3)
+    (tie.spec (λ c κs. search needs) (λ c. search needs) returns (λ c κs. search needs) (λ c. search needs) returns-2
+    (λ c κs. search needs) (λ c κs. search needs) (λ c. search needs) returns-3)

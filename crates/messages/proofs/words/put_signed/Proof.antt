@@ -12,12 +12,6 @@ use Rattle.messages.proofs.Puts.{one, then, wider}
 use Rattle.messages.proofs.words.put_signed.Statement.{statement}
 use Rattle.messages.proofs.words.put_signed.Tie as tie
 
-put-decimal-requires : tie.Need-put-decimal-requires
-put-decimal-requires c κs = search needs
-
-same-length : tie.Need-same-length
-same-length c = search needs
-
 returns : tie.Need-returns
 unfolding signed pick
 returns c =
@@ -25,24 +19,6 @@ returns c =
     let p = c .before .before .put-decimal in
     rw (lt-ltb _ _ (c .before .before .before .before .if1 .taken)) (wider (now (a .buf)) (a .at) (decimal (a
     .bits)) (p .last .0) (p .result) 10 11 (omega arith) (p .ensures))
-
-slice-aggregate-put : tie.Need-slice-aggregate-put
-slice-aggregate-put c = search needs
-
-put-requires : tie.Need-put-requires
-put-requires c κs = search needs
-
-sub-put-decimal : tie.Need-sub-put-decimal
-sub-put-decimal c = search needs
-
-add-put-decimal : tie.Need-add-put-decimal
-add-put-decimal c = search needs
-
-put-decimal-requires-2 : tie.Need-put-decimal-requires-2
-put-decimal-requires-2 c κs = search needs
-
-same-length-2 : tie.Need-same-length-2
-same-length-2 c = search needs
 
 returns-2 : tie.Need-returns-2
 unfolding signed pick
@@ -61,14 +37,5 @@ returns-2 c =
 pub put-signed-spec : {M : Type 1} → statement M
 put-signed-spec =
     tie.close
-    (tie.spec
-    put-decimal-requires
-    same-length
-    returns
-    slice-aggregate-put
-    put-requires
-    sub-put-decimal
-    add-put-decimal
-    put-decimal-requires-2
-    same-length-2
-    returns-2)
+    (tie.spec (λ c κs. search needs) (λ c. search needs) returns (λ c. search needs) (λ c κs. search needs)
+    (λ c. search needs) (λ c. search needs) (λ c κs. search needs) (λ c. search needs) returns-2)

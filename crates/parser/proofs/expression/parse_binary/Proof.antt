@@ -5,33 +5,6 @@ use Rattle.parser.specs.Step.{opened}
 use Rattle.parser.proofs.expression.parse_binary.Statement.{statement}
 use Rattle.parser.proofs.expression.parse_binary.Tie as tie
 
-consume-named-requires : tie.Need-consume-named-requires
-consume-named-requires c κs = search needs
-
-enum-known-e : tie.Need-enum-known-e
-enum-known-e c = search needs
-
-enum-known-x : tie.Need-enum-known-x
-enum-known-x c = search needs
-
-consume-named-requires-2 : tie.Need-consume-named-requires-2
-consume-named-requires-2 c κs = search needs
-
-enum-known-e-2 : tie.Need-enum-known-e-2
-enum-known-e-2 c = search needs
-
-enum-known-y : tie.Need-enum-known-y
-enum-known-y c = search needs
-
-consume-requires : tie.Need-consume-requires
-consume-requires c κs = search needs
-
-enum-known-e-3 : tie.Need-enum-known-e-3
-enum-known-e-3 c = search needs
-
-enum-known-at3 : tie.Need-enum-known-at3
-enum-known-at3 c = search needs
-
 returns : tie.Need-returns
 unfolding binaryD opened
 returns c =
@@ -89,17 +62,6 @@ returns-4 c =
 pub parse-binary-spec : {M : Type 1} → statement M
 parse-binary-spec =
     tie.close
-    (tie.spec
-    consume-named-requires
-    enum-known-e
-    enum-known-x
-    consume-named-requires-2
-    enum-known-e-2
-    enum-known-y
-    consume-requires
-    enum-known-e-3
-    enum-known-at3
-    returns
-    returns-2
-    returns-3
-    returns-4)
+    (tie.spec (λ c κs. search needs) (λ c. search needs) (λ c. search needs) (λ c κs. search needs)
+    (λ c. search needs) (λ c. search needs) (λ c κs. search needs) (λ c. search needs) (λ c. search needs) returns
+    returns-2 returns-3 returns-4)

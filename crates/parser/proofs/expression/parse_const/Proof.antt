@@ -5,21 +5,6 @@ use Rattle.parser.specs.Step.{opened}
 use Rattle.parser.proofs.expression.parse_const.Statement.{statement}
 use Rattle.parser.proofs.expression.parse_const.Tie as tie
 
-token-at-requires : tie.Need-token-at-requires
-token-at-requires c κs = search needs
-
-is-constant-requires : tie.Need-is-constant-requires
-is-constant-requires c κs = search needs
-
-consume-requires : tie.Need-consume-requires
-consume-requires c κs = search needs
-
-enum-known-e : tie.Need-enum-known-e
-enum-known-e c = search needs
-
-enum-known-at1 : tie.Need-enum-known-at1
-enum-known-at1 c = search needs
-
 returns : tie.Need-returns
 unfolding constD opened
 returns c =
@@ -40,9 +25,6 @@ returns-2 c =
     let at1 = c .before .at1 in
     rw (← token-at .ensures, ← is-constant .ensures, if1 .taken, ← consume .ensures, at1 .given .1)
 
-refuse-requires : tie.Need-refuse-requires
-refuse-requires c κs = search needs
-
 returns-3 : tie.Need-returns-3
 unfolding constD opened
 returns-3 c =
@@ -55,13 +37,5 @@ returns-3 c =
 pub parse-const-spec : {M : Type 1} → statement M
 parse-const-spec =
     tie.close
-    (tie.spec
-    token-at-requires
-    is-constant-requires
-    consume-requires
-    enum-known-e
-    enum-known-at1
-    returns
-    returns-2
-    refuse-requires
-    returns-3)
+    (tie.spec (λ c κs. search needs) (λ c κs. search needs) (λ c κs. search needs) (λ c. search needs)
+    (λ c. search needs) returns returns-2 (λ c κs. search needs) returns-3)

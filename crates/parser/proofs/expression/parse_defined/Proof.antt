@@ -5,42 +5,6 @@ use Rattle.parser.specs.Step.{opened}
 use Rattle.parser.proofs.expression.parse_defined.Statement.{statement}
 use Rattle.parser.proofs.expression.parse_defined.Tie as tie
 
-consume-named-requires : tie.Need-consume-named-requires
-consume-named-requires c κs = search needs
-
-enum-known-e : tie.Need-enum-known-e
-enum-known-e c = search needs
-
-enum-known-id : tie.Need-enum-known-id
-enum-known-id c = search needs
-
-consume-requires : tie.Need-consume-requires
-consume-requires c κs = search needs
-
-enum-known-e-2 : tie.Need-enum-known-e-2
-enum-known-e-2 c = search needs
-
-enum-known-at2 : tie.Need-enum-known-at2
-enum-known-at2 c = search needs
-
-parse-type-requires : tie.Need-parse-type-requires
-parse-type-requires c κs = search needs
-
-enum-known-e-3 : tie.Need-enum-known-e-3
-enum-known-e-3 c = search needs
-
-enum-known-ty : tie.Need-enum-known-ty
-enum-known-ty c = search needs
-
-consume-requires-2 : tie.Need-consume-requires-2
-consume-requires-2 c κs = search needs
-
-enum-known-e-4 : tie.Need-enum-known-e-4
-enum-known-e-4 c = search needs
-
-enum-known-at4 : tie.Need-enum-known-at4
-enum-known-at4 c = search needs
-
 returns : tie.Need-returns
 unfolding definedD opened
 returns c =
@@ -125,21 +89,6 @@ returns-5 c =
 pub parse-defined-spec : {M : Type 1} → statement M
 parse-defined-spec =
     tie.close
-    (tie.spec
-    consume-named-requires
-    enum-known-e
-    enum-known-id
-    consume-requires
-    enum-known-e-2
-    enum-known-at2
-    parse-type-requires
-    enum-known-e-3
-    enum-known-ty
-    consume-requires-2
-    enum-known-e-4
-    enum-known-at4
-    returns
-    returns-2
-    returns-3
-    returns-4
-    returns-5)
+    (tie.spec (λ c κs. search needs) (λ c. search needs) (λ c. search needs) (λ c κs. search needs)
+    (λ c. search needs) (λ c. search needs) (λ c κs. search needs) (λ c. search needs) (λ c. search needs)
+    (λ c κs. search needs) (λ c. search needs) (λ c. search needs) returns returns-2 returns-3 returns-4 returns-5)

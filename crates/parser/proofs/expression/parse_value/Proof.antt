@@ -6,18 +6,12 @@ use Rattle.parser.specs.Step.{opened}
 use Rattle.parser.proofs.expression.parse_value.Statement.{statement}
 use Rattle.parser.proofs.expression.parse_value.Tie as tie
 
-token-at-requires : tie.Need-token-at-requires
-token-at-requires c κs = search needs
-
 returns : tie.Need-returns
 unfolding valueD opened
 returns c =
     let token-at = c .before .token-at in
     let if1 = c .if1 in
     rw (← token-at .ensures, eq-eqb _ _ (if1 .taken))
-
-parse-const-requires : tie.Need-parse-const-requires
-parse-const-requires c κs = search needs
 
 returns-2 : tie.Need-returns-2
 unfolding valueD opened
@@ -27,12 +21,6 @@ returns-2 c =
     let if2 = c .before .if2 in
     let parse-const = c .parse-const in
     rw (← token-at .ensures, ne-eqb _ _ (if1 .left), eq-eqb _ _ (if2 .taken)) (parse-const .ensures)
-
-is-unary-requires : tie.Need-is-unary-requires
-is-unary-requires c κs = search needs
-
-parse-unary-requires : tie.Need-parse-unary-requires
-parse-unary-requires c κs = search needs
 
 returns-3 : tie.Need-returns-3
 unfolding valueD opened
@@ -50,12 +38,6 @@ returns-3 c =
       ← is-unary .ensures,
       if3 .taken,
     ) (parse-unary .ensures)
-
-is-binary-requires : tie.Need-is-binary-requires
-is-binary-requires c κs = search needs
-
-parse-binary-requires : tie.Need-parse-binary-requires
-parse-binary-requires c κs = search needs
 
 returns-4 : tie.Need-returns-4
 unfolding valueD opened
@@ -77,9 +59,6 @@ returns-4 c =
       ← is-binary .ensures,
       if4 .taken,
     ) (parse-binary .ensures)
-
-refuse-requires : tie.Need-refuse-requires
-refuse-requires c κs = search needs
 
 returns-5 : tie.Need-returns-5
 unfolding valueD opened
@@ -106,16 +85,6 @@ returns-5 c =
 pub parse-value-spec : {M : Type 1} → statement M
 parse-value-spec =
     tie.close
-    (tie.spec
-    token-at-requires
-    returns
-    parse-const-requires
-    returns-2
-    is-unary-requires
-    parse-unary-requires
-    returns-3
-    is-binary-requires
-    parse-binary-requires
-    returns-4
-    refuse-requires
+    (tie.spec (λ c κs. search needs) returns (λ c κs. search needs) returns-2 (λ c κs. search needs)
+    (λ c κs. search needs) returns-3 (λ c κs. search needs) (λ c κs. search needs) returns-4 (λ c κs. search needs)
     returns-5)

@@ -10,27 +10,6 @@ use Rattle.parser.specs.Labels.{has, labelledD}
 use Rattle.parser.proofs.labels.parse_label.Statement.{statement}
 use Rattle.parser.proofs.labels.parse_label.Tie as tie
 
-consume-named-requires : tie.Need-consume-named-requires
-consume-named-requires c κs = search needs
-
-enum-known-e : tie.Need-enum-known-e
-enum-known-e c = search needs
-
-enum-known-label : tie.Need-enum-known-label
-enum-known-label c = search needs
-
-consume-requires : tie.Need-consume-requires
-consume-requires c κs = search needs
-
-enum-known-e-2 : tie.Need-enum-known-e-2
-enum-known-e-2 c = search needs
-
-enum-known-at2 : tie.Need-enum-known-at2
-enum-known-at2 c = search needs
-
-refuse-requires : tie.Need-refuse-requires
-refuse-requires c κs = search needs
-
 returns : tie.Need-returns
 unfolding labelledD opened
 returns c =
@@ -53,12 +32,6 @@ returns c =
       le-leb _ _ (if1 .taken),
       refuse .ensures,
     )
-
-has-label-requires : tie.Need-has-label-requires
-has-label-requires c κs = search needs
-
-refuse-requires-2 : tie.Need-refuse-requires-2
-refuse-requires-2 c κs = search needs
 
 returns-2 : tie.Need-returns-2
 unfolding labelledD opened
@@ -133,18 +106,6 @@ returns-5 c =
 pub parse-label-spec : {M : Type 1} → statement M
 parse-label-spec =
     tie.close
-    (tie.spec
-    consume-named-requires
-    enum-known-e
-    enum-known-label
-    consume-requires
-    enum-known-e-2
-    enum-known-at2
-    refuse-requires
-    returns
-    has-label-requires
-    refuse-requires-2
-    returns-2
-    returns-3
-    returns-4
-    returns-5)
+    (tie.spec (λ c κs. search needs) (λ c. search needs) (λ c. search needs) (λ c κs. search needs)
+    (λ c. search needs) (λ c. search needs) (λ c κs. search needs) returns (λ c κs. search needs)
+    (λ c κs. search needs) returns-2 returns-3 returns-4 returns-5)

@@ -5,15 +5,6 @@ use Rattle.parser.specs.Runs.{closedD}
 use Rattle.parser.proofs.runs.close_formals.Statement.{statement}
 use Rattle.parser.proofs.runs.close_formals.Tie as tie
 
-consume-requires : tie.Need-consume-requires
-consume-requires c κs = search needs
-
-enum-known-e : tie.Need-enum-known-e
-enum-known-e c = search needs
-
-enum-known-i : tie.Need-enum-known-i
-enum-known-i c = search needs
-
 returns : tie.Need-returns
 unfolding closedD opened
 returns c =
@@ -30,4 +21,5 @@ returns-2 c =
 
 pub close-formals-spec : {M : Type 1} → statement M
 close-formals-spec =
-    tie.close (tie.spec consume-requires enum-known-e enum-known-i returns returns-2)
+    tie.close
+    (tie.spec (λ c κs. search needs) (λ c. search needs) (λ c. search needs) returns returns-2)

@@ -9,33 +9,6 @@ use Rattle.parser.specs.Runs.{callD, calledOf, variablesCells, arguments
 use Rattle.parser.proofs.runs.parse_call.Statement.{statement}
 use Rattle.parser.proofs.runs.parse_call.Tie as tie
 
-consume-requires : tie.Need-consume-requires
-consume-requires c κs = search needs
-
-enum-known-e : tie.Need-enum-known-e
-enum-known-e c = search needs
-
-enum-known-at : tie.Need-enum-known-at
-enum-known-at c = search needs
-
-consume-named-requires : tie.Need-consume-named-requires
-consume-named-requires c κs = search needs
-
-enum-known-e-2 : tie.Need-enum-known-e-2
-enum-known-e-2 c = search needs
-
-enum-known-callee : tie.Need-enum-known-callee
-enum-known-callee c = search needs
-
-parse-arguments-requires : tie.Need-parse-arguments-requires
-parse-arguments-requires c κs = search needs
-
-enum-known-e-3 : tie.Need-enum-known-e-3
-enum-known-e-3 c = search needs
-
-enum-known-count : tie.Need-enum-known-count
-enum-known-count c = search needs
-
 returns : tie.Need-returns
 unfolding callD calledOf variablesCells opened
 returns c =
@@ -51,9 +24,6 @@ returns-2 c =
     let consume-named = c .before .before .before .consume-named in
     let e2 = c .before .e2 in
     rw (← consume .ensures, at .given .1, ← consume-named .ensures, e2 .given .1) (refl, refl)
-
-same-length : tie.Need-same-length
-same-length c = search needs
 
 returns-3 : tie.Need-returns-3
 unfolding callD calledOf opened
@@ -77,9 +47,6 @@ returns-3 c =
       callee .given .1,
       end,
     ) (refl, parse-arguments .ensures .1)
-
-same-length-2 : tie.Need-same-length-2
-same-length-2 c = search needs
 
 returns-4 : tie.Need-returns-4
 unfolding callD calledOf opened
@@ -108,19 +75,6 @@ returns-4 c =
 pub parse-call-spec : {M : Type 1} → statement M
 parse-call-spec =
     tie.close
-    (tie.spec
-    consume-requires
-    enum-known-e
-    enum-known-at
-    consume-named-requires
-    enum-known-e-2
-    enum-known-callee
-    parse-arguments-requires
-    enum-known-e-3
-    enum-known-count
-    returns
-    returns-2
-    same-length
-    returns-3
-    same-length-2
-    returns-4)
+    (tie.spec (λ c κs. search needs) (λ c. search needs) (λ c. search needs) (λ c κs. search needs)
+    (λ c. search needs) (λ c. search needs) (λ c κs. search needs) (λ c. search needs) (λ c. search needs) returns
+    returns-2 (λ c. search needs) returns-3 (λ c. search needs) returns-4)

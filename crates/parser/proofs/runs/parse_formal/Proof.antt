@@ -5,18 +5,6 @@ use Rattle.parser.specs.Runs.{formalD}
 use Rattle.parser.proofs.runs.parse_formal.Statement.{statement}
 use Rattle.parser.proofs.runs.parse_formal.Tie as tie
 
-consume-named-requires : tie.Need-consume-named-requires
-consume-named-requires c κs = search needs
-
-enum-known-e : tie.Need-enum-known-e
-enum-known-e c = search needs
-
-enum-known-id : tie.Need-enum-known-id
-enum-known-id c = search needs
-
-refuse-requires : tie.Need-refuse-requires
-refuse-requires c κs = search needs
-
 returns : tie.Need-returns
 unfolding formalD opened
 returns c =
@@ -25,24 +13,6 @@ returns c =
     let if1 = c .before .if1 in
     let refuse = c .refuse in
     rw (← consume-named .ensures, id .given .1, if1 .taken, refuse .ensures)
-
-consume-requires : tie.Need-consume-requires
-consume-requires c κs = search needs
-
-enum-known-e-2 : tie.Need-enum-known-e-2
-enum-known-e-2 c = search needs
-
-enum-known-at2 : tie.Need-enum-known-at2
-enum-known-at2 c = search needs
-
-parse-type-requires : tie.Need-parse-type-requires
-parse-type-requires c κs = search needs
-
-enum-known-e-3 : tie.Need-enum-known-e-3
-enum-known-e-3 c = search needs
-
-enum-known-ty : tie.Need-enum-known-ty
-enum-known-ty c = search needs
 
 returns-2 : tie.Need-returns-2
 unfolding formalD opened
@@ -106,19 +76,6 @@ returns-5 c =
 pub parse-formal-spec : {M : Type 1} → statement M
 parse-formal-spec =
     tie.close
-    (tie.spec
-    consume-named-requires
-    enum-known-e
-    enum-known-id
-    refuse-requires
-    returns
-    consume-requires
-    enum-known-e-2
-    enum-known-at2
-    parse-type-requires
-    enum-known-e-3
-    enum-known-ty
-    returns-2
-    returns-3
-    returns-4
-    returns-5)
+    (tie.spec (λ c κs. search needs) (λ c. search needs) (λ c. search needs) (λ c κs. search needs) returns
+    (λ c κs. search needs) (λ c. search needs) (λ c. search needs) (λ c κs. search needs) (λ c. search needs)
+    (λ c. search needs) returns-2 returns-3 returns-4 returns-5)

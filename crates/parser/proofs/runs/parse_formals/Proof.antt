@@ -7,21 +7,12 @@ use Rattle.parser.specs.Runs.{formalsD, runOf, variablesCells}
 use Rattle.parser.proofs.runs.parse_formals.Statement.{statement}
 use Rattle.parser.proofs.runs.parse_formals.Tie as tie
 
-token-at-requires : tie.Need-token-at-requires
-token-at-requires c κs = search needs
-
 returns : tie.Need-returns
 unfolding formalsD runOf variablesCells opened
 returns c =
     let token-at = c .before .before .token-at in
     let if1 = c .if1 in
     rw (← token-at .ensures, eq-eqb _ _ (if1 .taken)) (refl, refl)
-
-parse-formals-from-requires : tie.Need-parse-formals-from-requires
-parse-formals-from-requires c κs = search needs
-
-same-length : tie.Need-same-length
-same-length c = search needs
 
 returns-2 : tie.Need-returns-2
 unfolding formalsD opened
@@ -34,4 +25,4 @@ returns-2 c =
 pub parse-formals-spec : {M : Type 1} → statement M
 parse-formals-spec =
     tie.close
-    (tie.spec token-at-requires returns parse-formals-from-requires same-length returns-2)
+    (tie.spec (λ c κs. search needs) returns (λ c κs. search needs) (λ c. search needs) returns-2)

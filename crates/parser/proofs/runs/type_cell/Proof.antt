@@ -5,27 +5,6 @@ use Rattle.parser.specs.Runs.{typeCell}
 use Rattle.parser.proofs.runs.type_cell.Statement.{statement}
 use Rattle.parser.proofs.runs.type_cell.Tie as tie
 
-enum-told : tie.Need-enum-told
-enum-told c = search needs
-
-enum-told-2 : tie.Need-enum-told-2
-enum-told-2 c = search needs
-
-enum-told-3 : tie.Need-enum-told-3
-enum-told-3 c = search needs
-
-enum-told-4 : tie.Need-enum-told-4
-enum-told-4 c = search needs
-
-enum-known-ty : tie.Need-enum-known-ty
-enum-known-ty c = search needs
-
-cast-result : tie.Need-cast-result
-cast-result c = search needs
-
-add-result : tie.Need-add-result
-add-result c = search needs
-
 returns : tie.Need-returns
 returns c =
     let enum-told = c .enum-told in
@@ -54,16 +33,5 @@ returns-5 c =
 pub type-cell-spec : {M : Type 1} → statement M
 type-cell-spec =
     tie.close
-    (tie.spec
-    enum-told
-    enum-told-2
-    enum-told-3
-    enum-told-4
-    enum-known-ty
-    cast-result
-    add-result
-    returns
-    returns-2
-    returns-3
-    returns-4
-    returns-5)
+    (tie.spec (λ c. search needs) (λ c. search needs) (λ c. search needs) (λ c. search needs) (λ c. search needs)
+    (λ c. search needs) (λ c. search needs) returns returns-2 returns-3 returns-4 returns-5)

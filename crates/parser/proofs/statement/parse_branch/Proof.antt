@@ -5,42 +5,6 @@ use Rattle.parser.specs.Step.{opened}
 use Rattle.parser.proofs.statement.parse_branch.Statement.{statement}
 use Rattle.parser.proofs.statement.parse_branch.Tie as tie
 
-consume-named-requires : tie.Need-consume-named-requires
-consume-named-requires c κs = search needs
-
-enum-known-e : tie.Need-enum-known-e
-enum-known-e c = search needs
-
-enum-known-x : tie.Need-enum-known-x
-enum-known-x c = search needs
-
-consume-named-requires-2 : tie.Need-consume-named-requires-2
-consume-named-requires-2 c κs = search needs
-
-enum-known-e-2 : tie.Need-enum-known-e-2
-enum-known-e-2 c = search needs
-
-enum-known-l : tie.Need-enum-known-l
-enum-known-l c = search needs
-
-consume-named-requires-3 : tie.Need-consume-named-requires-3
-consume-named-requires-3 c κs = search needs
-
-enum-known-e-3 : tie.Need-enum-known-e-3
-enum-known-e-3 c = search needs
-
-enum-known-m : tie.Need-enum-known-m
-enum-known-m c = search needs
-
-consume-requires : tie.Need-consume-requires
-consume-requires c κs = search needs
-
-enum-known-e-4 : tie.Need-enum-known-e-4
-enum-known-e-4 c = search needs
-
-enum-known-at4 : tie.Need-enum-known-at4
-enum-known-at4 c = search needs
-
 returns : tie.Need-returns
 unfolding branchD opened
 returns c =
@@ -125,21 +89,6 @@ returns-5 c =
 pub parse-branch-spec : {M : Type 1} → statement M
 parse-branch-spec =
     tie.close
-    (tie.spec
-    consume-named-requires
-    enum-known-e
-    enum-known-x
-    consume-named-requires-2
-    enum-known-e-2
-    enum-known-l
-    consume-named-requires-3
-    enum-known-e-3
-    enum-known-m
-    consume-requires
-    enum-known-e-4
-    enum-known-at4
-    returns
-    returns-2
-    returns-3
-    returns-4
-    returns-5)
+    (tie.spec (λ c κs. search needs) (λ c. search needs) (λ c. search needs) (λ c κs. search needs)
+    (λ c. search needs) (λ c. search needs) (λ c κs. search needs) (λ c. search needs) (λ c. search needs)
+    (λ c κs. search needs) (λ c. search needs) (λ c. search needs) returns returns-2 returns-3 returns-4 returns-5)

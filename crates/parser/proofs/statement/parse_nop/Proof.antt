@@ -5,15 +5,6 @@ use Rattle.parser.specs.Step.{opened}
 use Rattle.parser.proofs.statement.parse_nop.Statement.{statement}
 use Rattle.parser.proofs.statement.parse_nop.Tie as tie
 
-consume-requires : tie.Need-consume-requires
-consume-requires c κs = search needs
-
-enum-known-e : tie.Need-enum-known-e
-enum-known-e c = search needs
-
-enum-known-at1 : tie.Need-enum-known-at1
-enum-known-at1 c = search needs
-
 returns : tie.Need-returns
 unfolding nopD opened
 returns c =
@@ -30,4 +21,5 @@ returns-2 c =
 
 pub parse-nop-spec : {M : Type 1} → statement M
 parse-nop-spec =
-    tie.close (tie.spec consume-requires enum-known-e enum-known-at1 returns returns-2)
+    tie.close
+    (tie.spec (λ c κs. search needs) (λ c. search needs) (λ c. search needs) returns returns-2)

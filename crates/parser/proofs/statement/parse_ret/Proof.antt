@@ -6,33 +6,12 @@ use Rattle.parser.specs.Step.{opened}
 use Rattle.parser.proofs.statement.parse_ret.Statement.{statement}
 use Rattle.parser.proofs.statement.parse_ret.Tie as tie
 
-token-at-requires : tie.Need-token-at-requires
-token-at-requires c κs = search needs
-
 returns : tie.Need-returns
 unfolding retD opened
 returns c =
     let token-at = c .before .before .token-at in
     let if1 = c .if1 in
     rw (← token-at .ensures, eq-eqb _ _ (if1 .taken))
-
-consume-named-requires : tie.Need-consume-named-requires
-consume-named-requires c κs = search needs
-
-enum-known-e : tie.Need-enum-known-e
-enum-known-e c = search needs
-
-enum-known-x : tie.Need-enum-known-x
-enum-known-x c = search needs
-
-consume-requires : tie.Need-consume-requires
-consume-requires c κs = search needs
-
-enum-known-e-2 : tie.Need-enum-known-e-2
-enum-known-e-2 c = search needs
-
-enum-known-at2 : tie.Need-enum-known-at2
-enum-known-at2 c = search needs
 
 returns-2 : tie.Need-returns-2
 unfolding retD opened
@@ -84,15 +63,5 @@ returns-4 c =
 pub parse-ret-spec : {M : Type 1} → statement M
 parse-ret-spec =
     tie.close
-    (tie.spec
-    token-at-requires
-    returns
-    consume-named-requires
-    enum-known-e
-    enum-known-x
-    consume-requires
-    enum-known-e-2
-    enum-known-at2
-    returns-2
-    returns-3
-    returns-4)
+    (tie.spec (λ c κs. search needs) returns (λ c κs. search needs) (λ c. search needs) (λ c. search needs)
+    (λ c κs. search needs) (λ c. search needs) (λ c. search needs) returns-2 returns-3 returns-4)

@@ -12,27 +12,12 @@ returns c =
     let if1 = c .if1 in
     rw (le-leb _ _ (if1 .taken))
 
-shared-slice-read-b : tie.Need-shared-slice-read-b
-shared-slice-read-b c = search needs
-
-add-t11 : tie.Need-add-t11
-add-t11 c = search needs
-
-add-t12 : tie.Need-add-t12
-add-t12 c = search needs
-
 returns-2 : tie.Need-returns-2
 unfolding pieceAt pick
 returns-2 c =
     let if1 = c .before .before .if1 in
     let if2 = c .if2 in
     rw (lt-leb _ _ (if1 .left), eq-eqb _ _ (if2 .taken))
-
-is-blank-requires : tie.Need-is-blank-requires
-is-blank-requires c κs = search needs
-
-add-t15 : tie.Need-add-t15
-add-t15 c = search needs
 
 returns-3 : tie.Need-returns-3
 unfolding pieceAt pick
@@ -42,12 +27,6 @@ returns-3 c =
     let is-blank = c .before .is-blank in
     let if3 = c .if3 in
     rw (lt-leb _ _ (if1 .left), ne-eqb _ _ (if2 .left), ← is-blank .ensures, if3 .taken)
-
-add-line-end : tie.Need-add-line-end
-add-line-end c = search needs
-
-line-end-requires : tie.Need-line-end-requires
-line-end-requires c κs = search needs
 
 returns-4 : tie.Need-returns-4
 unfolding pieceAt pick
@@ -67,9 +46,6 @@ returns-4 c =
       line-end .ensures,
     )
 
-lex-slash-requires : tie.Need-lex-slash-requires
-lex-slash-requires c κs = search needs
-
 returns-5 : tie.Need-returns-5
 unfolding pieceAt pick
 returns-5 c =
@@ -88,9 +64,6 @@ returns-5 c =
       ne-eqb _ _ (if4 .left),
       eq-eqb _ _ (if5 .taken),
     ) (lex-slash .ensures)
-
-lex-token-requires : tie.Need-lex-token-requires
-lex-token-requires c κs = search needs
 
 returns-6 : tie.Need-returns-6
 unfolding pieceAt pick
@@ -114,19 +87,6 @@ returns-6 c =
 pub lex-spec : {M : Type 1} → statement M
 lex-spec =
     tie.close
-    (tie.spec
-    returns
-    shared-slice-read-b
-    add-t11
-    add-t12
-    returns-2
-    is-blank-requires
-    add-t15
-    returns-3
-    add-line-end
-    line-end-requires
-    returns-4
-    lex-slash-requires
-    returns-5
-    lex-token-requires
-    returns-6)
+    (tie.spec returns (λ c. search needs) (λ c. search needs) (λ c. search needs) returns-2 (λ c κs. search needs)
+    (λ c. search needs) returns-3 (λ c. search needs) (λ c κs. search needs) returns-4 (λ c κs. search needs)
+    returns-5 (λ c κs. search needs) returns-6)

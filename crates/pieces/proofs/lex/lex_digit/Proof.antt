@@ -8,12 +8,6 @@ use Rattle.utils.specs.Bytes.{pick}
 use Rattle.pieces.proofs.lex.lex_digit.Statement.{statement}
 use Rattle.pieces.proofs.lex.lex_digit.Tie as tie
 
-lex-number-requires : tie.Need-lex-number-requires
-lex-number-requires c κs = search needs
-
-cast-t9 : tie.Need-cast-t9
-cast-t9 c = search needs
-
 returns : tie.Need-returns
 unfolding digitAt pick
 returns c =
@@ -37,4 +31,6 @@ returns-2 c =
     rw (high .0, high .1)
 
 pub lex-digit-spec : {M : Type 1} → statement M
-lex-digit-spec = tie.close (tie.spec lex-number-requires cast-t9 returns returns-2)
+lex-digit-spec =
+    tie.close
+    (tie.spec (λ c κs. search needs) (λ c. search needs) returns returns-2)

@@ -10,15 +10,6 @@ use Rattle.utils.specs.Bytes.{pick}
 use Rattle.pieces.proofs.lex.lex_minus.Statement.{statement}
 use Rattle.pieces.proofs.lex.lex_minus.Tie as tie
 
-add-peek : tie.Need-add-peek
-add-peek c = search needs
-
-peek-requires : tie.Need-peek-requires
-peek-requires c κs = search needs
-
-is-digit-requires : tie.Need-is-digit-requires
-is-digit-requires c κs = search needs
-
 returns : tie.Need-returns
 unfolding minusAt pick
 returns c =
@@ -26,18 +17,6 @@ returns c =
     let is-digit = c .before .is-digit in
     let if1 = c .if1 in
     rw (← peek .ensures, ← is-digit .ensures, not-true (is-digit .result) (if1 .taken))
-
-add-lex-number : tie.Need-add-lex-number
-add-lex-number c = search needs
-
-lex-number-requires : tie.Need-lex-number-requires
-lex-number-requires c κs = search needs
-
-sub-bits : tie.Need-sub-bits
-sub-bits c = search needs
-
-cast-t15 : tie.Need-cast-t15
-cast-t15 c = search needs
 
 returns-2 : tie.Need-returns-2
 unfolding minusAt pick
@@ -70,14 +49,5 @@ returns-3 c =
 pub lex-minus-spec : {M : Type 1} → statement M
 lex-minus-spec =
     tie.close
-    (tie.spec
-    add-peek
-    peek-requires
-    is-digit-requires
-    returns
-    add-lex-number
-    lex-number-requires
-    sub-bits
-    cast-t15
-    returns-2
-    returns-3)
+    (tie.spec (λ c. search needs) (λ c κs. search needs) (λ c κs. search needs) returns (λ c. search needs)
+    (λ c κs. search needs) (λ c. search needs) (λ c. search needs) returns-2 returns-3)

@@ -9,12 +9,6 @@ use Rattle.pieces.specs.Pieces.{nameAt}
 use Rattle.pieces.proofs.lex.lex_name.Statement.{statement}
 use Rattle.pieces.proofs.lex.lex_name.Tie as tie
 
-add-name-end : tie.Need-add-name-end
-add-name-end c = search needs
-
-name-end-requires : tie.Need-name-end-requires
-name-end-requires c κs = search needs
-
 sub-t7 : tie.Need-sub-t7
 sub-t7 c =
     let name-end = c .name-end in
@@ -28,4 +22,6 @@ returns c =
     rw (name-end .ensures)
 
 pub lex-name-spec : {M : Type 1} → statement M
-lex-name-spec = tie.close (tie.spec add-name-end name-end-requires sub-t7 returns)
+lex-name-spec =
+    tie.close
+    (tie.spec (λ c. search needs) (λ c κs. search needs) sub-t7 returns)

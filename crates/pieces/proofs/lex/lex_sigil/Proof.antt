@@ -5,18 +5,6 @@ use Rattle.utils.specs.Bytes.{pick}
 use Rattle.pieces.proofs.lex.lex_sigil.Statement.{statement}
 use Rattle.pieces.proofs.lex.lex_sigil.Tie as tie
 
-add-peek : tie.Need-add-peek
-add-peek c = search needs
-
-peek-requires : tie.Need-peek-requires
-peek-requires c κs = search needs
-
-is-letter-requires : tie.Need-is-letter-requires
-is-letter-requires c κs = search needs
-
-lex-name-requires : tie.Need-lex-name-requires
-lex-name-requires c κs = search needs
-
 returns : tie.Need-returns
 unfolding sigilAt pick
 returns c =
@@ -25,9 +13,6 @@ returns c =
     let if1 = c .before .if1 in
     let lex-name = c .lex-name in
     rw (← peek .ensures, ← is-letter .ensures, if1 .taken) (lex-name .ensures)
-
-shared-slice-read-t9 : tie.Need-shared-slice-read-t9
-shared-slice-read-t9 c = search needs
 
 returns-2 : tie.Need-returns-2
 unfolding sigilAt pick
@@ -40,11 +25,5 @@ returns-2 c =
 pub lex-sigil-spec : {M : Type 1} → statement M
 lex-sigil-spec =
     tie.close
-    (tie.spec
-    add-peek
-    peek-requires
-    is-letter-requires
-    lex-name-requires
-    returns
-    shared-slice-read-t9
-    returns-2)
+    (tie.spec (λ c. search needs) (λ c κs. search needs) (λ c κs. search needs) (λ c κs. search needs) returns
+    (λ c. search needs) returns-2)

@@ -10,21 +10,12 @@ use Rattle.utils.specs.Bytes.{pick}
 use Rattle.pieces.proofs.lex.lex_slash.Statement.{statement}
 use Rattle.pieces.proofs.lex.lex_slash.Tie as tie
 
-add-peek : tie.Need-add-peek
-add-peek c = search needs
-
-peek-requires : tie.Need-peek-requires
-peek-requires c κs = search needs
-
 add-line-end : tie.Need-add-line-end
 add-line-end c =
     let a = c .before .before .before .args in
     let peek = c .before .peek in
     let if1 = c .if1 in
     omega (arith, in-text (now (a .text)) (a .at + 1) (λ z. omega (arith, z, peek .ensures, if1 .taken)))
-
-line-end-requires : tie.Need-line-end-requires
-line-end-requires c κs = search needs
 
 returns : tie.Need-returns
 unfolding slashAt pick
@@ -40,15 +31,6 @@ add-comment-end c =
     let peek = c .before .before .peek in
     let if2 = c .if2 in
     omega (arith, in-text (now (a .text)) (a .at + 1) (λ z. omega (arith, z, peek .ensures, if2 .taken)))
-
-comment-end-requires : tie.Need-comment-end-requires
-comment-end-requires c κs = search needs
-
-enum-known-place : tie.Need-enum-known-place
-enum-known-place c = search needs
-
-enum-told : tie.Need-enum-told
-enum-told c = search needs
 
 returns-2 : tie.Need-returns-2
 unfolding slashAt pick
@@ -81,16 +63,5 @@ returns-4 c =
 pub lex-slash-spec : {M : Type 1} → statement M
 lex-slash-spec =
     tie.close
-    (tie.spec
-    add-peek
-    peek-requires
-    add-line-end
-    line-end-requires
-    returns
-    add-comment-end
-    comment-end-requires
-    enum-known-place
-    enum-told
-    returns-2
-    returns-3
-    returns-4)
+    (tie.spec (λ c. search needs) (λ c κs. search needs) add-line-end (λ c κs. search needs) returns add-comment-end
+    (λ c κs. search needs) (λ c. search needs) (λ c. search needs) returns-2 returns-3 returns-4)

@@ -4,21 +4,6 @@ use Rattle.pieces.specs.Pieces.{symbolAt, thenValue}
 use Rattle.pieces.proofs.lex.lex_symbol.Statement.{statement}
 use Rattle.pieces.proofs.lex.lex_symbol.Tie as tie
 
-shared-slice-read-b : tie.Need-shared-slice-read-b
-shared-slice-read-b c = search needs
-
-from-char-requires : tie.Need-from-char-requires
-from-char-requires c κs = search needs
-
-enum-known-value : tie.Need-enum-known-value
-enum-known-value c = search needs
-
-add-place : tie.Need-add-place
-add-place c = search needs
-
-enum-told : tie.Need-enum-told
-enum-told c = search needs
-
 returns : tie.Need-returns
 unfolding symbolAt thenValue
 returns c =
@@ -36,11 +21,5 @@ returns-2 c =
 pub lex-symbol-spec : {M : Type 1} → statement M
 lex-symbol-spec =
     tie.close
-    (tie.spec
-    shared-slice-read-b
-    from-char-requires
-    enum-known-value
-    add-place
-    enum-told
-    returns
-    returns-2)
+    (tie.spec (λ c. search needs) (λ c κs. search needs) (λ c. search needs) (λ c. search needs) (λ c. search needs)
+    returns returns-2)

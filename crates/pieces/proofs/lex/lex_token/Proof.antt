@@ -6,21 +6,12 @@ use Rattle.utils.specs.Bytes.{pick}
 use Rattle.pieces.proofs.lex.lex_token.Statement.{statement}
 use Rattle.pieces.proofs.lex.lex_token.Tie as tie
 
-shared-slice-read-b : tie.Need-shared-slice-read-b
-shared-slice-read-b c = search needs
-
-lex-minus-requires : tie.Need-lex-minus-requires
-lex-minus-requires c κs = search needs
-
 returns : tie.Need-returns
 unfolding tokenFrom pick
 returns c =
     let if1 = c .before .if1 in
     let lex-minus = c .lex-minus in
     rw (eq-eqb _ _ (if1 .taken)) (lex-minus .ensures)
-
-lex-sigil-requires : tie.Need-lex-sigil-requires
-lex-sigil-requires c κs = search needs
 
 returns-2 : tie.Need-returns-2
 unfolding tokenFrom pick
@@ -30,9 +21,6 @@ returns-2 c =
     let lex-sigil = c .lex-sigil in
     rw (ne-eqb _ _ (if1 .left), eq-eqb _ _ (if2 .taken)) (lex-sigil .ensures)
 
-lex-sigil-requires-2 : tie.Need-lex-sigil-requires-2
-lex-sigil-requires-2 c κs = search needs
-
 returns-3 : tie.Need-returns-3
 unfolding tokenFrom pick
 returns-3 c =
@@ -41,12 +29,6 @@ returns-3 c =
     let if3 = c .before .if3 in
     let lex-sigil2 = c .lex-sigil2 in
     rw (ne-eqb _ _ (if1 .left), ne-eqb _ _ (if2 .left), eq-eqb _ _ (if3 .taken)) (lex-sigil2 .ensures)
-
-is-digit-requires : tie.Need-is-digit-requires
-is-digit-requires c κs = search needs
-
-lex-digit-requires : tie.Need-lex-digit-requires
-lex-digit-requires c κs = search needs
 
 returns-4 : tie.Need-returns-4
 unfolding tokenFrom pick
@@ -64,12 +46,6 @@ returns-4 c =
       ← is-digit .ensures,
       if4 .taken,
     ) (lex-digit .ensures)
-
-is-letter-requires : tie.Need-is-letter-requires
-is-letter-requires c κs = search needs
-
-lex-word-requires : tie.Need-lex-word-requires
-lex-word-requires c κs = search needs
 
 returns-5 : tie.Need-returns-5
 unfolding tokenFrom pick
@@ -91,9 +67,6 @@ returns-5 c =
       ← is-letter .ensures,
       if5 .taken,
     ) (lex-word .ensures)
-
-lex-symbol-requires : tie.Need-lex-symbol-requires
-lex-symbol-requires c κs = search needs
 
 returns-6 : tie.Need-returns-6
 unfolding tokenFrom pick
@@ -119,19 +92,6 @@ returns-6 c =
 pub lex-token-spec : {M : Type 1} → statement M
 lex-token-spec =
     tie.close
-    (tie.spec
-    shared-slice-read-b
-    lex-minus-requires
-    returns
-    lex-sigil-requires
-    returns-2
-    lex-sigil-requires-2
-    returns-3
-    is-digit-requires
-    lex-digit-requires
-    returns-4
-    is-letter-requires
-    lex-word-requires
-    returns-5
-    lex-symbol-requires
-    returns-6)
+    (tie.spec (λ c. search needs) (λ c κs. search needs) returns (λ c κs. search needs) returns-2
+    (λ c κs. search needs) returns-3 (λ c κs. search needs) (λ c κs. search needs) returns-4 (λ c κs. search needs)
+    (λ c κs. search needs) returns-5 (λ c κs. search needs) returns-6)

@@ -13,12 +13,6 @@ use Rattle.pieces.specs.Pieces.{wordAt, thenValue}
 use Rattle.pieces.proofs.lex.lex_word.Statement.{statement}
 use Rattle.pieces.proofs.lex.lex_word.Tie as tie
 
-add-name-end : tie.Need-add-name-end
-add-name-end c = search needs
-
-name-end-requires : tie.Need-name-end-requires
-name-end-requires c κs = search needs
-
 sub-get-keyword : tie.Need-sub-get-keyword
 sub-get-keyword c =
     let a = c .before .before .args in
@@ -34,15 +28,6 @@ get-keyword-requires c κs =
     let to = name-end-to (drop (a .at + 1) (now (a .text))) (a .at + 1) in
     let left = left-from (now (a .text)) (a .at + 1) (omega arith) in
     omega (arith, name-end .ensures)
-
-enum-known-value : tie.Need-enum-known-value
-enum-known-value c = search needs
-
-enum-told : tie.Need-enum-told
-enum-told c = search needs
-
-lex-name-requires : tie.Need-lex-name-requires
-lex-name-requires c κs = search needs
 
 returns : tie.Need-returns
 unfolding wordAt thenValue
@@ -74,13 +59,5 @@ returns-2 c =
 pub lex-word-spec : {M : Type 1} → statement M
 lex-word-spec =
     tie.close
-    (tie.spec
-    add-name-end
-    name-end-requires
-    sub-get-keyword
-    get-keyword-requires
-    enum-known-value
-    enum-told
-    lex-name-requires
-    returns
-    returns-2)
+    (tie.spec (λ c. search needs) (λ c κs. search needs) sub-get-keyword get-keyword-requires (λ c. search needs)
+    (λ c. search needs) (λ c κs. search needs) returns returns-2)

@@ -7,19 +7,10 @@ use Rattle.pieces.proofs.Capping.{capped-low, capped-high}
 use Rattle.pieces.proofs.scan.grow.Statement.{statement}
 use Rattle.pieces.proofs.scan.grow.Tie as tie
 
-mul-grown : tie.Need-mul-grown
-mul-grown c = search needs
-
 sub-grown : tie.Need-sub-grown
 sub-grown c =
     let pre = c .pre in
     omega (arith, digit-from _ (pre .1))
-
-cast-grown : tie.Need-cast-grown
-cast-grown c = search needs
-
-add-grown : tie.Need-add-grown
-add-grown c = search needs
 
 returns : tie.Need-returns
 returns c =
@@ -32,4 +23,6 @@ returns-2 c =
     sym (capped-high _ (if1 .left))
 
 pub grow-spec : {M : Type 1} → statement M
-grow-spec = tie.close (tie.spec mul-grown sub-grown cast-grown add-grown returns returns-2)
+grow-spec =
+    tie.close
+    (tie.spec (λ c. search needs) sub-grown (λ c. search needs) (λ c. search needs) returns returns-2)

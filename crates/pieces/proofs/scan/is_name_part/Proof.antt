@@ -5,18 +5,12 @@ use Rattle.utils.specs.Bytes.{pick}
 use Rattle.pieces.proofs.scan.is_name_part.Statement.{statement}
 use Rattle.pieces.proofs.scan.is_name_part.Tie as tie
 
-is-letter-requires : tie.Need-is-letter-requires
-is-letter-requires c κs = search needs
-
 returns : tie.Need-returns
 unfolding isNamePart pick
 returns c =
     let is-letter = c .before .is-letter in
     let if1 = c .if1 in
     rw (← is-letter .ensures, if1 .taken)
-
-is-digit-requires : tie.Need-is-digit-requires
-is-digit-requires c κs = search needs
 
 returns-2 : tie.Need-returns-2
 unfolding isNamePart pick
@@ -38,4 +32,5 @@ returns-3 c =
 
 pub is-name-part-spec : {M : Type 1} → statement M
 is-name-part-spec =
-    tie.close (tie.spec is-letter-requires returns is-digit-requires returns-2 returns-3)
+    tie.close
+    (tie.spec (λ c κs. search needs) returns (λ c κs. search needs) returns-2 returns-3)

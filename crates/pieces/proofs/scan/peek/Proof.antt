@@ -6,12 +6,6 @@ use borrow.Author.Needs.{needs}
 use Rattle.pieces.proofs.scan.peek.Statement.{statement}
 use Rattle.pieces.proofs.scan.peek.Tie as tie
 
-shared-slice-read-result : tie.Need-shared-slice-read-result
-shared-slice-read-result c = search needs
-
-returns : tie.Need-returns
-returns c = search needs
-
 returns-2 : tie.Need-returns-2
 returns-2 c =
     let a = c .before .args in
@@ -19,4 +13,6 @@ returns-2 c =
     sym (List·getD-eq-default (now (a .text)) 0 (if1 .left))
 
 pub peek-spec : {M : Type 1} → statement M
-peek-spec = tie.close (tie.spec shared-slice-read-result returns returns-2)
+peek-spec =
+    tie.close
+    (tie.spec (λ c. search needs) (λ c. search needs) returns-2)

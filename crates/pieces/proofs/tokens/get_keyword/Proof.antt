@@ -5,9 +5,6 @@ use Rattle.pieces.proofs.Rows.{table, table-long, table-fits, keywords-
 use Rattle.pieces.proofs.tokens.get_keyword.Statement.{statement}
 use Rattle.pieces.proofs.tokens.get_keyword.Tie as tie
 
-slice-aggregate-find-word : tie.Need-slice-aggregate-find-word
-slice-aggregate-find-word c = search needs
-
 find-word-requires : tie.Need-find-word-requires
 unfolding table
 find-word-requires c κs =
@@ -21,4 +18,6 @@ returns c =
     find-word .ensures ∙ rw keywords-are-words
 
 pub get-keyword-spec : {M : Type 1} → statement M
-get-keyword-spec = tie.close (tie.spec slice-aggregate-find-word find-word-requires returns)
+get-keyword-spec =
+    tie.close
+    (tie.spec (λ c. search needs) find-word-requires returns)

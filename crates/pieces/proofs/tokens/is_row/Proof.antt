@@ -9,24 +9,6 @@ use Rattle.pieces.proofs.Compare.{other-part}
 use Rattle.pieces.proofs.tokens.is_row.Statement.{statement}
 use Rattle.pieces.proofs.tokens.is_row.Tie as tie
 
-mul-size : tie.Need-mul-size
-mul-size c = search needs
-
-add-size : tie.Need-add-size
-add-size c = search needs
-
-mul-letters : tie.Need-mul-letters
-mul-letters c = search needs
-
-add-letters : tie.Need-add-letters
-add-letters c = search needs
-
-shared-slice-read-if1 : tie.Need-shared-slice-read-if1
-shared-slice-read-if1 c = search needs
-
-cast-if1 : tie.Need-cast-if1
-cast-if1 c = search needs
-
 returns : tie.Need-returns
 returns c =
     let a = c .before .before .before .before .args in
@@ -34,9 +16,6 @@ returns c =
     let t = now (a .table) in
     let size = getD t (a .row * 7 + 1) 0 in
     sym (other-part t (now (a .text)) (a .row * 7 + 2) size (a .at) (a .len) (omega arith) (omega arith) (if1 .taken))
-
-same-bytes-requires : tie.Need-same-bytes-requires
-same-bytes-requires c κs = search needs
 
 returns-2 : tie.Need-returns-2
 returns-2 c =
@@ -47,13 +26,5 @@ returns-2 c =
 pub is-row-spec : {M : Type 1} → statement M
 is-row-spec =
     tie.close
-    (tie.spec
-    mul-size
-    add-size
-    mul-letters
-    add-letters
-    shared-slice-read-if1
-    cast-if1
-    returns
-    same-bytes-requires
-    returns-2)
+    (tie.spec (λ c. search needs) (λ c. search needs) (λ c. search needs) (λ c. search needs) (λ c. search needs)
+    (λ c. search needs) returns (λ c κs. search needs) returns-2)

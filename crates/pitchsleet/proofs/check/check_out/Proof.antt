@@ -1,30 +1,12 @@
 use Rattle.checker.specs.Check.{checkOf}
 use Rattle.checker.specs.Promise.{checkDef}
 use Rattle.pitchsleet.proofs.Checks.{out-of}
-use borrow.Author.Tests.{lt-ltb, le-ltb, le-leb, lt-leb, eq-eqb, ne-eqb}
-use native.Mathlib.Omega.{arith}
-use native.Mathlib.Numerals.{add-one}
-use Prim.Native.Nat.{ℕ, suc, _+_, _-_, _*_, _≤_, _<_}
-use mathlib.Core.Path.{_≡_, refl, sym, ap, _∙_}
-use mathlib.Core.Logic.{⊎-elim}
-use mathlib.Core.List.{List, [], _∷_, _++_}
-use mathlib.Core.Bool.{Bool, true, false}
-use lib.ListN.{length, drop, take, getD}
-use lib.Seq.{drop-cons}
+use mathlib.Core.Path.{_∙_}
 use denote.Ref.{now}
 use borrow.Author.Needs.{needs}
 use Rattle.pitchsleet.proofs.check.check_out.Statement.{statement}
 use Rattle.pitchsleet.proofs.check.check_out.Tie as tie
-use Rattle.pitchsleet.proofs.check.check_out.Reads as reads
-use Rattle.pitchsleet.proofs.check.check_out.Lts as lts
-use Rattle.checker.proofs.check.Reads as check-reads
-use Rattle.pitchsleet.proofs.check.put_all.Reads as put-all-reads
 
--- src/check.rt:59:9
-check-requires : tie.Need-check-requires
-check-requires c κs = search needs
-
--- src/check.rt:70:5
 put-all-requires : tie.Need-put-all-requires
 put-all-requires c κs = (
   record {
@@ -39,15 +21,6 @@ put-all-requires c κs = (
   c .before .before .before .before .before .before .before .before .before .before .before .before .before .before .before .before .before .before .before .before .before .before .before .before .before .before .before .before .before .pre .1,
 )
 
--- src/check.rt:41:1
-same-length : tie.Need-same-length
-same-length c = search needs
-
--- src/check.rt:41:1
-same-length-2 : tie.Need-same-length-2
-same-length-2 c = search needs
-
--- src/check.rt:41:1
 returns : tie.Need-returns
 unfolding checkDef
 returns c =
@@ -57,4 +30,5 @@ returns c =
 
 pub check-out-spec : {M : Type 1} → statement M
 check-out-spec =
-    tie.close (tie.spec check-requires put-all-requires same-length same-length-2 returns)
+    tie.close
+    (tie.spec (λ c κs. search needs) put-all-requires (λ c. search needs) (λ c. search needs) returns)

@@ -20,23 +20,18 @@ Inv-loop tokens rows n ret table₀ items arguments first count at₀ left₀ ta
 abbrev μ-loop : tie.MeasureT-loop
 μ-loop tokens rows n ret table₀ items arguments first count at₀ left₀ table at left = left
 
--- src/blocks.rt:169:5
 loop-holds : tie.Need-loop-holds Inv-loop μ-loop
 loop-holds c = (refl, refl, refl)
 
--- src/blocks.rt:170:15
 analyze-op-requires : tie.Need-analyze-op-requires Inv-loop μ-loop
 analyze-op-requires c κs = search needs
 
--- src/blocks.rt:171:30
 enum-known-e : tie.Need-enum-known-e Inv-loop μ-loop
 enum-known-e c = search needs
 
--- src/blocks.rt:172:17
 same-length : tie.Need-same-length Inv-loop μ-loop
 same-length c = search needs
 
--- src/blocks.rt:172:17
 returns : tie.Need-returns Inv-loop μ-loop
 returns c =
     let a = c .before .before .before .before .before .before .before .before .before .before .before .before .before .before .args in
@@ -48,23 +43,18 @@ returns c =
     (itemsAt (now (a .items)) (now (a .arguments)) (a .first) (a .count)) (loop .table) (now (a .items)) (now (a .arguments))
     (loop .at) (loop .left) (loop .inv .2) (loop-test .taken) (analyze-op .ensures) (e .given .1)
 
--- src/blocks.rt:175:17
 enum-told : tie.Need-enum-told Inv-loop μ-loop
 enum-told c = search needs
 
--- src/blocks.rt:175:17
 add-at : tie.Need-add-at Inv-loop μ-loop
 add-at c = search needs
 
--- src/blocks.rt:176:17
 sub-left : tie.Need-sub-left Inv-loop μ-loop
 sub-left c = search needs
 
--- src/blocks.rt:169:5
 loop-less : tie.Need-loop-less Inv-loop μ-loop
 loop-less c = search needs
 
--- src/blocks.rt:169:5
 loop-again : tie.Need-loop-again Inv-loop μ-loop
 loop-again c =
     let a = c .before .before .before .before .before .before .before .before .before .before .before .before .before .args in
@@ -79,15 +69,12 @@ loop-again c =
           (loop .at) (loop .left) (loop .inv .2) (loop-test .taken) (analyze-op .ensures) (enum-told .given .1),
     )
 
--- src/blocks.rt:180:5
 expect-terminator-requires : tie.Need-expect-terminator-requires Inv-loop μ-loop
 expect-terminator-requires c κs = search needs
 
--- src/blocks.rt:151:1
 same-length-2 : tie.Need-same-length-2 Inv-loop μ-loop
 same-length-2 c = search needs
 
--- src/blocks.rt:151:1
 returns-2 : tie.Need-returns-2 Inv-loop μ-loop
 returns-2 c =
     let a = c .before .before .before .before .before .before .before .before .args in

@@ -1,29 +1,18 @@
-use Rattle.functions.specs.Rows.{typesAt}
-use Rattle.sema.proofs.Turns.{variables-more, variables-none, types-more}
+use Rattle.sema.proofs.Turns.{variables-more, variables-none}
 use Rattle.sema.specs.Items.{variablesAt}
-use Rattle.sema.specs.Typing.{presentD, typesOf, sameAll}
+use Rattle.sema.specs.Typing.{presentD}
 use Rattle.sema.specs.Symbols.{thenLook}
 use Rattle.pieces.specs.declared.Identifier.{Identifier}
 use Rattle.utils.specs.Bytes.{pick}
 use borrow.Author.Needs.{needs}
-use borrow.Author.Tests.{lt-ltb, le-ltb, le-leb, lt-leb, eq-eqb, ne-eqb}
+use borrow.Author.Tests.{eq-eqb, ne-eqb}
 use native.Mathlib.Omega.{arith}
-use native.Mathlib.Numerals.{add-one}
-use Prim.Native.Nat.{ℕ, suc, _+_, _-_, _*_, _≤_, _<_}
+use Prim.Native.Nat.{_+_}
 use mathlib.Core.Path.{_≡_, refl, sym, ap, _∙_}
-use mathlib.Core.Logic.{⊎-elim}
-use mathlib.Core.List.{List, [], _∷_, _++_}
-use mathlib.Core.Bool.{Bool, true, false}
-use lib.ListN.{length, drop, take, getD}
-use lib.Seq.{drop-cons}
+use lib.ListN.{getD}
 use denote.Ref.{now}
 use Rattle.sema.proofs.calls.look_arguments.Statement.{statement}
 use Rattle.sema.proofs.calls.look_arguments.Tie as tie
-use Rattle.sema.proofs.calls.look_arguments.Reads as reads
-use Rattle.sema.proofs.calls.look_arguments.Lts as lts
-use Rattle.sema.proofs.calls.argument_at.Reads as argument-at-reads
-use Rattle.sema.proofs.symbols.get.Reads as get-reads
-use Rattle.sema.proofs.symbols.refuse.Reads as refuse-reads
 
 abbrev Inv-loop : tie.InvT-loop
 Inv-loop table token arguments first count at₀ left₀ at left =
@@ -33,23 +22,18 @@ Inv-loop table token arguments first count at₀ left₀ at left =
 abbrev μ-loop : tie.MeasureT-loop
 μ-loop table token arguments first count at₀ left₀ at left = left
 
--- src/calls.rt:50:5
 loop-holds : tie.Need-loop-holds Inv-loop μ-loop
 loop-holds c = (refl, refl)
 
--- src/calls.rt:51:13
 argument-at-requires : tie.Need-argument-at-requires Inv-loop μ-loop
 argument-at-requires c κs = search needs
 
--- src/calls.rt:52:12
 get-requires : tie.Need-get-requires Inv-loop μ-loop
 get-requires c κs = search needs
 
--- src/calls.rt:53:13
 refuse-requires : tie.Need-refuse-requires Inv-loop μ-loop
 refuse-requires c κs = search needs
 
--- src/calls.rt:53:13
 returns : tie.Need-returns Inv-loop μ-loop
 unfolding presentD thenLook pick
 returns c =
@@ -65,19 +49,15 @@ returns c =
     let m = variables-more (now (a .arguments)) (loop .at) (loop .left) (loop-test .taken) in
     rw (← loop .inv .1, m, eq-eqb _ _ (v ∙ if1 .taken), refuse .ensures, argument-at .ensures)
 
--- src/calls.rt:55:9
 add-at : tie.Need-add-at Inv-loop μ-loop
 add-at c = search needs
 
--- src/calls.rt:56:9
 sub-left : tie.Need-sub-left Inv-loop μ-loop
 sub-left c = search needs
 
--- src/calls.rt:50:5
 loop-less : tie.Need-loop-less Inv-loop μ-loop
 loop-less c = search needs
 
--- src/calls.rt:50:5
 loop-again : tie.Need-loop-again Inv-loop μ-loop
 unfolding presentD thenLook pick
 loop-again c =
@@ -92,7 +72,6 @@ loop-again c =
     let m = variables-more (now (a .arguments)) (loop .at) (loop .left) (loop-test .taken) in
     (omega arith, rw (← loop .inv .1, m, v, ne-eqb _ _ (if1 .left)))
 
--- src/calls.rt:44:1
 returns-2 : tie.Need-returns-2 Inv-loop μ-loop
 unfolding presentD
 returns-2 c =

@@ -21,23 +21,18 @@ Inv-loop tokens rows n ret table₀ items arguments blocks first order left₀ t
 abbrev μ-loop : tie.MeasureT-loop
 μ-loop tokens rows n ret table₀ items arguments blocks first order left₀ table left = left .blocks - left .taken
 
--- src/function.rt:99:5
 loop-holds : tie.Need-loop-holds Inv-loop μ-loop
 loop-holds c = search needs
 
--- src/function.rt:100:15
 pop-requires : tie.Need-pop-requires Inv-loop μ-loop
 pop-requires c κs = search needs
 
--- src/function.rt:102:17
 enum-told : tie.Need-enum-told Inv-loop μ-loop
 enum-told c = search needs
 
--- src/function.rt:102:17
 same-length : tie.Need-same-length Inv-loop μ-loop
 same-length c = search needs
 
--- src/function.rt:102:17
 returns : tie.Need-returns Inv-loop μ-loop
 returns c =
     let a = c .before .before .before .before .before .before .before .before .before .before .args in
@@ -50,31 +45,24 @@ returns c =
     (loop .table) (now (a .items)) (now (a .arguments)) (now (a .blocks)) (a .first) (now (a .order)) (loop .left)
     (loop .inv .0) (pre .2) (loop .inv .2) (sym (pop .ensures) ∙ enum-told .given .1)
 
--- src/function.rt:104:27
 enum-known-b : tie.Need-enum-known-b Inv-loop μ-loop
 enum-known-b c = search needs
 
--- src/function.rt:105:42
 cast-k : tie.Need-cast-k Inv-loop μ-loop
 cast-k c = search needs
 
--- src/function.rt:105:25
 add-k : tie.Need-add-k Inv-loop μ-loop
 add-k c = search needs
 
--- src/function.rt:106:23
 analyze-recorded-requires : tie.Need-analyze-recorded-requires Inv-loop μ-loop
 analyze-recorded-requires c κs = search needs
 
--- src/function.rt:107:38
 enum-known-e : tie.Need-enum-known-e Inv-loop μ-loop
 enum-known-e c = search needs
 
--- src/function.rt:108:25
 same-length-2 : tie.Need-same-length-2 Inv-loop μ-loop
 same-length-2 c = search needs
 
--- src/function.rt:108:25
 returns-2 : tie.Need-returns-2 Inv-loop μ-loop
 returns-2 c =
     let a = c .before .before .before .before .before .before .before .before .before .before .before .before .before .before .before .before .before .before .before .args in
@@ -89,11 +77,9 @@ returns-2 c =
     (loop .table) (now (a .items)) (now (a .arguments)) (now (a .blocks)) (a .first) (now (a .order)) (loop .left)
     (loop .inv .0) (pre .2) (loop .inv .2) (sym (pop .ensures) ∙ b .given .1) (analyze-recorded .ensures) (e .given .1)
 
--- src/function.rt:111:25
 enum-told-2 : tie.Need-enum-told-2 Inv-loop μ-loop
 enum-told-2 c = search needs
 
--- src/function.rt:99:5
 loop-less : tie.Need-loop-less Inv-loop μ-loop
 loop-less c =
     let a = c .before .before .before .before .before .before .before .before .before .before .before .before .before .before .before .before .before .before .args in
@@ -107,7 +93,6 @@ loop-less c =
     (loop .table) (now (a .items)) (now (a .arguments)) (now (a .blocks)) (a .first) (now (a .order)) (loop .left)
     (loop .inv .0) (pre .2) (loop .inv .2) popped-is) .1
 
--- src/function.rt:99:5
 loop-again : tie.Need-loop-again Inv-loop μ-loop
 loop-again c =
     let a = c .before .before .before .before .before .before .before .before .before .before .before .before .before .before .before .before .before .before .args in

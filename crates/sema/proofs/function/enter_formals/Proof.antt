@@ -17,43 +17,33 @@ Inv-loop table₀ token rows first count w at₀ left₀ table at left =
 abbrev μ-loop : tie.MeasureT-loop
 μ-loop table₀ token rows first count w at₀ left₀ table at left = left
 
--- src/function.rt:30:5
 loop-holds : tie.Need-loop-holds Inv-loop μ-loop
 loop-holds c = (refl, refl, refl)
 
--- src/function.rt:31:52
 mul-t14 : tie.Need-mul-t14 Inv-loop μ-loop
 mul-t14 c = search needs
 
--- src/function.rt:31:52
 shared-slice-read-t16 : tie.Need-shared-slice-read-t16 Inv-loop μ-loop
 shared-slice-read-t16 c = search needs
 
--- src/function.rt:31:68
 add-insert : tie.Need-add-insert Inv-loop μ-loop
 add-insert c = search needs
 
--- src/function.rt:31:63
 mul-insert : tie.Need-mul-insert Inv-loop μ-loop
 mul-insert c = search needs
 
--- src/function.rt:31:63
 shared-slice-read-insert : tie.Need-shared-slice-read-insert Inv-loop μ-loop
 shared-slice-read-insert c = search needs
 
--- src/function.rt:31:15
 insert-requires : tie.Need-insert-requires Inv-loop μ-loop
 insert-requires c κs = search needs
 
--- src/function.rt:32:30
 enum-known-e : tie.Need-enum-known-e Inv-loop μ-loop
 enum-known-e c = search needs
 
--- src/function.rt:33:17
 same-length : tie.Need-same-length Inv-loop μ-loop
 same-length c = search needs
 
--- src/function.rt:33:17
 returns : tie.Need-returns Inv-loop μ-loop
 returns c =
     let a = c .before .before .before .before .before .before .before .before .before .before .before .before .before .args in
@@ -64,23 +54,18 @@ returns c =
     formals-refused (a .token) (now (a .table)) (formalsFrom (now (a .rows)) (a .first) (a .count)) (loop .table) (now (a .rows)) (loop .at)
     (loop .left) (loop .inv .2) (loop-test .taken) (insert .ensures) (e .given .1)
 
--- src/function.rt:36:17
 enum-told : tie.Need-enum-told Inv-loop μ-loop
 enum-told c = search needs
 
--- src/function.rt:36:17
 add-at : tie.Need-add-at Inv-loop μ-loop
 add-at c = search needs
 
--- src/function.rt:37:17
 sub-left : tie.Need-sub-left Inv-loop μ-loop
 sub-left c = search needs
 
--- src/function.rt:30:5
 loop-less : tie.Need-loop-less Inv-loop μ-loop
 loop-less c = search needs
 
--- src/function.rt:30:5
 loop-again : tie.Need-loop-again Inv-loop μ-loop
 loop-again c =
     let a = c .before .before .before .before .before .before .before .before .before .before .before .before .args in
@@ -94,11 +79,9 @@ loop-again c =
           (loop .left) (loop .inv .2) (loop-test .taken) (insert .ensures) (enum-told .given .1),
     )
 
--- src/function.rt:22:1
 same-length-2 : tie.Need-same-length-2 Inv-loop μ-loop
 same-length-2 c = search needs
 
--- src/function.rt:22:1
 returns-2 : tie.Need-returns-2 Inv-loop μ-loop
 returns-2 c =
     let a = c .before .before .before .before .args in

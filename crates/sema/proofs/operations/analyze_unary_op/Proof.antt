@@ -1,42 +1,13 @@
-use lib.ListN.{List·getD-eq-default}
-use Rattle.sema.proofs.Steps.{same-refused, same-fine, typed-refused, typed-fine}
-use Rattle.sema.specs.Typing.{thenThree, operandsD, binaryD, operandD, unaryD, constD, retD, retValueD}
-use Rattle.sema.specs.Symbols.{enterD, thenLook, thenSame, thenTyped}
+use Rattle.sema.proofs.Steps.{typed-refused, typed-fine}
+use Rattle.sema.specs.Typing.{unaryD}
+use Rattle.sema.specs.Symbols.{thenLook}
 use Rattle.utils.specs.Bytes.{pick}
-use borrow.Author.Tests.{lt-ltb, le-ltb, le-leb, lt-leb, eq-eqb, ne-eqb}
-use native.Mathlib.Omega.{arith}
-use native.Mathlib.Numerals.{add-one}
-use Prim.Native.Nat.{ℕ, suc, _+_, _-_, _*_, _≤_, _<_}
-use mathlib.Core.Path.{_≡_, refl, sym, ap, _∙_}
-use mathlib.Core.Logic.{⊎-elim}
-use mathlib.Core.List.{List, [], _∷_, _++_}
-use mathlib.Core.Bool.{Bool, true, false}
-use lib.ListN.{length, drop, take, getD}
-use lib.Seq.{drop-cons}
-use denote.Ref.{now}
+use borrow.Author.Tests.{eq-eqb, ne-eqb}
+use mathlib.Core.Path.{_∙_}
 use borrow.Author.Needs.{needs}
 use Rattle.sema.proofs.operations.analyze_unary_op.Statement.{statement}
 use Rattle.sema.proofs.operations.analyze_unary_op.Tie as tie
-use Rattle.sema.proofs.operations.analyze_unary_op.Reads as reads
-use Rattle.sema.proofs.operations.analyze_unary_op.Lts as lts
-use Rattle.sema.proofs.operations.expect_operand.Reads as expect-operand-reads
-use Rattle.sema.proofs.symbols.get.Reads as get-reads
-use Rattle.sema.proofs.symbols.insert.Reads as insert-reads
-use Rattle.sema.proofs.symbols.refuse.Reads as refuse-reads
 
--- src/operations.rt:101:9
-get-requires : tie.Need-get-requires
-get-requires c κs = search needs
-
--- src/operations.rt:103:9
-refuse-requires : tie.Need-refuse-requires
-refuse-requires c κs = search needs
-
--- src/operations.rt:103:9
-same-length : tie.Need-same-length
-same-length c = search needs
-
--- src/operations.rt:103:9
 returns : tie.Need-returns
 unfolding unaryD thenLook pick
 returns c =
@@ -45,27 +16,6 @@ returns c =
     let refuse = c .refuse in
     rw (← get .ensures, eq-eqb _ _ (if1 .taken), refuse .ensures)
 
--- src/operations.rt:105:11
-insert-requires : tie.Need-insert-requires
-insert-requires c κs = search needs
-
--- src/operations.rt:106:26
-enum-known-e : tie.Need-enum-known-e
-enum-known-e c = search needs
-
--- src/operations.rt:107:26
-enum-told : tie.Need-enum-told
-enum-told c = search needs
-
--- src/operations.rt:107:26
-expect-operand-requires : tie.Need-expect-operand-requires
-expect-operand-requires c κs = search needs
-
--- src/operations.rt:91:1
-same-length-2 : tie.Need-same-length-2
-same-length-2 c = search needs
-
--- src/operations.rt:91:1
 returns-2 : tie.Need-returns-2
 unfolding unaryD thenLook pick
 returns-2 c =
@@ -75,11 +25,6 @@ returns-2 c =
     let e = c .before .e in
     rw (← get .ensures, ne-eqb _ _ (if1 .left)) (typed-refused _ _ _ (insert .ensures) (e .given .1))
 
--- src/operations.rt:91:1
-same-length-3 : tie.Need-same-length-3
-same-length-3 c = search needs
-
--- src/operations.rt:91:1
 returns-3 : tie.Need-returns-3
 unfolding unaryD thenLook pick
 returns-3 c =
@@ -93,16 +38,6 @@ returns-3 c =
 pub analyze-unary-op-spec : {M : Type 1} → statement M
 analyze-unary-op-spec =
     tie.close
-    (tie.spec
-    get-requires
-    refuse-requires
-    same-length
-    returns
-    insert-requires
-    enum-known-e
-    enum-told
-    expect-operand-requires
-    same-length-2
-    returns-2
-    same-length-3
+    (tie.spec (λ c κs. search needs) (λ c κs. search needs) (λ c. search needs) returns (λ c κs. search needs)
+    (λ c. search needs) (λ c. search needs) (λ c κs. search needs) (λ c. search needs) returns-2 (λ c. search needs)
     returns-3)
