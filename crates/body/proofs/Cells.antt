@@ -12,9 +12,9 @@ use lib.Seq.{sets}
 use Rattle.utils.specs.Bytes.{pick}
 use Rattle.utils.proofs.Runs.{sets-append}
 use Rattle.parser.specs.Runs.{variablesCells}
-use Rattle.parser.specs.Body.{Item, label, plain, call, callInto, terminates, argumentsIn}
-use Rattle.parser.specs.Body.{behind, labelsOf, ret, lacksRet, closedFrom}
-use Rattle.parser.specs.Blocks.{partsOf}
+use Rattle.body.specs.Body.{Item, label, plain, call, callInto, terminates, argumentsIn}
+use Rattle.body.specs.Body.{behind, labelsOf, ret, lacksRet, closedFrom}
+use Rattle.body.specs.Shapes.{partsOf}
 use Rattle.parser.specs.declared.Variable.{Variable}
 use Rattle.parser.specs.declared.Operation.{Operation}
 use Rattle.body.specs.Records.{recordOf, itemsCells, argumentsCells, argumentsCount}

@@ -6,8 +6,8 @@ use native.Mathlib.Omega.{arith}
 use lib.ListN.{length, take, length-append}
 use lib.Seq.{sets, sets-eq, length-take-le, getD-append-seam, getD-append-add}
 use Rattle.utils.specs.Bytes.{pick}
-use Rattle.parser.specs.Body.{Item, label, plain, call, callInto, argumentsIn}
-use Rattle.parser.specs.Blocks.{partOf, partsOf}
+use Rattle.body.specs.Body.{Item, label, plain, call, callInto, argumentsIn}
+use Rattle.body.specs.Shapes.{partOf, partsOf}
 use Rattle.parser.specs.declared.Operation.the-variants as O
 use Rattle.body.specs.Records.{operationRecord, recordOf, firstCell, secondCell, recordCells, itemsCells, lastOf}
 use Rattle.body.specs.Records.{recordAt, goesBy, recordPart, partsAt}

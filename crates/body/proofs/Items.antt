@@ -12,8 +12,8 @@ use Rattle.utils.specs.Bytes.{pick}
 use Rattle.lexer.specs.Decoded.{Tok}
 use Rattle.parser.specs.Step.{refusal, thenAt}
 use Rattle.parser.specs.Runs.{Calling, variablesCells, calledOf}
-use Rattle.parser.specs.Body.{Item, label, plain, call, callInto, operationToken, itemToken, argumentsIn}
-use Rattle.parser.specs.Body.{ItemAt, item, refused, thenItem, calledItem, itemD, Body, bodyStop, behind, labelsOf}
+use Rattle.body.specs.Body.{Item, label, plain, call, callInto, operationToken, itemToken, argumentsIn}
+use Rattle.body.specs.Body.{ItemAt, item, refused, thenItem, calledItem, itemD, Body, bodyStop, behind, labelsOf}
 use Rattle.parser.specs.declared.Refusal.{Refusal}
 use Rattle.parser.specs.declared.Operation.{Operation}
 use Rattle.parser.specs.declared.Operation.the-variants as O
@@ -24,8 +24,7 @@ use Rattle.parser.specs.declared.Called.the-variants as L
 use Rattle.body.specs.Records.{none, operationRecord, recordOf, itemsCells}
 use Rattle.body.specs.Room.{Within}
 use Rattle.body.specs.Turns.{itemRead, Put, ItemHeld, callRecord, callRead, CallHeld, lateRefusal}
-use Rattle.body.specs.Turns.{behindKind, closing, beforeNext}
-use Rattle.body.specs.Turns.{lastNext, itemThen, ItemTaken}
+use Rattle.body.specs.Turns.{behindKind, closing, beforeNext, lastNext, itemThen, ItemTaken}
 use Rattle.body.specs.declared.ItemRecord.{ItemRecord}
 use Rattle.body.specs.declared.ItemRead.the-variants as I
 use Rattle.body.specs.declared.Going.{Going}

@@ -9,8 +9,8 @@ use native.Mathlib.Nat.{add-zero, zero-add}
 use lib.ListN.{length, length-append}
 use Rattle.utils.specs.Bytes.{pick}
 use Rattle.parser.specs.Runs.{variablesCells}
-use Rattle.parser.specs.Body.{Item, label, plain, call, callInto, argumentsIn, afterBrace, afterLabel, lacksRet, ret}
-use Rattle.parser.specs.Body.{closedFrom, closedItems}
+use Rattle.body.specs.Body.{Item, label, plain, call, callInto, argumentsIn, afterBrace, afterLabel, lacksRet, ret}
+use Rattle.body.specs.Body.{closedFrom, closedItems}
 use Rattle.parser.specs.declared.Variable.{Variable}
 use Rattle.body.specs.Records.{recordOf, recordCells, itemsCells, argumentsCells, argumentsCount}
 

@@ -21,8 +21,8 @@ use Rattle.parser.specs.Grammar.{isConstant, constD}
 use Rattle.parser.specs.Grammar.{unaryD, binaryD, isUnary, isBinary, valueD, definitionD, instructionD}
 use Rattle.parser.specs.Runs.{Variables, Calling, argumentsD, callD}
 use Rattle.parser.specs.Labels.{has, labelledD}
-use Rattle.parser.specs.Body.{Item, label, plain, call, callInto, operationToken, itemToken, argumentsIn}
-use Rattle.parser.specs.Body.{ItemAt, item, refused, calledItem, parsedItem, itemD}
+use Rattle.body.specs.Body.{Item, label, plain, call, callInto, operationToken, itemToken, argumentsIn}
+use Rattle.body.specs.Body.{ItemAt, item, refused, calledItem, parsedItem, itemD}
 use Rattle.parser.specs.declared.Refusal.{Refusal}
 use Rattle.parser.specs.declared.Ty.{Ty}
 use Rattle.parser.specs.declared.Variable.{Variable}

@@ -1,7 +1,7 @@
 -- Why the body's loop is right: what is left to read, read from here, gives the whole body; the cells are those of what
 -- was read. One lemma for each way a turn can end.
 use Prim.Native.Nat.{ℕ, zero, suc, _+_, _-_, _*_, _≤_}
-use mathlib.Core.Path.{_≡_, refl, sym, ap, _∙_}
+use mathlib.Core.Path.{_≡_, refl, sym, _∙_}
 use mathlib.Core.Bool.{Bool, true}
 use mathlib.Core.List.{List}
 use native.Mathlib.Omega.{arith}
@@ -10,14 +10,14 @@ use lib.ListN.{length}
 use lib.Seq.{sets, length-sets}
 use Rattle.lexer.specs.Decoded.{Tok}
 use Rattle.parser.specs.Step.{thenAt}
-use Rattle.parser.specs.Body.{Body, bodyStop, labelsOf, lacksRet, closedFrom, closedItems}
-use Rattle.parser.specs.Blocks.{partsOf}
+use Rattle.body.specs.Body.{Body, bodyStop, labelsOf, lacksRet, closedFrom, closedItems}
+use Rattle.body.specs.Shapes.{partsOf}
 use Rattle.parser.specs.declared.Refusal.{Refusal}
 use Rattle.parser.specs.declared.Consumed.the-variants as C
 use Rattle.body.specs.Records.{itemsCells, argumentsCells, argumentsCount}
 use Rattle.body.specs.Room.{Within, filled}
 use Rattle.body.specs.Answer.{functionBody, bodyRead, Stored, Held}
-use Rattle.body.specs.Turns.{added, closing, Ready, bodyFrom, Gone, Ended}
+use Rattle.body.specs.Turns.{added, Ready, bodyFrom, Gone, Ended}
 use Rattle.body.specs.declared.BodyRead.the-variants as B
 use Rattle.body.specs.declared.Closed.{Closed}
 use Rattle.body.specs.declared.Going.{Going}

@@ -18,7 +18,7 @@ use Rattle.lexer.specs.Decoded.{Tok, tokenAt}
 use Rattle.parser.specs.Step.{opened}
 use Rattle.parser.specs.Runs.{variablesCells}
 use Rattle.parser.specs.Labels.{labelledD}
-use Rattle.parser.specs.Body.{label, bodyD, bodyThen, closes, behind, labelsOf, lacksRet}
+use Rattle.body.specs.Body.{label, bodyD, bodyThen, closes, behind, labelsOf, lacksRet}
 use Rattle.parser.specs.declared.Named.the-variants as N
 use Rattle.body.specs.Records.{none, itemRecord, recordOf, recordCells, itemsCells, argumentsCount}
 use Rattle.body.specs.declared.Last.the-variants as L

@@ -1,5 +1,5 @@
 -- A body's answer, and what its cells hold.
-use Prim.Native.Nat.{ℕ, _+_, _*_, _≤_}
+use Prim.Native.Nat.{ℕ, _*_, _≤_}
 use mathlib.Core.Path.{_≡_}
 use mathlib.Core.List.{List, []}
 use mathlib.Core.Bool.{Bool, true}
@@ -7,8 +7,8 @@ use lib.ListN.{length}
 use lib.Seq.{sets}
 use Rattle.lexer.specs.Decoded.{Tok}
 use Rattle.parser.specs.Step.{thenAt}
-use Rattle.parser.specs.Body.{Item, Body, afterBrace, bodyD, labelsOf, closedItems}
-use Rattle.parser.specs.Blocks.{partsOf}
+use Rattle.body.specs.Body.{Item, Body, afterBrace, bodyD, labelsOf, closedItems}
+use Rattle.body.specs.Shapes.{partsOf}
 use Rattle.parser.specs.declared.Consumed.{Consumed}
 use Rattle.parser.specs.declared.Consumed.the-variants as C
 use Rattle.body.specs.Records.{itemsCells, argumentsCells, argumentsCount}

@@ -1,4 +1,8 @@
--- What stands in the cells, in reading order.
+-- A function's body, and what stands in its cells, in reading order.
+-- a body: its items
+pub mod Body
+-- what blocks are made of
+pub mod Shapes
 -- an item's record, and the argument's run
 pub mod Records
 -- how many items, arguments and blocks so many tokens make
@@ -7,3 +11,5 @@ pub mod Room
 pub mod Answer
 -- one turn of its loop: the code's steps, which a reader of document 01 may pass over
 pub mod Turns
+-- two readings of one body: what is related to what
+pub mod Moved

@@ -5,15 +5,13 @@
 -- writes it.
 use Prim.Native.Nat.{ℕ, zero, suc, _+_, _*_}
 use mathlib.Core.List.{List, [], _∷_, _++_}
-use mathlib.Core.Bool.{Bool}
 use lib.Dec.{eqb}
 use lib.ListN.{length, getD}
 use Rattle.utils.specs.Bytes.{pick}
 use Rattle.pieces.specs.declared.Identifier.{Identifier}
 use Rattle.parser.specs.Runs.{typeCell, variablesCells}
-use Rattle.parser.specs.Body.{Item, label, plain, call, callInto, argumentsIn}
-use Rattle.parser.specs.Blocks.{Part, name, operation}
-use Rattle.parser.specs.declared.Variable.{Variable}
+use Rattle.body.specs.Body.{Item, label, plain, call, callInto, argumentsIn}
+use Rattle.body.specs.Shapes.{Part, name, operation}
 use Rattle.parser.specs.declared.Operation.{Operation}
 use Rattle.parser.specs.declared.Operation.the-variants as O
 use Rattle.body.specs.declared.ItemRecord.{ItemRecord}

@@ -7,7 +7,7 @@ use mathlib.Core.Bool.{Bool, true, false}
 use Rattle.utils.specs.Bytes.{pick}
 use Rattle.lexer.specs.Decoded.{Tok, tokenAt}
 use Rattle.parser.specs.Kinds as T
-use Rattle.parser.specs.Blocks.{Part, name, operation}
+use Rattle.body.specs.Shapes.{Part, name, operation}
 
 -- The end token is one of the first 4,096, and this index is not behind it.
 pub record Within (ts : List Tok) (at : ℕ) : Type 0 where

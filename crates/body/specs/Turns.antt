@@ -8,18 +8,17 @@ use lib.Dec.{eqb, leb}
 use lib.ListN.{length, take, set}
 use lib.Seq.{sets}
 use Rattle.utils.specs.Bytes.{pick}
-use Rattle.lexer.specs.Decoded.{Tok, tokenAt}
+use Rattle.lexer.specs.Decoded.{Tok}
 use Rattle.pieces.specs.declared.Identifier.{Identifier}
 use Rattle.parser.specs.Step.{refusal, thenAt}
 use Rattle.parser.specs.Runs.{Calling, variablesCells}
 use Rattle.parser.specs.Labels.{labelledD}
-use Rattle.parser.specs.Body.{Item, label, plain, call, callInto, operationToken, itemToken, argumentsIn}
-use Rattle.parser.specs.Body.{ItemAt, item, refused, thenItem, itemD, Body, bodyEnd, bodyStop, bodyThen, bodyD}
-use Rattle.parser.specs.Body.{afterLabel, afterOperation, afterTerminator, behind, labelsOf, ret, lacksRet}
+use Rattle.body.specs.Body.{Item, label, plain, call, callInto, operationToken, itemToken, argumentsIn}
+use Rattle.body.specs.Body.{ItemAt, item, refused, thenItem, itemD, Body, bodyEnd, bodyStop, bodyThen, bodyD}
+use Rattle.body.specs.Body.{afterLabel, afterOperation, afterTerminator, behind, labelsOf, ret, lacksRet}
 use Rattle.parser.specs.declared.Refusal.{Refusal}
 use Rattle.parser.specs.declared.Consumed.{Consumed}
 use Rattle.parser.specs.declared.Consumed.the-variants as C
-use Rattle.parser.specs.declared.Named.{Named}
 use Rattle.parser.specs.declared.Named.the-variants as N
 use Rattle.body.specs.Records.{itemRecord, recordOf, recordCells, itemsCells}
 use Rattle.body.specs.Room.{Within}

@@ -1,10 +1,10 @@
 // One operation, a call with its arguments, as a record.
 ghost use mathlib.Core.Path.{_≡_};
-ghost use Prim.Native.Nat.{ℕ, _+_, _*_, _≤_};
+ghost use Prim.Native.Nat.{_+_, _*_, _≤_};
 ghost use lib.ListN.{length};
 ghost use Rattle.lexer.specs.Decoded.{tokensOf};
 ghost use Rattle.parser.specs.Runs.{variablesCells, callD};
-ghost use Rattle.parser.specs.Body.{itemD};
+ghost use Rattle.body.specs.Body.{itemD};
 ghost use Rattle.body.specs.Room.{Within};
 ghost use Rattle.body.specs.Turns.{itemRead, ItemHeld, callRecord, callRead, CallHeld};
 use crate::ItemRead;

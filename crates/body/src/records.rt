@@ -1,11 +1,11 @@
 // Items and their cells.
 ghost use mathlib.Core.Path.{_≡_};
 ghost use mathlib.Core.List.{[], _∷_};
-ghost use Prim.Native.Nat.{ℕ, _+_, _*_, _≤_, _<_};
+ghost use Prim.Native.Nat.{_+_, _*_, _≤_, _<_};
 ghost use lib.ListN.{length};
 ghost use lib.Seq.{sets};
 ghost use Rattle.parser.specs.Runs.{typeCell};
-ghost use Rattle.parser.specs.Body.{operationToken};
+ghost use Rattle.body.specs.Body.{operationToken};
 ghost use Rattle.body.specs.Records.{firstCell, secondCell, lastOf, itemRecord, operationRecord, recordCells};
 ghost use Rattle.body.specs.Records.{recordAt};
 ghost use Rattle.body.specs.declared.Last.the-variants as L;

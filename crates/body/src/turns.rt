@@ -1,10 +1,10 @@
 // One turn of the body's loop: an item and its record, or the closing brace.
 ghost use mathlib.Core.Path.{_≡_};
-ghost use Prim.Native.Nat.{ℕ, _+_, _*_, _≤_};
+ghost use Prim.Native.Nat.{_+_, _*_, _≤_};
 ghost use lib.ListN.{length};
 ghost use lib.Seq.{sets};
 ghost use Rattle.lexer.specs.Decoded.{tokensOf};
-ghost use Rattle.parser.specs.Body.{closes, lacksRet};
+ghost use Rattle.body.specs.Body.{closes, lacksRet};
 ghost use Rattle.body.specs.Records.{itemsCells};
 ghost use Rattle.body.specs.Turns.{lateRefusal, behindKind, added, Ready, ItemTurned, LabelTurned, Turned};
 use crate::Closed;

@@ -20,14 +20,13 @@ use Rattle.lexer.proofs.Records.{tokens-count}
 use Rattle.pieces.specs.declared.Identifier.{Identifier}
 use Rattle.parser.specs.Step.{refusal, look, thenAt, thenNamed, thenType, thenDefined}
 use Rattle.parser.specs.Grammar.{consumeD, namedD, globalD, localD, typeD}
-use Rattle.parser.specs.Body.{Item, afterBrace, closedItems}
-use Rattle.parser.specs.Blocks.{partsOf, namesIn}
-use Rattle.parser.specs.Edges.{Resolved, resolveD}
-use Rattle.parser.specs.Edges.{fine, refused as unresolved}
-use Rattle.parser.proofs.BodyLaws.{labels-few, names-closed}
+use Rattle.body.specs.Body.{Item, afterBrace, closedItems}
+use Rattle.body.specs.Shapes.{partsOf, namesIn}
+use Rattle.link.specs.Edges.{Resolved, resolveD, fine, refused as unresolved}
+use Rattle.body.proofs.BodyLaws.{labels-few, names-closed}
 use Rattle.link.proofs.Laws.{at-least-1, at-most-256}
 use Rattle.body.specs.Answer.{functionBody}
-use Rattle.parser.specs.Runs.{Variables, stopped, ended, andThen, variable, typeCell, variablesCells, formalD, formalsFromD, formalsD}
+use Rattle.parser.specs.Runs.{Variables, stopped, ended, variable, typeCell, variablesCells, formalD, formalsFromD, formalsD}
 use Rattle.parser.specs.declared.Ty.{Ty}
 use Rattle.parser.specs.declared.Ty.the-variants as Y
 use Rattle.parser.specs.declared.Variable.{Variable}
@@ -44,9 +43,10 @@ use Rattle.functions.specs.Functions.{Header, HeaderAt, header, noHeader, thenH
 use Rattle.functions.specs.Functions.{optionalType, enteredD, signatureD, headerD, BuiltAt, built, notBuilt, thenBuilt, builtD}
 use Rattle.functions.specs.Functions.{blocksIn, resolvedItems}
 use Rattle.functions.specs.Functions.{isVoid, Function, FunctionAt, function, noFunction, thenFunction, functionD, functionsD, programD}
-use Rattle.functions.specs.Functions.{Program, programEnd, programStop, programThen, knownOf}
-use Rattle.functions.specs.Rows.{rowAt, formalsAt, rowCells}
-use Rattle.functions.specs.Answer.{countsWith}
+use Rattle.functions.specs.Functions.{Program, programEnd, programStop, knownOf}
+use Rattle.functions.specs.Columns.{rowAt, formalsAt, blockCountAt, placeAt, lengthAt, lineAt, formalTypeAt}
+use Rattle.functions.specs.Rows.{rowCells}
+use Rattle.functions.specs.Answer.{countsWith, Slices}
 use Rattle.functions.specs.Laid.{rowsCells}
 use Rattle.functions.specs.declared.Counts.{Counts}
 use Rattle.functions.proofs.Types.{TypesFew, more-types, types-after-up, function-type-few}
@@ -55,16 +55,14 @@ use Rattle.functions.specs.declared.Entered.{Entered}
 use Rattle.functions.specs.declared.Entered.the-variants as E
 use Rattle.lexer.specs.Read.{readFrom, readOf}
 use Rattle.sema.specs.Program.{programD as typedD}
-use Rattle.sema.specs.Blocks.{blockCountAt}
 use Rattle.sema.specs.declared.Checked.{Checked}
 use Rattle.sema.specs.declared.Checked.the-variants as K
 use Rattle.typing.specs.Outcome.{Outcome, checked, refused, afterTyping, afterParsing, untyped, unitD, none}
 use Rattle.checker.specs.Check.{checkedOr, checkOf}
 use Rattle.checker.specs.declared.CheckAnswer.{CheckAnswer}
-use Rattle.functions.specs.Answer.{Slices}
 use Rattle.checker.specs.Promise.{Lexed, allSized, checkDef, Checks}
 use Rattle.checker.proofs.Lexed.{is-done, tokens-unpadded, read-names, lexed-itself}
-use Rattle.checker.specs.Header.{placeAt, lengthAt, lineAt, formalTypeAt, Between, RowInRange, TableInRange}
+use Rattle.headers.specs.Ranges.{Between, RowInRange, TableInRange}
 
 -- Types. ------------------------------------------------------------------------------------------------------------
 

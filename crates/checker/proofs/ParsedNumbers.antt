@@ -18,10 +18,10 @@ use Rattle.parser.specs.Grammar.{binaryD, valueD, definitionD, instructionD}
 use Rattle.parser.specs.Runs.{Variables, ended, andThen, Calling, calling, formalD, formalsFromD, formalsD, argumentsD}
 use Rattle.parser.specs.Runs.{callD}
 use Rattle.parser.specs.Labels.{labelledD}
-use Rattle.parser.specs.Body.{Item, ItemAt, Body, thenItem, calledItem, parsedItem, itemD, bodyStop, bodyD}
-use Rattle.parser.specs.Body.{afterBrace, afterLabel, afterTerminator, behind, closes}
-use Rattle.parser.specs.Blocks.{Block}
-use Rattle.parser.specs.Edges.{Place, at, nowhere, thenPlace, Resolved, resolveLabels, resolveFrom}
+use Rattle.body.specs.Body.{Item, ItemAt, Body, thenItem, calledItem, parsedItem, itemD, bodyStop, bodyD}
+use Rattle.body.specs.Body.{afterBrace, afterLabel, afterTerminator, behind, closes}
+use Rattle.link.specs.Blocks.{Block}
+use Rattle.link.specs.Edges.{Place, at, nowhere, thenPlace, Resolved, resolveLabels, resolveFrom}
 use Rattle.parser.specs.declared.Refusal.{Refusal}
 use Rattle.parser.specs.declared.Ty.{Ty}
 use Rattle.parser.specs.declared.Variable.{Variable}

@@ -3,7 +3,7 @@ use Prim.Native.Nat.{ℕ}
 use mathlib.Core.List.{List, [], _∷_}
 use Rattle.lexer.specs.Decoded.{Tok}
 use Rattle.pieces.specs.declared.Identifier.{Identifier}
-use Rattle.parser.specs.Body.{Item}
+use Rattle.body.specs.Body.{Item}
 use Rattle.parser.specs.declared.Refusal.{Refusal}
 use Rattle.parser.specs.declared.Variable.{Variable}
 use Rattle.parser.specs.declared.Operation.{Operation}

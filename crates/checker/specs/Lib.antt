@@ -3,7 +3,5 @@
 pub mod Check
 -- the gate and the slices' lengths
 pub mod Promise
--- the ranges of the header table, for recheck
-pub mod Header
 -- document 01's numbers
 pub mod Numbers

@@ -10,13 +10,14 @@ use Rattle.lexer.specs.Numbered as lexes
 use Rattle.lexer.specs.Numbered.{Part, tokensCells, namesCells}
 use Rattle.lexer.specs.Read.{lexedFrom, readFrom, readOf}
 use Rattle.lexer.specs.Decoded.{Tok, tokensOf}
-use Rattle.functions.specs.Rows.{typeAt, signedAt}
+use Rattle.functions.specs.Columns.{typeAt, lineAt}
+use Rattle.functions.specs.Rows.{signedAt}
 use Rattle.typing.specs.Outcome.{Outcome, unitD}
-use Rattle.checker.specs.Header.{lineAt}
 use Rattle.checker.specs.Check.{checkedOr, checkOf}
-use Rattle.recheck.specs.Table.{isTable}
-use Rattle.recheck.specs.Spelled.{rowName, globalsSpelled, calleesSpelled}
-use Rattle.recheck.specs.Recheck.{isWhole, keeps, functionAlone, verdictAs, recheckOf}
+use Rattle.headers.specs.Table.{isTable}
+use Rattle.headers.specs.Spelled.{rowName, globalsSpelled, calleesSpelled}
+use Rattle.headers.specs.Kept.{isWhole, keeps}
+use Rattle.recheck.specs.Recheck.{functionAlone, verdictAs, recheckOf}
 
 -- Check. ------------------------------------------------------------------------------------------------------------
 

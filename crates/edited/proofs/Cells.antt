@@ -8,14 +8,15 @@ use lib.ListN.{length, getD, take, drop, replicate, length-append, length-replic
 use lib.Seq.{take-at, drop-at, take-append-le, drop-append-le}
 use Rattle.utils.specs.Bytes.{pick, padTo}
 use Rattle.lexer.specs.Decoded.{Tok}
-use Rattle.parser.specs.Body.{Item, label, plain, call, callInto, argumentsIn}
-use Rattle.parser.specs.Blocks.{Block}
-use Rattle.parser.specs.Edges.{successors, predecessors}
+use Rattle.body.specs.Body.{Item, label, plain, call, callInto, argumentsIn}
+use Rattle.link.specs.Blocks.{Block}
+use Rattle.link.specs.Edges.{successors, predecessors}
 use Rattle.parser.specs.declared.Operation.the-variants as O
 use Rattle.body.specs.Records.{operationRecord, recordOf, recordCells, argumentsCount}
 use Rattle.link.specs.Cells.{blockCells, predecessorCells}
 use Rattle.functions.specs.Functions.{Function, blocksIn}
-use Rattle.functions.specs.Rows.{rowAt, rowCells}
+use Rattle.functions.specs.Columns.{rowAt}
+use Rattle.functions.specs.Rows.{rowCells}
 use Rattle.functions.specs.Answer.{Slices, edgesIn, predecessorsIn, countsWith, countsFrom}
 use Rattle.functions.specs.Laid.{rowsCells, allBlocks, allPredecessors}
 use Rattle.functions.specs.declared.Counts.{Counts}

@@ -14,10 +14,10 @@ use Rattle.pieces.specs.declared.Identifier.{Identifier}
 use Rattle.pieces.proofs.Progress.{pick-either}
 use Rattle.parser.specs.Step.{look, thenAt, thenNamed}
 use Rattle.parser.specs.Grammar.{namedD}
-use Rattle.parser.specs.Body.{Item, ItemAt, Body, bodyStop, itemD, thenItem, behind, closes, bodyD}
-use Rattle.parser.specs.Body.{closedItems, afterBrace, afterLabel}
+use Rattle.body.specs.Body.{Item, ItemAt, Body, bodyStop, itemD, thenItem, behind, closes, bodyD}
+use Rattle.body.specs.Body.{closedItems, afterBrace, afterLabel}
 use Rattle.parser.specs.Labels.{labelledD}
-use Rattle.parser.specs.Edges.{Resolved, resolveD}
+use Rattle.link.specs.Edges.{Resolved, resolveD}
 use Rattle.parser.specs.declared.Consumed.{Consumed}
 use Rattle.parser.specs.declared.Consumed.the-variants as C
 use Rattle.parser.specs.declared.Named.{Named}

@@ -16,14 +16,14 @@ use Rattle.lexer.specs.Sound.{noToken}
 use Rattle.lexer.specs.declared.TokenAt.{TokenAt}
 use Rattle.lexer.proofs.Accepted.{Done}
 use Rattle.functions.specs.Functions.{Function}
-use Rattle.functions.specs.Rows.{typeAt}
+use Rattle.functions.specs.Columns.{typeAt}
 use Rattle.sema.specs.Typing.{Global}
 use Rattle.typing.specs.Outcome.{checked, unitD}
 use Rattle.checker.specs.Check.{checkOf}
 use Rattle.checker.specs.Numbers.{Accepts}
 use Rattle.checker.proofs.Lexed.{is-done, lexed-itself}
 use Rattle.recheck.specs.Recheck.{functionAlone, verdictAs}
-use Rattle.recheck.specs.Spelled.{globalsSpelled, calleesSpelled}
+use Rattle.headers.specs.Spelled.{globalsSpelled, calleesSpelled}
 use Rattle.joined.specs.Edits.{Replaced}
 use Rattle.related.specs.Alone.{Keeps, globalSpelt, aloneAmong}
 use Rattle.related.specs.Reading.{calleeSpelt}

@@ -23,7 +23,7 @@ use Rattle.lexer.proofs.Same.{same-bytes-true, same-bytes-refl, length-spelling
 use Rattle.lexer.proofs.Cells.{cells-token-at, names-cell, cells-name}
 use Rattle.parser.specs.Kinds as T
 use Rattle.parser.specs.Moved.{Move, Sim}
-use Rattle.recheck.proofs.Named.{padded-name, accepted-named}
+use Rattle.headers.proofs.Named.{padded-name, accepted-named}
 use Rattle.joined.specs.Names.{Distinct}
 use Rattle.joined.specs.Edits.{Edit}
 use Rattle.joined.specs.Readings.{held, Readings}

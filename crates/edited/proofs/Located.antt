@@ -11,7 +11,8 @@ use Rattle.lexer.specs.Decoded.{Tok, tokensOf, tokenAt}
 use Rattle.typing.specs.Outcome.{checked, unitD}
 use Rattle.checker.specs.Check.{checkOf}
 use Rattle.checker.specs.Numbers.{Accepts}
-use Rattle.edited.specs.Demand3.{tableOf, beginsAt, lineOf, endsAt, closeAt, editedText}
+use Rattle.edited.specs.Demand3.{tableOf, beginsAt, lineOf, endsAt, editedText}
+use Rattle.functions.specs.Columns.{closeAt}
 use Rattle.edited.specs.Itself.{ownText}
 use Rattle.edited.specs.Rows.{RowOf, Split}
 use Rattle.edited.specs.Spelled.{tokensIn}

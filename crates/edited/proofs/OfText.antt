@@ -14,7 +14,7 @@ use Rattle.lexer.specs.Decoded.{Tok, tokenAt}
 use Rattle.parser.specs.Step.{look, refusal}
 use Rattle.body.specs.Room.{Within}
 use Rattle.functions.specs.Functions.{FunctionAt, function, noFunction, thenFunction, functionD}
-use Rattle.functions.specs.Rows.{typeAt}
+use Rattle.functions.specs.Columns.{typeAt}
 use Rattle.sema.specs.Typing.{Global}
 use Rattle.sema.specs.Program.{functionTyped}
 use Rattle.typing.specs.Outcome.{untyped}
@@ -22,7 +22,7 @@ use Rattle.checker.specs.Check.{checkOf}
 use Rattle.checker.proofs.Lexed.{within, lexed-itself}
 use Rattle.checker.proofs.ParsedNumbers.{FunctionOn, function-on}
 use Rattle.checker.proofs.TypedNumbers.{function-fine}
-use Rattle.recheck.specs.Spelled.{globalsSpelled, calleesSpelled}
+use Rattle.headers.specs.Spelled.{globalsSpelled, calleesSpelled}
 use Rattle.recheck.specs.Recheck.{refuses, typedAs, aloneD, functionAlone, recheckOf}
 use Rattle.edited.specs.Demand3.{tableOf, lineOf, recheckedAs}
 use Rattle.edited.specs.OfText.{newTokens, OneFunction}

@@ -21,14 +21,15 @@ use Rattle.functions.specs.Functions.{Function, function, thenFunction, functio
 use Rattle.functions.specs.Rows.{signedAt}
 use Rattle.functions.proofs.SimFunctions.{signatureOfS}
 use Rattle.checker.specs.Check.{checkOf}
-use Rattle.checker.specs.Header.{lineAt}
+use Rattle.functions.specs.Columns.{lineAt}
 use Rattle.checker.specs.Numbers.{Accepts}
 use Rattle.checker.proofs.TypedNumbers.{function-fine}
 use Rattle.typing.specs.Outcome.{untyped}
-use Rattle.recheck.specs.Table.{isTable}
-use Rattle.recheck.specs.Spelled.{rowName, globalsSpelled}
-use Rattle.recheck.specs.Recheck.{isWhole, keeps, typedAs, aloneD, functionAlone, recheckOf}
-use Rattle.recheck.proofs.Keeping.{kept-same}
+use Rattle.headers.specs.Table.{isTable}
+use Rattle.headers.specs.Spelled.{rowName, globalsSpelled}
+use Rattle.headers.specs.Kept.{isWhole, keeps}
+use Rattle.recheck.specs.Recheck.{typedAs, aloneD, functionAlone, recheckOf}
+use Rattle.headers.proofs.Keeping.{kept-same}
 use Rattle.edited.specs.Demand3.{tableOf, recheckedAs}
 use Rattle.edited.specs.Itself.{ownText}
 use Rattle.edited.specs.Spelled.{tokensIn}

@@ -19,7 +19,7 @@ use Rattle.parser.specs.Moved.{Move, Sim}
 use Rattle.functions.specs.Functions.{Function}
 use Rattle.checker.specs.Check.{checkOf}
 use Rattle.checker.specs.Numbers.{Accepts}
-use Rattle.recheck.specs.Recheck.{isWhole}
+use Rattle.headers.specs.Kept.{isWhole}
 use Rattle.joined.specs.Names.{moveOf}
 use Rattle.joined.proofs.Parts.{Lexes, lexes-of}
 use Rattle.joined.proofs.Within.{FromTo, part-lexes, counted, own-apart, part-moves, part-spelled}

@@ -22,7 +22,7 @@ use Rattle.lexer.proofs.Records.{tokens-count}
 use Rattle.lexer.proofs.Sound.{read-sound, end-last}
 use Rattle.functions.specs.Functions.{Function}
 use Rattle.checker.proofs.Lexed.{unpadded}
-use Rattle.recheck.specs.Recheck.{isWhole}
+use Rattle.headers.specs.Kept.{isWhole}
 use Rattle.joined.specs.Edits.{Replaced}
 use Rattle.edited.specs.Spelled.{tokensIn}
 use Rattle.edited.proofs.Placed.{Placed}

@@ -11,7 +11,8 @@ use Rattle.utils.specs.Bytes.{pick, padTo, sameBytes}
 use Rattle.pieces.specs.declared.Identifier.{Identifier}
 use Rattle.lexer.specs.Decoded.{Tok, tokenAt, nameOf}
 use Rattle.functions.specs.Functions.{Function}
-use Rattle.functions.specs.Rows.{rowAt, typeAt, rowCells, signedAt}
+use Rattle.functions.specs.Columns.{rowAt, typeAt, placeAt, lengthAt, lineAt, closeAt}
+use Rattle.functions.specs.Rows.{rowCells, signedAt}
 use Rattle.functions.specs.Answer.{Slices, countsWith}
 use Rattle.functions.specs.Laid.{rowsCells}
 use Rattle.functions.specs.declared.Counts.{Counts}
@@ -23,20 +24,19 @@ use Rattle.sema.specs.declared.FoundRow.{FoundRow}
 use Rattle.sema.specs.declared.FoundRow.the-variants as W
 use Rattle.typing.specs.Outcome.{none}
 use Rattle.checker.specs.Check.{checkOf}
-use Rattle.checker.specs.Header.{placeAt, lengthAt, lineAt, RowInRange}
+use Rattle.headers.specs.Ranges.{RowInRange}
 use Rattle.checker.specs.Numbers.{Accepts}
 use Rattle.checker.proofs.Header.{header-in-range}
-use Rattle.recheck.specs.Table.{isTable}
-use Rattle.recheck.specs.Spelled.{rowName, rowSpelled, globalsSpelled, typeCellOf, calleesSpelled}
-use Rattle.recheck.specs.Recheck.{keeps}
-use Rattle.recheck.proofs.Ranges.{in-range-table}
-use Rattle.recheck.proofs.Brought.{row-name-part}
+use Rattle.headers.specs.Table.{isTable}
+use Rattle.headers.specs.Spelled.{rowName, rowSpelled, globalsSpelled, typeCellOf, calleesSpelled}
+use Rattle.headers.specs.Kept.{keeps}
+use Rattle.headers.proofs.Ranges.{in-range-table}
+use Rattle.headers.proofs.Brought.{row-name-part}
 use Rattle.recheck.proofs.Laws.{padded-long}
 use Rattle.related.specs.Tables.{All}
 use Rattle.related.specs.Alone.{Keeps, globalSpelt}
 use Rattle.related.specs.Reading.{calleeSpelt}
 use Rattle.related.proofs.Keeping.{keeps-by}
-use Rattle.edited.specs.Demand3.{closeAt}
 use Rattle.edited.specs.Spelled.{spelledAlike}
 use Rattle.edited.specs.Rows.{tokensRead, namesRead, tableIn, RowOf, RowsOf, Split, NamedAt}
 use Rattle.edited.proofs.Names.{spelled-in}

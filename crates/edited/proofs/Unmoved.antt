@@ -6,8 +6,9 @@ use mathlib.Core.List.{List}
 use native.Mathlib.Nat.{zero-add}
 use Rattle.lexer.specs.Decoded.{Tok}
 use Rattle.pieces.specs.declared.Identifier.{Identifier}
-use Rattle.parser.specs.Body.{Item}
-use Rattle.parser.specs.Moved.{Sim, SimName, SimV, SimO, SimItem, Each}
+use Rattle.body.specs.Body.{Item}
+use Rattle.parser.specs.Moved.{Sim, SimName, SimV, SimO, Each}
+use Rattle.body.specs.Moved.{SimItem}
 use Rattle.parser.specs.declared.Variable.{Variable}
 use Rattle.parser.specs.declared.Operation.{Operation}
 use Rattle.parser.specs.declared.Operation.the-variants as O

@@ -5,14 +5,14 @@
 -- text lexes alone, runs from its @ name to a closing brace as last byte, holds no second function, and the edited
 -- text stays inside the limits on bytes, tokens and names." That it holds of every text, number and new text is
 -- `demand-3` (proofs/Demand3.antt).
-use Prim.Native.Nat.{ℕ, _+_, _*_, _<_}
+use Prim.Native.Nat.{ℕ, _+_, _<_}
 use mathlib.Core.Path.{_≡_}
 use mathlib.Core.List.{List, _++_}
 use lib.ListN.{getD, take, drop}
 use Rattle.utils.specs.Bytes.{padTo}
 use Rattle.lexer.specs.Read.{readFrom, readOf}
 use Rattle.lexer.specs.Decoded.{tokensOf, tokenAt}
-use Rattle.checker.specs.Header.{placeAt, lineAt}
+use Rattle.functions.specs.Columns.{closeAt, placeAt, lineAt}
 use Rattle.checker.specs.Check.{Checking, checkOf}
 use Rattle.recheck.specs.Recheck.{recheckOf}
 use Rattle.edited.specs.Reading.{readingOf, movedReading}
@@ -23,10 +23,6 @@ use Rattle.edited.specs.Reading.{readingOf, movedReading}
 -- 2 apply."
 abbrev pub tableOf : List ℕ → List ℕ
 tableOf old = padTo 2881 (checkOf old .unit .functions)
-
--- the cell of row k that holds the closing token
-abbrev pub closeAt : ℕ → ℕ
-closeAt k = 3 + k * 45
 
 -- where function k begins: its name's place; and its line
 abbrev pub beginsAt : List ℕ → ℕ → ℕ

@@ -9,8 +9,8 @@ use Rattle.utils.specs.Bytes.{sameBytes}
 use Rattle.lexer.specs.Read.{readFrom}
 use Rattle.lexer.specs.Decoded.{Tok, tokensOf, tokenAt}
 use Rattle.functions.specs.Rows.{signedAt}
-use Rattle.recheck.specs.Spelled.{rowName}
-use Rattle.recheck.specs.Recheck.{isWhole, keeps}
+use Rattle.headers.specs.Spelled.{rowName}
+use Rattle.headers.specs.Kept.{isWhole, keeps}
 use Rattle.edited.specs.Demand3.{tableOf, lineOf}
 
 -- the new text's tokens

@@ -7,7 +7,7 @@ use mathlib.Core.List.{List, [], _∷_}
 use lib.ListN.{getD, take, drop}
 use Rattle.utils.specs.Bytes.{pick}
 use Rattle.lexer.specs.Decoded.{isName, nameOf}
-use Rattle.functions.specs.Rows.{rowAt}
+use Rattle.functions.specs.Columns.{rowAt}
 use Rattle.elaborate.specs.Types.{isCall}
 use Rattle.checker.specs.Check.{Checking}
 

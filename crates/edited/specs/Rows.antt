@@ -8,13 +8,12 @@ use Rattle.lexer.specs.Decoded.{Tok, tokensOf, tokenAt, nameOf}
 use Rattle.parser.specs.Runs.{typeCell}
 use Rattle.functions.specs.Known.{signature, formalTypes}
 use Rattle.functions.specs.Functions.{Function}
-use Rattle.functions.specs.Rows.{rowAt, nameAt, typeAt, signedAt}
+use Rattle.functions.specs.Columns.{rowAt, nameAt, typeAt, placeAt, lineAt, closeAt}
+use Rattle.functions.specs.Rows.{signedAt}
 use Rattle.sema.specs.Typing.{global}
 use Rattle.sema.specs.Globals.{rowGlobal}
 use Rattle.checker.specs.Check.{checkOf}
-use Rattle.checker.specs.Header.{placeAt, lineAt}
-use Rattle.recheck.specs.Spelled.{rowName}
-use Rattle.edited.specs.Demand3.{closeAt}
+use Rattle.headers.specs.Spelled.{rowName}
 
 -- the tokens of a text that is accepted, its names' cells, and its header table in a slice of so many cells
 abbrev pub tokensRead : List ℕ → List Tok

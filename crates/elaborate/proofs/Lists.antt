@@ -1,21 +1,20 @@
 -- Writing the types into cells is the list form: where the records of items stand, those with the types of their
 -- operands stand afterwards, and the same of their arguments.
-use Prim.Native.Nat.{ℕ, zero, suc, _+_, _*_, _-_, _≤_}
+use Prim.Native.Nat.{ℕ, suc, _+_, _*_, _-_}
 use mathlib.Core.Path.{_≡_, refl, sym, ap, _∙_}
 use mathlib.Core.List.{List, [], _∷_, _++_, append-assoc}
 use native.Mathlib.Omega.{arith}
 use lib.ListN.{length, getD, set, take, drop, length-append, length-drop, take-append-drop}
 use lib.Seq.{sets, set-at, getD-at, append-snoc, length-take-le}
-use Rattle.utils.specs.Bytes.{pick}
 use Rattle.parser.specs.Runs.{typeCell, variablesCells}
-use Rattle.parser.specs.Body.{Item, label, plain, call, callInto, argumentsIn}
+use Rattle.body.specs.Body.{Item, label, plain, call, callInto, argumentsIn}
 use Rattle.parser.specs.declared.Variable.{Variable}
 use Rattle.parser.specs.declared.Operation.the-variants as O
 use Rattle.body.specs.Records.{operationRecord, recordOf, recordAt, recordCells, itemsCells, argumentsCells}
 use Rattle.body.specs.Records.{argumentsCount}
 use Rattle.body.specs.declared.ItemRecord.{ItemRecord}
 use Rattle.body.proofs.Decode.{record-there}
-use Rattle.elaborate.specs.Types.{typeOf, isCall, typedRecord, typedRun, typedArguments, typedItems, typedCalls}
+use Rattle.elaborate.specs.Types.{typeOf, typedRecord, typedRun, typedArguments, typedItems, typedCalls}
 use Rattle.elaborate.specs.Types.{typedItemsCells, typedVariables, typedArgumentsCells, Elaborated}
 
 -- How many cells there are. -------------------------------------------------------------------------------------------

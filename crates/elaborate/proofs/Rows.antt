@@ -1,14 +1,13 @@
 -- A callee's type, from the rows in which the functions are stored, is that of the list that was parsed.
-use Prim.Native.Nat.{ℕ, _+_}
+use Prim.Native.Nat.{ℕ}
 use mathlib.Core.Path.{_≡_, refl}
 use mathlib.Core.List.{List, [], _∷_, _++_}
 use lib.ListN.{length, drop}
-use Rattle.utils.specs.Bytes.{pick}
 use Rattle.lexer.specs.Decoded.{Tok}
 use Rattle.functions.specs.Functions.{Function}
-use Rattle.functions.specs.Rows.{rowAt}
+use Rattle.functions.specs.Columns.{rowAt}
 use Rattle.functions.specs.Answer.{counts, countsWith}
-use Rattle.functions.specs.Laid.{rowsCells, Fits, FitsFrom}
+use Rattle.functions.specs.Laid.{rowsCells, FitsFrom}
 use Rattle.functions.specs.declared.Counts.{Counts}
 use Rattle.functions.proofs.Standing.{row-name, row-type, row-stands, rows-behind}
 use Rattle.elaborate.specs.Types.{calleeIn, calleeFrom, calleeOf}

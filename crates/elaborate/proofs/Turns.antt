@@ -1,6 +1,6 @@
 -- One turn of each loop: what is left is the first of it and the rest, or nothing.
 use Prim.Native.Nat.{ℕ, zero, suc, _+_, _*_, _-_, _≤_, _<_}
-use mathlib.Core.Path.{_≡_, refl}
+use mathlib.Core.Path.{_≡_}
 use mathlib.Core.List.{List}
 use native.Mathlib.Omega.{arith}
 use borrow.Author.Tests.{eq-eqb, ne-eqb}
@@ -8,7 +8,7 @@ use lib.ListN.{getD, set}
 use lib.Seq.{sets}
 use Rattle.utils.specs.Bytes.{pick}
 use Rattle.body.specs.Records.{recordAt, recordCells}
-use Rattle.functions.specs.Rows.{nameAt, typeAt}
+use Rattle.functions.specs.Columns.{nameAt, typeAt}
 use Rattle.elaborate.specs.Types.{typeOf, calleeFrom, typedRecord, typedRun, typedArguments, typedItems, typedCalls}
 
 module _ (rows : List ℕ) (i n name : ℕ) where

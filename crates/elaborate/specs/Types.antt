@@ -5,19 +5,19 @@
 use Prim.Native.Nat.{ℕ, zero, suc, _+_, _*_}
 use mathlib.Core.Path.{_≡_}
 use mathlib.Core.List.{List, [], _∷_, _++_}
-use mathlib.Core.Bool.{Bool, true, false}
+use mathlib.Core.Bool.{Bool, true}
 use lib.Dec.{eqb}
 use lib.ListN.{length, getD, set}
 use lib.Seq.{sets}
 use Rattle.utils.specs.Bytes.{pick}
-use Rattle.parser.specs.Body.{Item, argumentsIn}
+use Rattle.body.specs.Body.{Item, argumentsIn}
 use Rattle.parser.specs.declared.Variable.{Variable}
 use Rattle.body.specs.Records.{itemRecord, recordOf, recordAt, recordCells, itemsCells, argumentsCells}
 use Rattle.body.specs.declared.ItemRecord.{ItemRecord}
 use Rattle.body.specs.declared.Last.{Last}
 use Rattle.body.specs.declared.Last.the-variants as L
 use Rattle.functions.specs.Functions.{Function}
-use Rattle.functions.specs.Rows.{nameAt, typeAt}
+use Rattle.functions.specs.Columns.{nameAt, typeAt}
 
 -- a name's type
 abbrev pub typeOf : List ℕ → ℕ → ℕ

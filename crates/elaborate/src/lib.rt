@@ -2,13 +2,14 @@
 ghost use mathlib.Core.Path.{_≡_};
 ghost use Prim.Native.Nat.{ℕ, _+_, _*_, _≤_, _<_};
 ghost use lib.ListN.{length, getD, set};
-ghost use Rattle.body.specs.Records.{itemRecord, recordAt};
-ghost use Rattle.functions.specs.Rows.{typeAt};
+ghost use Rattle.body.specs.Records.{itemRecord};
+ghost use Rattle.functions.specs.Columns.{typeAt};
 ghost use Rattle.elaborate.specs.Types.{calleeOf, isCall, typedLast, typedRecord, typedRun, typedArguments};
 ghost use Rattle.elaborate.specs.Types.{typedItems, typedCalls, Elaborated};
 use body::ItemRecord;
 use body::Last;
 use body::records;
+use functions::columns;
 use pieces::Identifier;
 use utils::cell_at;
 
@@ -19,8 +20,8 @@ fn callee_type(rows: &[u32], n: usize, name: Identifier) -> u32
 {
     let mut i: usize = 0;
     while i < n {
-        if rows[2 + i * 45] == name.0 {
-            return rows[8 + i * 45] + 4;
+        if rows[columns::NAME + i * columns::ROW] == name.0 {
+            return rows[columns::TYPE + i * columns::ROW] + 4;
         }
         i += 1;
     }

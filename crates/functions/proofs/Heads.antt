@@ -1,6 +1,6 @@
 -- A header has at most 16 formals, and is entered by the rows as by the headers so far.
 use Prim.Native.Nat.{ℕ, zero, suc, _+_, _*_, _≤_, _<_}
-use mathlib.Core.Path.{_≡_, refl}
+use mathlib.Core.Path.{_≡_}
 use mathlib.Core.List.{List, _∷_}
 use mathlib.Core.Bool.{Bool, true, false}
 use native.Mathlib.Omega.{arith}
@@ -12,7 +12,7 @@ use Rattle.lexer.specs.Decoded.{Tok, tokenAt}
 use Rattle.parser.specs.Step.{look, thenDefined}
 use Rattle.parser.specs.Grammar.{consumeD}
 use Rattle.pieces.specs.declared.Identifier.{Identifier}
-use Rattle.parser.specs.Runs.{Variables, ended, stopped, andThen, formalD, formalsFromD, formalsD, variablesCells, typeCell}
+use Rattle.parser.specs.Runs.{Variables, ended, stopped, formalD, formalsFromD, formalsD, variablesCells, typeCell}
 use Rattle.parser.specs.declared.Ty.{Ty}
 use Rattle.parser.specs.declared.Consumed.the-variants as C
 use Rattle.parser.specs.declared.Variable.{Variable}
@@ -20,7 +20,8 @@ use Rattle.parser.specs.declared.Defined.{Defined}
 use Rattle.parser.specs.declared.Defined.the-variants as D
 use Rattle.functions.specs.Functions.{optionalFormals, enteredD}
 use Rattle.functions.specs.Known.{signature}
-use Rattle.functions.specs.Rows.{formalsAt, typesAt, knownFrom}
+use Rattle.functions.specs.Columns.{formalsAt}
+use Rattle.functions.specs.Rows.{typesAt, knownFrom}
 use Rattle.functions.proofs.Stores.{known-below, types-there}
 
 up : {a b : ℕ} → a ≤ b → suc a ≤ suc b

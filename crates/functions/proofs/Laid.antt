@@ -1,24 +1,25 @@
 -- What is stored one function behind the other on cleared slices is the list form (crates/functions/specs/Laid.antt).
-use Prim.Native.Nat.{ℕ, zero, suc, _+_, _*_, _-_, _≤_, _<_}
+use Prim.Native.Nat.{ℕ, zero, suc, _+_, _*_, _-_, _≤_}
 use mathlib.Core.Path.{_≡_, refl, sym, ap, _∙_}
 use mathlib.Core.List.{List, [], _∷_, _++_, append-assoc, append-nil}
 use native.Mathlib.Omega.{arith}
 use native.Mathlib.Nat.{add-zero}
-use lib.ListN.{length, set, length-append, replicate, length-replicate, replicate-append-replicate}
+use lib.ListN.{length, length-append, replicate, length-replicate, replicate-append-replicate}
 use lib.Seq.{sets}
 use Rattle.utils.specs.Bytes.{padTo}
 use Rattle.utils.proofs.Runs.{sets-pad}
 use Rattle.lexer.specs.Decoded.{Tok}
 use Rattle.parser.specs.Runs.{variablesCells}
-use Rattle.parser.specs.Body.{Item}
-use Rattle.parser.specs.Blocks.{Block}
-use Rattle.parser.specs.Edges.{successors, predecessors}
+use Rattle.body.specs.Body.{Item}
+use Rattle.link.specs.Blocks.{Block}
+use Rattle.link.specs.Edges.{successors, predecessors}
 use Rattle.parser.specs.declared.Variable.{Variable}
-use Rattle.body.specs.Records.{itemsCells, argumentsCells, argumentsCount}
+use Rattle.body.specs.Records.{itemsCells, argumentsCells}
 use Rattle.body.proofs.Lay.{length-items-cells, length-arguments-cells}
 use Rattle.link.specs.Cells.{blockCells}
 use Rattle.functions.specs.Functions.{Function, blocksIn}
-use Rattle.functions.specs.Rows.{rowAt, headCells, rowCells}
+use Rattle.functions.specs.Columns.{rowAt}
+use Rattle.functions.specs.Rows.{headCells, rowCells}
 use Rattle.functions.specs.Answer.{edgesIn, predecessorsIn, counts, countsWith, countsFrom}
 use Rattle.functions.specs.Answer.{Slices, slices, storedFunction, storedFrom, withCount}
 use Rattle.functions.specs.Laid.{rowsCells, untypedItems, untypedArguments, allBlocks, allPredecessors}

@@ -1,9 +1,8 @@
 -- A function's row is seen by later headers as its header.
 use Prim.Native.Nat.{ℕ, zero, suc, _+_, _*_, _≤_, _<_}
-use mathlib.Core.Path.{_≡_, refl, sym, ap, _∙_}
+use mathlib.Core.Path.{_≡_, refl, ap, _∙_}
 use mathlib.Core.List.{List, [], _∷_, _++_}
 use native.Mathlib.Omega.{arith}
-use native.Mathlib.Nat.{add-zero}
 use borrow.Author.Tests.{le-leb}
 use lib.ListN.{length, getD, set, length-set, length-append}
 use lib.Seq.{sets, length-sets, getD-set-same}
@@ -14,7 +13,8 @@ use Rattle.parser.specs.Runs.{variablesCells}
 use Rattle.parser.specs.declared.Variable.{Variable}
 use Rattle.functions.specs.Known.{Known, formalTypes}
 use Rattle.functions.specs.Functions.{Function, knownOf}
-use Rattle.functions.specs.Rows.{rowAt, formalsAt, headCells, rowCells, typesAt, knownAt, knownFrom}
+use Rattle.functions.specs.Columns.{rowAt, formalsAt}
+use Rattle.functions.specs.Rows.{headCells, rowCells, typesAt, knownAt, knownFrom}
 use Rattle.functions.proofs.Stores.{getD-sets-below, known-below, types-there}
 
 pub getD-sets-at : (vs l : List ℕ) (at k : ℕ) → k < length vs → at + length vs ≤ length l

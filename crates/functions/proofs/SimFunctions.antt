@@ -12,11 +12,12 @@ use Rattle.lexer.specs.Decoded.{Tok, tokenAt}
 use Rattle.pieces.specs.declared.Identifier.{Identifier}
 use Rattle.parser.specs.Step.{look, thenAt}
 use Rattle.parser.specs.Runs.{Variables}
-use Rattle.parser.specs.Body.{Item, Body, closedItems}
+use Rattle.body.specs.Body.{Item, Body, closedItems}
 use Rattle.utils.specs.Bytes.{pick}
-use Rattle.parser.specs.Edges.{Resolved, resolveD}
-use Rattle.parser.specs.Moved.{Move, Sim, SimName, SimE, SimC, SimR, SimV, SimVs, SimNumber, SimItem, SimClose}
-use Rattle.parser.specs.Moved.{SimBrace, SimBody, SimResolved, Each, Rel}
+use Rattle.link.specs.Edges.{Resolved, resolveD}
+use Rattle.parser.specs.Moved.{Move, Sim, SimName, SimE, SimC, SimR, SimV, SimVs, SimNumber, SimClose, Each, Rel}
+use Rattle.body.specs.Moved.{SimItem, SimBrace, SimBody}
+use Rattle.link.specs.Moved.{SimResolved}
 use Rattle.parser.specs.declared.Refusal.{Refusal}
 use Rattle.parser.specs.declared.Ty.{Ty}
 use Rattle.parser.specs.declared.Variable.{Variable}
@@ -24,8 +25,9 @@ use Rattle.parser.specs.declared.Consumed.{Consumed}
 use Rattle.parser.specs.declared.Consumed.the-variants as C
 use Rattle.parser.proofs.Sim.{pickS, thenAtS, thenNamedS, thenTypeS, endedS, eqbS, lookS, kindS, consumeS, globalS}
 use Rattle.parser.proofs.Sim.{typeS, formalsS}
-use Rattle.parser.proofs.SimBody.{number-of, bodyS}
-use Rattle.parser.proofs.SimBlocks.{countS, closedItemsS, bodyBlocksS, resolveS}
+use Rattle.body.proofs.SimBody.{number-of, bodyS}
+use Rattle.body.proofs.SimItems.{countS, closedItemsS}
+use Rattle.link.proofs.SimBlocks.{bodyBlocksS, resolveS}
 use Rattle.functions.specs.declared.Entered.{Entered}
 use Rattle.functions.specs.declared.Entered.the-variants as E
 use Rattle.functions.specs.Known.{Known, formalTypes, signature, typeNumber, typesAfter, expectedType}

@@ -1,11 +1,9 @@
 -- Rows that stand in the header table, one behind the other, are read back cell by cell.
 use Prim.Native.Nat.{ℕ, zero, suc, _+_, _*_, _-_, _≤_, _<_}
 use mathlib.Core.Path.{_≡_, refl, sym, ap, _∙_}
-use mathlib.Core.Bool.{Bool, true, false}
 use mathlib.Core.List.{List, [], _∷_, _++_, append-assoc}
 use native.Mathlib.Omega.{arith}
 use borrow.Author.Tests.{le-leb}
-use lib.Dec.{leb}
 use lib.ListN.{length, getD, drop, replicate, length-append, length-replicate}
 use lib.Seq.{getD-drop, drop-drop, drop-at}
 use Rattle.utils.specs.Bytes.{pick, padTo}
@@ -14,8 +12,8 @@ use Rattle.parser.specs.Runs.{typeCell, variablesCells}
 use Rattle.parser.specs.declared.Variable.{Variable}
 use Rattle.functions.specs.Known.{formalTypes}
 use Rattle.functions.specs.Functions.{Function, blocksIn}
-use Rattle.functions.specs.Rows.{rowAt, nameAt, retAt, typeAt, countAt, formalsAt, headCells, rowCells}
-use Rattle.functions.specs.Rows.{atMost16, typesAt}
+use Rattle.functions.specs.Columns.{rowAt, nameAt, retAt, typeAt, countAt, formalsAt}
+use Rattle.functions.specs.Rows.{headCells, rowCells, atMost16, typesAt}
 use Rattle.functions.specs.Answer.{counts, countsWith}
 use Rattle.functions.specs.Laid.{rowsCells, Fits, FitsFrom}
 use Rattle.functions.specs.declared.Counts.{Counts}

@@ -13,7 +13,8 @@ use Rattle.utils.specs.Bytes.{pick}
 use Rattle.parser.specs.Runs.{variablesCells, typeCell}
 use Rattle.parser.specs.declared.Variable.{Variable}
 use Rattle.functions.specs.Known.{formalTypes}
-use Rattle.functions.specs.Rows.{rowAt, retAt, formalsAt, atMost16, typesAt, knownAt, knownFrom}
+use Rattle.functions.specs.Columns.{rowAt, retAt, formalsAt}
+use Rattle.functions.specs.Rows.{atMost16, typesAt, knownAt, knownFrom}
 
 pub getD-sets-below : (vs l : List ℕ) (at i : ℕ) → i < at → getD (sets l at vs) i 0 ≡ getD l i 0
 getD-sets-below [] l at i h = refl

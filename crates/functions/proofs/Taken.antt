@@ -1,25 +1,24 @@
 -- From a header and a body to the function: what was read is what the definition gives, and it stands in the slices.
 use Prim.Native.Nat.{ℕ, _+_, _*_, _-_, _≤_, _<_}
 use mathlib.Core.Path.{_≡_, refl, sym, ap, subst, _∙_}
-use mathlib.Core.Bool.{Bool}
-use mathlib.Core.List.{List, [], _∷_, _++_}
+use mathlib.Core.List.{List, [], _∷_}
 use native.Mathlib.Omega.{arith}
 use lib.Dec.{leb, eqb}
 use lib.ListN.{length, getD}
 use lib.Seq.{sets}
 use Rattle.lexer.specs.Decoded.{Tok, tokenAt}
 use Rattle.pieces.specs.declared.Identifier.{Identifier}
-use Rattle.parser.specs.Body.{Item}
+use Rattle.body.specs.Body.{Item}
 use Rattle.parser.specs.Runs.{typeCell, variablesCells}
 use Rattle.parser.specs.declared.Refusal.{Refusal}
 use Rattle.body.specs.Records.{argumentsCount}
-use Rattle.body.specs.Room.{Within}
-use Rattle.functions.specs.Known.{Known, typesAfter}
+use Rattle.functions.specs.Known.{typesAfter}
 use Rattle.functions.specs.Functions.{Header, HeaderAt, header, noHeader, thenHeader, BuiltAt, built, notBuilt, thenBuilt}
-use Rattle.functions.specs.Functions.{blocksIn, Function, FunctionAt, function, noFunction, isVoid, headerD, builtD, functionD}
-use Rattle.functions.specs.Rows.{rowAt, formalsAt, headCells, rowCells, knownFrom}
+use Rattle.functions.specs.Functions.{blocksIn, Function, FunctionAt, function, noFunction, headerD, builtD, functionD}
+use Rattle.functions.specs.Columns.{rowAt, formalsAt}
+use Rattle.functions.specs.Rows.{headCells, rowCells, knownFrom}
 use Rattle.functions.specs.Heads.{headerRead, HeaderHeld}
-use Rattle.functions.specs.Answer.{predecessorsIn, countsAfter, Room, Built, BuildHeld, buildRead, Slices, slices}
+use Rattle.functions.specs.Answer.{predecessorsIn, Room, Built, BuildHeld, buildRead, slices}
 use Rattle.functions.specs.Answer.{functionRead, Taken, FunctionHeld}
 use Rattle.functions.specs.declared.Counts.{Counts}
 use Rattle.functions.specs.declared.Head.{Head}

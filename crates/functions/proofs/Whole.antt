@@ -1,38 +1,37 @@
 -- From a body read and its blocks linked to the whole: what was read is what the definition gives, it stands in the slices,
 -- and there is room to go on.
 use Prim.Native.Nat.{ℕ, _+_, _*_, _≤_}
-use mathlib.Core.Path.{_≡_, refl, sym, ap, subst, _∙_}
+use mathlib.Core.Path.{_≡_, refl, ap, subst, _∙_}
 use mathlib.Core.Bool.{Bool, true}
-use mathlib.Core.List.{List, []}
+use mathlib.Core.List.{List}
 use native.Mathlib.Omega.{arith}
 use lib.ListN.{length, take, drop}
-use lib.Seq.{sets, length-sets, sets-eq, take-append-seam}
+use lib.Seq.{length-sets, sets-eq, take-append-seam}
 use Rattle.lexer.specs.Decoded.{Tok}
 use Rattle.parser.specs.Step.{thenAt}
-use Rattle.parser.specs.Body.{Item, Body, labelsOf, closedItems}
-use Rattle.parser.specs.Blocks.{Part, Block, namesIn, partsOf, blocksOf}
-use Rattle.parser.specs.Edges.{Resolved, fine, refused, resolveD, successors}
-use Rattle.parser.proofs.BodyLaws.{names-closed}
+use Rattle.body.specs.Body.{Item, Body, labelsOf, closedItems}
+use Rattle.body.specs.Shapes.{partsOf}
+use Rattle.link.specs.Blocks.{Block}
+use Rattle.link.specs.Edges.{Resolved, fine, refused, resolveD, successors}
+use Rattle.body.proofs.BodyLaws.{names-closed}
 use Rattle.parser.specs.declared.Refusal.{Refusal}
 use Rattle.parser.specs.declared.Consumed.{Consumed}
 use Rattle.parser.specs.declared.Consumed.the-variants as C
-use Rattle.body.specs.Records.{itemsCells, argumentsCells, argumentsCount, partsAt}
-use Rattle.body.specs.Room.{Within, Bounds, filled}
+use Rattle.body.specs.Records.{itemsCells, argumentsCount, partsAt}
+use Rattle.body.specs.Room.{Bounds, filled}
 use Rattle.body.specs.Answer.{functionBody, bodyRead, Stored, Held}
 use Rattle.body.proofs.Decode.{parts-stored}
-use Rattle.body.proofs.Lay.{length-items-cells, arguments-cells-closed, arguments-count-closed}
+use Rattle.body.proofs.Lay.{arguments-cells-closed, arguments-count-closed}
 use Rattle.body.specs.declared.Closed.{Closed}
-use Rattle.body.specs.declared.BodyRead.{BodyRead}
 use Rattle.body.specs.declared.BodyRead.the-variants as B
-use Rattle.link.specs.Cells.{predecessorCells, linkedBy, linkD, Linking, LinkHeld}
+use Rattle.link.specs.Cells.{predecessorCells, linkedBy, linkD, Linking}
 use Rattle.link.specs.Steps.{Ready}
 use Rattle.link.proofs.Laws.{at-most-256, blocks-counted}
 use Rattle.link.proofs.Edges.{thin-blocks, entries-few}
 use Rattle.link.proofs.Whole.{entries-are}
-use Rattle.link.specs.declared.Linked.{Linked}
 use Rattle.link.specs.declared.Linked.the-variants as L
-use Rattle.functions.specs.Functions.{BuiltAt, built, notBuilt, blocksIn, resolvedItems, builtD}
-use Rattle.functions.specs.Answer.{edgesIn, predecessorsIn, Room, Long, Built, BuildHeld, buildRead, countsAfter}
+use Rattle.functions.specs.Functions.{built, notBuilt, blocksIn, builtD}
+use Rattle.functions.specs.Answer.{edgesIn, predecessorsIn, Room, Long, BuildHeld, buildRead}
 use Rattle.functions.specs.declared.Counts.{Counts}
 use Rattle.functions.specs.declared.Building.the-variants as G
 

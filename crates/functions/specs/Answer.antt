@@ -6,8 +6,8 @@ use lib.ListN.{length, set}
 use lib.Seq.{sets}
 use Rattle.lexer.specs.Decoded.{Tok}
 use Rattle.parser.specs.Step.{thenAt}
-use Rattle.parser.specs.Body.{Item}
-use Rattle.parser.specs.Edges.{successors}
+use Rattle.body.specs.Body.{Item}
+use Rattle.link.specs.Edges.{successors}
 use Rattle.parser.specs.declared.Consumed.{Consumed}
 use Rattle.parser.specs.declared.Consumed.the-variants as C
 use Rattle.body.specs.Records.{itemsCells, argumentsCells, argumentsCount}
@@ -16,7 +16,8 @@ use Rattle.link.specs.Cells.{blockCells, predecessorCells}
 use Rattle.functions.specs.Known.{typesAfter}
 use Rattle.functions.specs.Functions.{Function, Program, blocksIn, BuiltAt, built, notBuilt, knownOf}
 use Rattle.functions.specs.Functions.{FunctionAt, function, noFunction}
-use Rattle.functions.specs.Rows.{rowAt, rowCells, knownFrom}
+use Rattle.functions.specs.Columns.{rowAt}
+use Rattle.functions.specs.Rows.{rowCells, knownFrom}
 use Rattle.functions.specs.declared.FunctionRead.{FunctionRead}
 use Rattle.functions.specs.declared.FunctionRead.the-variants as F
 use Rattle.functions.specs.declared.Counts.{Counts}

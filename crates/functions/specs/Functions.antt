@@ -1,6 +1,6 @@
 -- Document 01, "Functions, labels, edges": "A text is any number of functions: global; optionally formals in
 -- parentheses; optionally colon and type; `{` body `}`."
-use Prim.Native.Nat.{ℕ, zero, suc, _+_}
+use Prim.Native.Nat.{ℕ, zero, suc}
 use mathlib.Core.List.{List, [], _∷_, _++_}
 use mathlib.Core.Bool.{Bool, true, false}
 use lib.Dec.{eqb}
@@ -11,9 +11,10 @@ use Rattle.parser.specs.Kinds as T
 use Rattle.parser.specs.Step.{refusal, look, thenAt, thenNamed, thenType}
 use Rattle.parser.specs.Grammar.{consumeD, globalD, typeD}
 use Rattle.parser.specs.Runs.{Variables, ended, typeCell, formalsD}
-use Rattle.parser.specs.Body.{Item, Body, closedItems}
-use Rattle.parser.specs.Blocks.{Block, partsOf, blocksOf}
-use Rattle.parser.specs.Edges.{Resolved, fine, refused, resolveD}
+use Rattle.body.specs.Body.{Item, closedItems}
+use Rattle.link.specs.Blocks.{Block, blocksOf}
+use Rattle.body.specs.Shapes.{partsOf}
+use Rattle.link.specs.Edges.{Resolved, fine, refused, resolveD}
 use Rattle.parser.specs.declared.Refusal.{Refusal}
 use Rattle.parser.specs.declared.Ty.{Ty}
 use Rattle.parser.specs.declared.Ty.the-variants as Y

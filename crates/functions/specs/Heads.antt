@@ -5,8 +5,8 @@ use mathlib.Core.List.{List}
 use lib.ListN.{length}
 use lib.Seq.{sets}
 use Rattle.parser.specs.Runs.{typeCell, variablesCells}
-use Rattle.functions.specs.Functions.{Header, HeaderAt, header, noHeader}
-use Rattle.functions.specs.Rows.{formalsAt}
+use Rattle.functions.specs.Functions.{HeaderAt, header, noHeader}
+use Rattle.functions.specs.Columns.{formalsAt}
 use Rattle.functions.specs.declared.HeaderRead.{HeaderRead}
 use Rattle.functions.specs.declared.HeaderRead.the-variants as H
 

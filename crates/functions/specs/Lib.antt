@@ -3,7 +3,8 @@
 pub mod Known
 -- a header, a function, all functions
 pub mod Functions
--- what the cells hold
+-- the header table: where its cells stand, and what they hold
+pub mod Columns
 pub mod Rows
 -- a header's answer
 pub mod Heads

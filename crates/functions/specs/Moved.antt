@@ -5,8 +5,9 @@ use Prim.Native.Nat.{ℕ, _+_, _≤_, _<_}
 use mathlib.Core.Path.{_≡_}
 use mathlib.Core.List.{List}
 use lib.Dec.{eqb}
-use Rattle.parser.specs.Body.{Item}
-use Rattle.parser.specs.Moved.{Move, SimName, SimE, SimV, SimItem, SimClose, Each}
+use Rattle.body.specs.Body.{Item}
+use Rattle.parser.specs.Moved.{Move, SimName, SimE, SimV, SimClose, Each}
+use Rattle.body.specs.Moved.{SimItem}
 use Rattle.parser.specs.declared.Refusal.{Refusal}
 use Rattle.functions.specs.declared.Entered.{Entered}
 use Rattle.functions.specs.declared.Entered.the-variants as E

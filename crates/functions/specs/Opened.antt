@@ -7,10 +7,11 @@ use Rattle.parser.specs.Grammar.{consumeD, namedD, typeD, printD, retD, jumpD, 
 use Rattle.parser.specs.Grammar.{constD, unaryD, binaryD, isUnary, isBinary, valueD, definitionD, instructionD}
 use Rattle.parser.specs.Runs.{formalD, formalsFromD, formalsD, argumentsD, callD}
 use Rattle.parser.specs.Labels.{has, labelledD}
-use Rattle.parser.specs.Body.{thenItem, calledItem, parsedItem, itemD, behind, closes, bodyD, lacksRet, closedFrom}
-use Rattle.parser.specs.Blocks.{partsOf, blocksFrom, blocksAfter}
-use Rattle.parser.specs.Edges.{placeOf, thenPlace, resolveLabels, resolveFrom, places, successors, entering}
-use Rattle.parser.specs.Edges.{predecessors, isDead}
+use Rattle.body.specs.Body.{thenItem, calledItem, parsedItem, itemD, behind, closes, bodyD, lacksRet, closedFrom}
+use Rattle.body.specs.Shapes.{partsOf}
+use Rattle.link.specs.Blocks.{blocksFrom, blocksAfter}
+use Rattle.link.specs.Edges.{placeOf, thenPlace, resolveLabels, resolveFrom, places, successors, entering}
+use Rattle.link.specs.Edges.{predecessors, isDead}
 use Rattle.functions.specs.Known.{formalTypes, typeNumber, typesAfter, expectedType}
 use Rattle.functions.specs.Functions.{thenHeader, thenFormals, thenEntered, optionalFormals, optionalType}
 use Rattle.functions.specs.Functions.{enteredD, signatureD, headerD, thenBuilt, builtD}

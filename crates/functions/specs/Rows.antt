@@ -1,37 +1,14 @@
--- The header table: the count, and then a row of 45 cells for each function (docs/INTERFACE.md): the name's token, the
--- name, the closing token, the name's place, its length, its line, the result type, the function type's number, the
--- first item, how many items, the first block, how many blocks, how many formals, and each formal's name and type.
+-- What a function's row of the header table holds, and what is read back of it. Columns.antt says where its cells stand.
 use Prim.Native.Nat.{ℕ, zero, suc, _+_, _*_, _-_}
 use mathlib.Core.List.{List, [], _∷_, _++_}
 use lib.Dec.{leb}
 use lib.ListN.{length, getD}
-use lib.Seq.{sets}
 use Rattle.utils.specs.Bytes.{pick}
 use Rattle.lexer.specs.Decoded.{Tok, tokenAt}
-use Rattle.lexer.specs.declared.TokenAt.{TokenAt}
 use Rattle.parser.specs.Runs.{typeCell, variablesCells}
+use Rattle.functions.specs.Columns.{nameAt, retAt, typeAt, countAt, formalsAt}
 use Rattle.functions.specs.Known.{Known}
-use Rattle.functions.specs.Functions.{Header, Function, blocksIn}
-
--- where row i begins, and the cells of it that later headers are held against: the name, the result type, the function
--- type's number, how many formals, and where they begin
-abbrev pub rowAt : ℕ → ℕ
-rowAt i = 1 + i * 45
-
-abbrev pub nameAt : ℕ → ℕ
-nameAt i = 2 + i * 45
-
-abbrev pub retAt : ℕ → ℕ
-retAt i = 7 + i * 45
-
-abbrev pub typeAt : ℕ → ℕ
-typeAt i = 8 + i * 45
-
-abbrev pub countAt : ℕ → ℕ
-countAt i = 13 + i * 45
-
-abbrev pub formalsAt : ℕ → ℕ
-formalsAt i = 14 + i * 45
+use Rattle.functions.specs.Functions.{Function, blocksIn}
 
 -- the thirteen cells before the formals
 abbrev pub headCells : List Tok → List ℕ → Function → ℕ → ℕ → List ℕ

@@ -1,18 +1,20 @@
 // A function's header, up to its opening brace.
 ghost use mathlib.Core.Path.{_≡_};
 ghost use mathlib.Core.List.{_∷_};
-ghost use Prim.Native.Nat.{ℕ, _+_, _≤_, _<_};
+ghost use Prim.Native.Nat.{_+_, _≤_, _<_};
 ghost use lib.Dec.{leb};
 ghost use lib.ListN.{length};
 ghost use lib.Seq.{sets};
 ghost use Rattle.lexer.specs.Decoded.{tokensOf};
 ghost use Rattle.parser.specs.Runs.{runOf, variablesCells};
 ghost use Rattle.functions.specs.Functions.{optionalFormals, optionalType, enteredD, signatureD, headerD};
-ghost use Rattle.functions.specs.Rows.{knownFrom, formalsAt, typesAt};
+ghost use Rattle.functions.specs.Rows.{knownFrom, typesAt};
+ghost use Rattle.functions.specs.Columns.{formalsAt};
 ghost use Rattle.functions.specs.Heads.{headerRead, HeaderHeld};
 use crate::Entered;
 use crate::Head;
 use crate::HeaderRead;
+use crate::columns;
 use crate::known;
 use parser::Consumed;
 use parser::Named;
@@ -96,7 +98,7 @@ fn parse_signature(
     ensures { λ _. ⌜ HeaderHeld n (now (rows .entry)) (now (rows .exit))
         (signatureD (tokensOf (now (tokens .entry))) (knownFrom (now (rows .entry)) 0 n) types token name at) ⌝ }
 {
-    match parse_optional_formals(tokens, at, rows, 14 + n * 45) {
+    match parse_optional_formals(tokens, at, rows, columns::FORMALS + n * columns::ROW) {
         Run::Refused(e) => HeaderRead::Refused(e),
         Run::Done(formals, at1) => match parse_optional_type(tokens, at1) {
             TypeRead::Refused(e) => HeaderRead::Refused(e),

@@ -1,11 +1,13 @@
 // The functions so far: the Rust's Unit::globals and Unit::function_types, looked up in the rows of the header table.
 ghost use mathlib.Core.Path.{_≡_};
 ghost use mathlib.Core.List.{_∷_};
-ghost use Prim.Native.Nat.{ℕ, _≤_, _<_};
+ghost use Prim.Native.Nat.{_≤_, _<_};
 ghost use lib.ListN.{length};
 ghost use Rattle.utils.specs.Bytes.{sameBytes};
 ghost use Rattle.functions.specs.Known.{typeNumber, expectedType};
-ghost use Rattle.functions.specs.Rows.{formalsAt, typesAt, signedAt, knownFrom};
+ghost use Rattle.functions.specs.Columns.{formalsAt};
+ghost use Rattle.functions.specs.Rows.{typesAt, signedAt, knownFrom};
+use crate::columns;
 use pieces::Identifier;
 
 // Whether the first `count` formals of rows a and b have the same types.
@@ -15,8 +17,8 @@ fn same_formals(rows: &[u32], a: usize, b: usize, count: usize) -> bool
         (typesAt (now (rows .entry)) (formalsAt b) count) ⌝ }
 {
     let mut k: usize = 0;
-    let mut i = 14 + a * 45;
-    let mut j = 14 + b * 45;
+    let mut i = columns::FORMALS + a * columns::ROW;
+    let mut j = columns::FORMALS + b * columns::ROW;
     while k < count {
         if rows[i + 1] != rows[j + 1] {
             return false;
@@ -34,10 +36,10 @@ pub fn same_type(rows: &[u32], a: usize, ret: u32, count: usize, b: usize) -> bo
     ensures { λ r. ⌜ r ≡ sameBytes (signedAt (now (rows .entry)) a)
         (ret ∷ count ∷ typesAt (now (rows .entry)) (formalsAt b) count) ⌝ }
 {
-    if rows[7 + a * 45] != ret {
+    if rows[columns::RESULT + a * columns::ROW] != ret {
         return false;
     }
-    if rows[13 + a * 45] != count as u32 {
+    if rows[columns::COUNT + a * columns::ROW] != count as u32 {
         return false;
     }
     same_formals(rows, a, b, count)
@@ -52,7 +54,7 @@ pub fn type_number(rows: &[u32], n: usize, ret: u32, count: usize, types: u32) -
     let mut i: usize = 0;
     while i < n {
         if same_type(rows, i, ret, count, n) {
-            return rows[8 + i * 45];
+            return rows[columns::TYPE + i * columns::ROW];
         }
         i += 1;
     }
@@ -66,8 +68,8 @@ pub fn expected_type(rows: &[u32], n: usize, name: Identifier, ty: u32) -> u32
 {
     let mut i: usize = 0;
     while i < n {
-        if rows[2 + i * 45] == name.0 {
-            return rows[8 + i * 45];
+        if rows[columns::NAME + i * columns::ROW] == name.0 {
+            return rows[columns::TYPE + i * columns::ROW];
         }
         i += 1;
     }

@@ -1,5 +1,6 @@
 // The functions of a text: parse and parse_function of bril-lib/src/parser.rs, with Unit of ir.rs.
 mod build;
+pub mod columns;
 pub mod header;
 pub mod known;
 mod rows;

@@ -1,15 +1,16 @@
 // A function's row in the header table: 45 cells, of which the formals are stored as they are read.
 ghost use mathlib.Core.Path.{_≡_};
 ghost use mathlib.Core.List.{[], _∷_};
-ghost use Prim.Native.Nat.{ℕ, _+_, _*_, _-_, _≤_, _<_};
+ghost use Prim.Native.Nat.{_+_, _*_, _-_, _≤_, _<_};
 ghost use lib.ListN.{length, getD};
 ghost use lib.Seq.{sets};
 ghost use Rattle.lexer.specs.Decoded.{tokensOf, tokenAt};
-ghost use Rattle.functions.specs.Rows.{rowAt, retAt};
+ghost use Rattle.functions.specs.Columns.{rowAt, retAt};
 ghost use Rattle.functions.specs.Answer.{counts};
 use crate::Body;
 use crate::Counts;
 use crate::Head;
+use crate::columns;
 use pieces::Identifier;
 use utils::cell_at;
 
@@ -38,7 +39,7 @@ pub fn put_name(
 {
     let t = lexer::token_at(tokens, token);
     let len = name_length(names, name);
-    let at = 1 + i * 45;
+    let at = columns::TOKEN + i * columns::ROW;
     rows[at] = token as u32;
     rows[at + 1] = name.0;
     rows[at + 2] = close as u32;
@@ -64,7 +65,7 @@ pub fn put_counts(
     ensures { λ _. ⌜ now (rows .exit) ≡ sets (now (rows .entry)) (retAt i)
         (ret ∷ ty ∷ first ∷ items ∷ base ∷ blocks ∷ formals ∷ []) ⌝ }
 {
-    let at = 7 + i * 45;
+    let at = columns::RESULT + i * columns::ROW;
     rows[at] = ret;
     rows[at + 1] = ty;
     rows[at + 2] = first as u32;

@@ -7,7 +7,8 @@ use native.Mathlib.Omega.{arith}
 use lib.Dec.{eqb}
 use lib.ListN.{length}
 use Rattle.utils.specs.Bytes.{pick}
-use Rattle.parser.specs.Blocks.{Part, name, operation, Block, fresh, grown, blocksFrom}
+use Rattle.body.specs.Shapes.{Part, name, operation}
+use Rattle.link.specs.Blocks.{Block, fresh, grown, blocksFrom}
 use Rattle.body.specs.Records.{firstCell, recordAt, recordPart, goesOf, partsAt}
 use Rattle.body.specs.Room.{filled}
 use Rattle.link.specs.Steps.{run}

@@ -14,8 +14,9 @@ use Rattle.graph.specs.Records.{blockRecord, cellsOf}
 use Rattle.graph.specs.declared.BlockId.{BlockId}
 use Rattle.graph.specs.declared.BlockRecord.{BlockRecord}
 use Rattle.parser.specs.Step.{refusal}
-use Rattle.parser.specs.Blocks.{Part, name, operation, Block, fresh, blocksFrom, blocksAfter, blocksOf}
-use Rattle.parser.specs.Edges.{placeOf, places, refused, resolveLabels, resolveFrom}
+use Rattle.body.specs.Shapes.{Part, name, operation}
+use Rattle.link.specs.Blocks.{Block, fresh, blocksFrom, blocksAfter, blocksOf}
+use Rattle.link.specs.Edges.{placeOf, places, refused, resolveLabels, resolveFrom}
 use Rattle.parser.specs.declared.Refusal.{Refusal}
 use Rattle.body.specs.Records.{recordAt, partsAt, goesOf}
 use Rattle.body.specs.Room.{filled}

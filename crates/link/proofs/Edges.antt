@@ -1,5 +1,5 @@
 -- Each edge enters one block, so all predecessors together are no more than two for each block.
-use Prim.Native.Nat.{ℕ, zero, suc, _+_, _-_, _*_, _≤_, _<_}
+use Prim.Native.Nat.{ℕ, zero, suc, _+_, _*_, _≤_, _<_}
 use mathlib.Core.Path.{_≡_, refl, ap, _∙_}
 use mathlib.Core.Bool.{Bool, true, false}
 use mathlib.Core.List.{List, [], _∷_, _++_}
@@ -8,10 +8,10 @@ use borrow.Author.Tests.{eqb-true}
 use lib.Dec.{eqb}
 use lib.ListN.{length, length-append}
 use Rattle.utils.specs.Bytes.{pick}
-use Rattle.parser.specs.Body.{Item, label, plain, call, callInto, targets}
-use Rattle.parser.specs.Blocks.{Part, name, operation, numbersOf, partOf, partsOf, Block, fresh, grown, blocksFrom}
-use Rattle.parser.specs.Blocks.{blocksAfter, blocksOf}
-use Rattle.parser.specs.Edges.{Place, at, nowhere, placeOf, thenPlace, places, successors, entering, predecessors}
+use Rattle.body.specs.Body.{Item, label, plain, call, callInto, targets}
+use Rattle.body.specs.Shapes.{Part, name, operation, numbersOf, partOf, partsOf}
+use Rattle.link.specs.Blocks.{Block, fresh, grown, blocksFrom, blocksAfter, blocksOf}
+use Rattle.link.specs.Edges.{Place, at, nowhere, placeOf, thenPlace, places, successors, entering, predecessors}
 use Rattle.parser.specs.declared.Operation.{Operation}
 use Rattle.parser.specs.declared.Operation.the-variants as O
 use Rattle.body.specs.Records.{firstCell, recordAt, recordPart, goesBy, goesOf, partsAt}

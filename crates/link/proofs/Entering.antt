@@ -11,7 +11,7 @@ use lib.Seq.{sets, length-sets}
 use Rattle.utils.specs.Bytes.{pick}
 use Rattle.utils.proofs.Runs.{sets-append}
 use Rattle.graph.specs.Records.{cellsOf, blockAt, counted, rowOf}
-use Rattle.parser.specs.Edges.{entering, predecessors}
+use Rattle.link.specs.Edges.{entering, predecessors}
 use Rattle.link.specs.Steps.{entersD, linksFrom, entriesFrom, enteredBy, putEntered}
 
 -- Of `whole`, to be stored from `used` on, `rest` is left, to be stored from `here` on.

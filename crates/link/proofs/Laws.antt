@@ -1,5 +1,5 @@
 -- What blocks and edges are like: laws of the definitions, for those who use them.
-use Prim.Native.Nat.{ℕ, suc, _+_, _-_, _≤_, _<_}
+use Prim.Native.Nat.{ℕ, suc, _+_, _≤_, _<_}
 use mathlib.Core.Path.{_≡_, refl, ap}
 use mathlib.Core.Bool.{Bool, true, false}
 use mathlib.Core.List.{List, [], _∷_, _++_, map}
@@ -10,9 +10,10 @@ use lib.ListN.{length, length-append}
 use Rattle.utils.specs.Bytes.{pick}
 use Rattle.parser.specs.Step.{refusal}
 use Rattle.parser.specs.Labels.{has}
-use Rattle.parser.specs.Blocks.{Part, name, operation, Block, fresh, grown, namesIn, blocksFrom, blocksAfter, blocksOf}
-use Rattle.parser.specs.Edges.{Place, at, nowhere, placeOf, thenPlace, Resolved, fine, refused, missing, resolveLabels}
-use Rattle.parser.specs.Edges.{resolveFrom, resolveD, places, successors}
+use Rattle.body.specs.Shapes.{Part, name, operation, namesIn}
+use Rattle.link.specs.Blocks.{Block, fresh, grown, blocksFrom, blocksAfter, blocksOf}
+use Rattle.link.specs.Edges.{Place, at, nowhere, placeOf, thenPlace, Resolved, fine, refused, missing, resolveLabels}
+use Rattle.link.specs.Edges.{resolveFrom, resolveD, places, successors}
 use Rattle.body.specs.Room.{filled}
 use Rattle.link.specs.Table.{leading}
 use Rattle.link.proofs.Partition.{Blocked, final, followed, blocks-are}

@@ -8,3 +8,5 @@ pub mod Laws
 pub mod Edges
 pub mod Whole
 pub mod Linking
+-- demand 3: two readings of one function's blocks
+pub mod SimBlocks

@@ -8,8 +8,9 @@ use native.Mathlib.Nat.{add-zero}
 use lib.ListN.{length, take}
 use lib.Seq.{sets, length-take-le}
 use Rattle.graph.specs.Records.{recorded}
-use Rattle.parser.specs.Blocks.{Part, Block, namesIn, blocksOf}
-use Rattle.parser.specs.Edges.{Resolved, fine, refused, resolveD, successors}
+use Rattle.body.specs.Shapes.{Part, namesIn}
+use Rattle.link.specs.Blocks.{Block, blocksOf}
+use Rattle.link.specs.Edges.{Resolved, fine, refused, resolveD, successors}
 use Rattle.parser.specs.declared.Refusal.{Refusal}
 use Rattle.body.specs.Records.{partsAt}
 use Rattle.body.specs.Room.{filled}

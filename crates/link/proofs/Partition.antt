@@ -6,7 +6,8 @@ use mathlib.Core.Path.{_≡_, refl, ap}
 use mathlib.Core.List.{List, [], _∷_, _++_, map, append-nil, append-assoc}
 use native.Mathlib.Omega.{arith}
 use lib.ListN.{length, length-append}
-use Rattle.parser.specs.Blocks.{Part, name, operation, Block, fresh, grown, namesIn, blocksFrom, blocksAfter, blocksOf}
+use Rattle.body.specs.Shapes.{Part, name, operation, namesIn}
+use Rattle.link.specs.Blocks.{Block, fresh, grown, blocksFrom, blocksAfter, blocksOf}
 use Rattle.link.specs.Table.{leading}
 
 -- A block's token, and the labels that it goes to, are those of the last of its operations, if it has one.

@@ -1,5 +1,5 @@
 -- A label's number among the labels tells its block, and a record's labels are resolved as `resolveLabels` does it.
-use Prim.Native.Nat.{ℕ, _+_, _-_, _<_}
+use Prim.Native.Nat.{ℕ, _+_, _<_}
 use mathlib.Core.Path.{_≡_, refl}
 use mathlib.Core.Bool.{Bool, true, false}
 use mathlib.Core.List.{List, [], _∷_, _++_}
@@ -9,8 +9,9 @@ use lib.Dec.{eqb}
 use lib.ListN.{length, getD}
 use Rattle.utils.specs.Bytes.{pick}
 use Rattle.parser.specs.Labels.{has}
-use Rattle.parser.specs.Blocks.{Part, name, operation, Block, fresh, grown, namesIn, blocksFrom, blocksAfter, blocksOf}
-use Rattle.parser.specs.Edges.{Place, at, nowhere, placeOf, thenPlace, missing, places, Resolved, refused, resolveLabels}
+use Rattle.body.specs.Shapes.{Part, name, operation, namesIn}
+use Rattle.link.specs.Blocks.{Block, fresh, grown, blocksFrom, blocksAfter, blocksOf}
+use Rattle.link.specs.Edges.{Place, at, nowhere, placeOf, thenPlace, missing, places, Resolved, refused, resolveLabels}
 use Rattle.body.specs.Records.{goesBy, goesOf}
 use Rattle.body.specs.declared.ItemRecord.{ItemRecord}
 use Rattle.body.specs.declared.Last.{Last}

@@ -5,7 +5,7 @@ use mathlib.Core.List.{List, [], _∷_}
 use native.Mathlib.Omega.{arith}
 use borrow.Author.Tests.{eq-eqb, ne-eqb}
 use Rattle.utils.specs.Bytes.{pick}
-use Rattle.parser.specs.Blocks.{name, operation}
+use Rattle.body.specs.Shapes.{name, operation}
 use Rattle.body.specs.Records.{firstCell, recordAt, recordPart, goesOf, partsAt}
 use Rattle.body.specs.declared.ItemRecord.{ItemRecord}
 use Rattle.link.specs.Table.{leading}

@@ -1,6 +1,6 @@
 -- Each record, stored when its block is closed and again with what enters it, is that of `blockCells`; the successors
 -- read back from the records are those of the blocks.
-use Prim.Native.Nat.{ℕ, zero, suc, _+_, _-_, _*_, _≤_, _<_}
+use Prim.Native.Nat.{ℕ, zero, suc, _+_, _*_, _≤_, _<_}
 use mathlib.Core.Path.{_≡_, refl, sym, ap, _∙_}
 use mathlib.Core.List.{List, [], _∷_, _++_}
 use native.Mathlib.Omega.{arith}
@@ -13,8 +13,8 @@ use Rattle.utils.proofs.Runs.{sets-append}
 use Rattle.graph.specs.Records.{blockRecord, cellsOf, blockAt, successorsOf, recorded}
 use Rattle.graph.specs.declared.BlockRecord.{BlockRecord}
 use Rattle.graph.proofs.Rows.{counted-is}
-use Rattle.parser.specs.Blocks.{Block}
-use Rattle.parser.specs.Edges.{places, successors, predecessors, isNone, isDead}
+use Rattle.link.specs.Blocks.{Block}
+use Rattle.link.specs.Edges.{places, successors, predecessors, isNone, isDead}
 use Rattle.link.specs.Cells.{bit, blockCells, predecessorCells}
 use Rattle.link.specs.Steps.{closedOf, putClosed, linksFrom, entriesFrom, markOf, enteredBy, putEntered}
 use Rattle.link.proofs.Edges.{Thin, places-few}

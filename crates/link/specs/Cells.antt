@@ -9,8 +9,9 @@ use lib.ListN.{length, getD}
 use lib.Seq.{sets}
 use Rattle.graph.specs.Records.{blockRecord, cellsOf}
 use Rattle.graph.specs.declared.BlockRecord.{BlockRecord}
-use Rattle.parser.specs.Blocks.{Part, Block, blocksOf}
-use Rattle.parser.specs.Edges.{Resolved, fine, refused, resolveD, successors, predecessors, isDead}
+use Rattle.body.specs.Shapes.{Part}
+use Rattle.link.specs.Blocks.{Block, blocksOf}
+use Rattle.link.specs.Edges.{Resolved, fine, refused, resolveD, successors, predecessors, isDead}
 use Rattle.link.specs.declared.Linked.{Linked}
 use Rattle.link.specs.declared.Linked.the-variants as L
 

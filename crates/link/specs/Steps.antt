@@ -10,8 +10,9 @@ use Rattle.utils.specs.Bytes.{pick}
 use Rattle.graph.specs.Records.{blockRecord, cellsOf, blockAt}
 use Rattle.graph.specs.declared.BlockId.{BlockId}
 use Rattle.graph.specs.declared.BlockRecord.{BlockRecord}
-use Rattle.parser.specs.Blocks.{Part, name, operation, Block, namesIn}
-use Rattle.parser.specs.Edges.{Place, at, nowhere, missing, places, Resolved, fine, refused, predecessors}
+use Rattle.body.specs.Shapes.{Part, name, operation, namesIn}
+use Rattle.link.specs.Blocks.{Block}
+use Rattle.link.specs.Edges.{Place, at, nowhere, missing, places, Resolved, fine, refused, predecessors}
 use Rattle.parser.specs.declared.Refusal.{Refusal}
 use Rattle.body.specs.Records.{recordAt, partsAt}
 use Rattle.body.specs.Room.{filled}

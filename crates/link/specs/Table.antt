@@ -5,8 +5,8 @@ use Prim.Native.Nat.{ℕ, _+_, _-_}
 use mathlib.Core.List.{List, [], _∷_}
 use lib.Dec.{ltb, eqb}
 use Rattle.utils.specs.Bytes.{pick}
-use Rattle.parser.specs.Blocks.{Part, name, operation}
-use Rattle.parser.specs.Edges.{Place, at, nowhere}
+use Rattle.body.specs.Shapes.{Part, name, operation}
+use Rattle.link.specs.Edges.{Place, at, nowhere}
 
 -- how many labels stand before the first operation
 unfoldable pub leading : List Part → ℕ

@@ -5,7 +5,7 @@ ghost use Prim.Native.Nat.{_+_, _-_, _*_, _≤_, _<_};
 ghost use lib.ListN.{length, set};
 ghost use lib.Seq.{sets};
 ghost use Rattle.utils.specs.Bytes.{pick};
-ghost use Rattle.parser.specs.Edges.{entering, predecessors};
+ghost use Rattle.link.specs.Edges.{entering, predecessors};
 ghost use Rattle.graph.specs.Records.{blockAt, cellsOf, recorded, rowOf};
 ghost use Rattle.link.specs.Steps.{entersD, linksFrom, entriesFrom, markOf, enteredBy, putEntered};
 use graph::BlockId;

@@ -5,7 +5,7 @@ ghost use lib.ListN.{length, take};
 ghost use Rattle.body.specs.Records.{partsAt};
 ghost use Rattle.link.specs.Table.{leading, blockOf, labelPlace};
 ghost use Rattle.link.specs.Steps.{blockId, foundOf, oneD, twoD, goesD};
-ghost use Rattle.parser.specs.Edges.{missing};
+ghost use Rattle.link.specs.Edges.{missing};
 use crate::Found;
 use crate::Goes;
 use body::ItemRecord;

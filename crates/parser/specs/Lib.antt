@@ -9,11 +9,5 @@ pub mod Grammar
 pub mod Runs
 -- a label in a body
 pub mod Labels
--- a function's body: its items
-pub mod Body
--- the blocks that they make
-pub mod Blocks
--- the blocks in order: empty ones, labels resolved, edges, dead marks
-pub mod Edges
 -- two readings of one function: what is related to what
 pub mod Moved

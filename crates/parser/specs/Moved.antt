@@ -13,9 +13,6 @@ use Rattle.pieces.specs.declared.Identifier.{Identifier}
 use Rattle.parser.specs.Kinds as T
 use Rattle.parser.specs.Step.{refusal}
 use Rattle.parser.specs.Runs.{Variables, stopped, Calling, calling}
-use Rattle.parser.specs.Body.{Item, ItemAt, Body}
-use Rattle.parser.specs.Blocks.{Part, Block}
-use Rattle.parser.specs.Edges.{Resolved}
 use Rattle.parser.specs.declared.Refusal.{Refusal}
 use Rattle.parser.specs.declared.Ty.{Ty}
 use Rattle.parser.specs.declared.Variable.{Variable}
@@ -142,55 +139,10 @@ pub data SimCalling (m : Move) (l : ℕ) : Calling → Calling → Type 0 where
 abbrev pub SimNumber : Move → ℕ → ℕ → Type 0
 SimNumber m x x′ = SimName m (record { 0 = x }) (record { 0 = x′ })
 
--- the same item, with its token, one of the first n, moved and its names renamed
-pub data SimItem (m : Move) (n : ℕ) : Item → Item → Type 0 where
-  label : (w : ℕ) {l l′ : Identifier} → SimName m l l′ → w < n
-      → SimItem m n (Item.label (m .by + w) l) (Item.label w l′)
-  plain : {o o′ : Operation} → SimO m n o o′ → SimItem m n (Item.plain o) (Item.plain o′)
-  call : (w : ℕ) {g g′ : Identifier} {xs xs′ : List Variable} → SimName m g g′ → Each (SimV m) xs xs′ → w < n
-      → SimItem m n (Item.call (m .by + w) g xs) (Item.call w g′ xs′)
-  callInto : (w : ℕ) {v v′ : Variable} {g g′ : Identifier} {xs xs′ : List Variable}
-      → SimV m v v′ → SimName m g g′ → Each (SimV m) xs xs′ → w < n
-      → SimItem m n (Item.callInto (m .by + w) v g xs) (Item.callInto w v′ g′ xs′)
-
-pub data SimItemAt (m : Move) (l : ℕ) : ItemAt → ItemAt → Type 0 where
-  item : {i i′ : Item} → SimItem m l i i′ → (at : ℕ) → at < l
-      → SimItemAt m l (ItemAt.item i (m .by + at)) (ItemAt.item i′ at)
-  refused : (e e′ : Refusal) → SimE m l e e′ → SimItemAt m l (ItemAt.refused e) (ItemAt.refused e′)
-
 -- where the end was asked for, which may stand right behind the l tokens
 pub data SimClose (m : Move) (l : ℕ) : Consumed → Consumed → Type 0 where
   at : (i : ℕ) → i ≤ l → SimClose m l (C.At (m .by + i)) (C.At i)
   refused : (e e′ : Refusal) → SimE m l e e′ → SimClose m l (C.Refused e) (C.Refused e′)
-
--- where the closing brace, which may be the last token, was asked for; the index behind it isn't 0
-pub data SimBrace (m : Move) (l : ℕ) : Consumed → Consumed → Type 0 where
-  at : (i : ℕ) → i ≤ l → 1 ≤ i → SimBrace m l (C.At (m .by + i)) (C.At i)
-  refused : (e e′ : Refusal) → SimE m l e e′ → SimBrace m l (C.Refused e) (C.Refused e′)
-
-pub record SimBody (m : Move) (l : ℕ) (r r′ : Body) : Type 0 where
-  pub items : Each (SimItem m l) (r .items) (r′ .items)
-  pub end : SimBrace m l (r .end) (r′ .end)
-
--- the same part, with its token, one of the first n, moved and its names renamed
-pub data SimPart (m : Move) (n : ℕ) : Part → Part → Type 0 where
-  name : {l l′ : ℕ} → SimNumber m l l′ → SimPart m n (Part.name l) (Part.name l′)
-  operation : (w : ℕ) {goes goes′ : List ℕ} → Each (SimNumber m) goes goes′ → w < n
-      → SimPart m n (Part.operation (m .by + w) goes) (Part.operation w goes′)
-
--- The same block, with its names renamed. The token is moved where there is one: a block without operation has none.
-pub record SimBlock (m : Move) (l : ℕ) (b b′ : Block) : Type 0 where
-  pub labels : Each (SimNumber m) (b .labels) (b′ .labels)
-  pub first : b .first ≡ b′ .first
-  pub operations : b .operations ≡ b′ .operations
-  pub token : (b′ .operations ≡ 0 → ⊥) → b .token ≡ m .by + b′ .token
-  pub below : (b′ .operations ≡ 0 → ⊥) → b′ .token < l
-  pub goes : Each (SimNumber m) (b .goes) (b′ .goes)
-
--- labels all resolved, or related refusals
-pub data SimResolved (m : Move) (l : ℕ) : Resolved → Resolved → Type 0 where
-  fine : SimResolved m l Resolved.fine Resolved.fine
-  refused : (e e′ : Refusal) → SimE m l e e′ → SimResolved m l (Resolved.refused e) (Resolved.refused e′)
 
 -- The two answers are related by T; a family of its own, so that a search can read m, n and T off.
 pub data Rel (m : Move) (n : ℕ) {A : Type 0} (T : Move → ℕ → A → A → Type 0) : A → A → Type 0 where

@@ -16,16 +16,15 @@ use Rattle.lexer.specs.Read.{readOf}
 use Rattle.lexer.specs.Sound.{Sound}
 use Rattle.lexer.proofs.Sound.{read-sound}
 use Rattle.lexer.proofs.Cells.{length-tokens-cells, length-names-cells}
-use Rattle.functions.specs.Rows.{retAt, typeAt, countAt}
-use Rattle.sema.specs.Blocks.{blockCountAt}
+use Rattle.functions.specs.Columns.{retAt, typeAt, countAt, blockCountAt, placeAt, lengthAt, lineAt, formalTypeAt}
 use Rattle.checker.specs.Check.{Checking, refusal, checkOf}
-use Rattle.checker.specs.Header.{placeAt, lengthAt, lineAt, formalTypeAt, RowInRange, TableInRange}
+use Rattle.headers.specs.Ranges.{RowInRange, TableInRange}
 use Rattle.checker.specs.Numbers.{Accepts}
 use Rattle.checker.specs.declared.CheckAnswer.{CheckAnswer}
 use Rattle.checker.proofs.Numbers.{every-number}
 use Rattle.checker.proofs.Header.{header-in-range}
 use Rattle.recheck.specs.Recheck.{recheckOf}
-use Rattle.recheck.proofs.Ranges.{Tabled}
+use Rattle.headers.proofs.Ranges.{Tabled}
 use Rattle.recheck.proofs.Laws.{padded-long, first-cell, zero-accepts, table-not-42}
 use Rattle.pitchsleet.specs.Bytes.{le32s}
 use Rattle.pitchsleet.specs.CheckBytes.{cellBytes, bytesOf, export, exported, gated, exportDef, Gives, Exports}

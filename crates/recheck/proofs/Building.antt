@@ -9,14 +9,14 @@ use lib.Seq.{sets, length-sets}
 use Rattle.utils.specs.Bytes.{pick, padTo, sameBytes}
 use Rattle.lexer.specs.Decoded.{Tok}
 use Rattle.parser.specs.Step.{refusal}
-use Rattle.parser.specs.Body.{Item}
+use Rattle.body.specs.Body.{Item}
 use Rattle.parser.specs.declared.Refusal.{Refusal}
 use Rattle.body.specs.Records.{itemsCells, argumentsCells}
 use Rattle.link.specs.Cells.{blockCells}
 use Rattle.functions.specs.Functions.{Function, FunctionAt, function, noFunction, thenFunction, blocksIn}
-use Rattle.functions.specs.Rows.{rowAt, typeAt, signedAt, rowCells}
-use Rattle.functions.specs.Answer.{Slices, slices, Long, counts, countsFrom, storedFunction}
-use Rattle.functions.specs.Answer.{storedFrom, withCount}
+use Rattle.functions.specs.Columns.{rowAt, typeAt}
+use Rattle.functions.specs.Rows.{signedAt, rowCells}
+use Rattle.functions.specs.Answer.{Slices, slices, Long, counts, countsFrom, storedFunction, storedFrom, withCount}
 use Rattle.functions.specs.Answer.{edgesIn, Taken, FunctionHeld}
 use Rattle.functions.specs.Laid.{rowsCells, untypedItems, untypedArguments, allBlocks, allPredecessors, Fits, FitsFrom}
 use Rattle.functions.specs.declared.Counts.{Counts}
@@ -36,14 +36,14 @@ use Rattle.elaborate.specs.Types.{calleeOf, typedItems, typedCalls, typedItemsC
 use Rattle.elaborate.proofs.Lists.{items-typed, calls-typed, length-typed-items, length-typed-arguments}
 use Rattle.typing.specs.Outcome.{untyped, none, allItems, allArguments, asLong, cleared, Counted}
 use Rattle.typing.specs.Rows.{Done, done, thenRow, typedRows, RowsFit, HeldBy, RowsHeld}
-use Rattle.recheck.specs.Table.{isTable}
-use Rattle.recheck.specs.Spelled.{rowName, globalsSpelled, calleesSpelled, Named}
-use Rattle.recheck.specs.Recheck.{keeps, aloneD, retyped, Verdict, refuses, accepts, afterTyping}
-use Rattle.recheck.specs.Recheck.{typedAs, functionAlone}
-use Rattle.recheck.specs.Recheck.{verdictD, verdictSlices}
+use Rattle.headers.specs.Table.{isTable}
+use Rattle.headers.specs.Spelled.{rowName, globalsSpelled, calleesSpelled, Named}
+use Rattle.headers.specs.Kept.{keeps}
+use Rattle.recheck.specs.Recheck.{aloneD, retyped, Verdict, refuses, accepts, afterTyping}
+use Rattle.recheck.specs.Recheck.{typedAs, functionAlone, verdictD, verdictSlices}
 use Rattle.recheck.specs.Alone.{aloneRead, verdictRead, VerdictHeld, Places}
-use Rattle.recheck.specs.declared.Placed.{Placed}
-use Rattle.recheck.proofs.Ranges.{Tabled, table-in-range}
+use Rattle.headers.specs.declared.Placed.{Placed}
+use Rattle.headers.proofs.Ranges.{Tabled, table-in-range}
 use Rattle.recheck.proofs.Placing.{retyped-row, place-below, new-row, behind, globals-placed}
 use Rattle.recheck.proofs.Placing.{callees-placed, placed-fit}
 

@@ -13,24 +13,24 @@ use Rattle.lexer.specs.Numbered.{namesCells}
 use Rattle.lexer.specs.Decoded.{Tok, tokensOf}
 use Rattle.lexer.specs.declared.ReadAnswer.{ReadAnswer}
 use Rattle.parser.specs.declared.Refusal.{Refusal}
-use Rattle.functions.specs.Rows.{typeAt}
+use Rattle.functions.specs.Columns.{typeAt, lineAt}
 use Rattle.functions.specs.Answer.{Slices, countsFrom}
 use Rattle.functions.specs.declared.Counts.{Counts}
 use Rattle.functions.specs.declared.ProgramRead.the-variants as U
 use Rattle.typing.specs.Outcome.{none, asLong, cleared}
 use Rattle.checker.specs.Check.{Checking, accepted, refusal}
 use Rattle.checker.specs.Promise.{checking, padded, Lexed, Refuses}
-use Rattle.checker.specs.Header.{lineAt}
 use Rattle.checker.specs.declared.CheckAnswer.{CheckAnswer}
 use Rattle.checker.proofs.Lexed.{no-message, is-done, used-names, read-names, unpadded, first-tokens, first-names}
 use Rattle.checker.proofs.Ends.{same-checking, unread-from}
-use Rattle.recheck.specs.Table.{isTable}
-use Rattle.recheck.specs.Spelled.{calleesSpelled, Named}
-use Rattle.recheck.specs.Recheck.{isWhole, Verdict, refuses, accepts, verdictD, verdictSlices, verdictAs, parsedAs}
+use Rattle.headers.specs.Table.{isTable}
+use Rattle.headers.specs.Spelled.{calleesSpelled, Named}
+use Rattle.headers.specs.Kept.{isWhole}
+use Rattle.recheck.specs.Recheck.{Verdict, refuses, accepts, verdictD, verdictSlices, verdictAs, parsedAs}
 use Rattle.recheck.specs.Recheck.{refusedWith, recheckOf}
 use Rattle.recheck.specs.Alone.{verdictRead}
-use Rattle.recheck.proofs.Named.{accepted-named}
-use Rattle.recheck.proofs.Ranges.{table-in-range}
+use Rattle.headers.proofs.Named.{accepted-named}
+use Rattle.headers.proofs.Ranges.{table-in-range}
 
 -- A new text that is read. -------------------------------------------------------------------------------------------
 

@@ -24,7 +24,7 @@ use Rattle.checker.proofs.Numbers as numbers
 use Rattle.checker.proofs.Header.{written-in-range}
 use Rattle.recheck.specs.Recheck.{recheckOf}
 use Rattle.recheck.specs.Promise.{recheckDef, Rechecks}
-use Rattle.recheck.proofs.Ranges.{neither, Tabled, in-range-table}
+use Rattle.headers.proofs.Ranges.{neither, Tabled, in-range-table}
 use Rattle.recheck.proofs.Numbers.{forty-two-is-the-table, gate-gives-thirty}
 
 -- Equal answers. -----------------------------------------------------------------------------------------------------

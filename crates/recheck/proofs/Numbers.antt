@@ -26,21 +26,21 @@ use Rattle.parser.specs.Step.{refusal, look}
 use Rattle.parser.specs.declared.Refusal.{Refusal}
 use Rattle.body.specs.Room.{Within}
 use Rattle.functions.specs.Functions.{Function, FunctionAt, function, noFunction, thenFunction}
-use Rattle.functions.specs.Rows.{typeAt}
+use Rattle.functions.specs.Columns.{typeAt, lineAt}
 use Rattle.functions.specs.Answer.{Slices}
 use Rattle.sema.specs.Symbols.{Typed}
 use Rattle.sema.specs.Typing.{Global}
 use Rattle.typing.specs.Outcome.{untyped}
-use Rattle.checker.specs.Header.{lineAt}
 use Rattle.checker.specs.Check as check
 use Rattle.checker.specs.Check.{Checking}
 use Rattle.checker.specs.Promise.{checking, allSized}
 use Rattle.checker.proofs.Lexed.{within, lexed-itself}
 use Rattle.checker.proofs.ParsedNumbers.{Fine, Is, FunctionOn, function-on}
 use Rattle.checker.proofs.TypedNumbers.{FineT, function-fine}
-use Rattle.recheck.specs.Table.{isTable}
-use Rattle.recheck.specs.Spelled.{globalsSpelled, calleesSpelled}
-use Rattle.recheck.specs.Recheck.{isWhole, Verdict, refuses, accepts, typedAs, aloneD, functionAlone, verdictD}
+use Rattle.headers.specs.Table.{isTable}
+use Rattle.headers.specs.Spelled.{globalsSpelled, calleesSpelled}
+use Rattle.headers.specs.Kept.{isWhole}
+use Rattle.recheck.specs.Recheck.{Verdict, refuses, accepts, typedAs, aloneD, functionAlone, verdictD}
 use Rattle.recheck.specs.Recheck.{verdictAs, recheckOf}
 use Rattle.recheck.specs.Promise.{recheckDef}
 use Rattle.recheck.specs.Numbers.{Listed, Accepts, Numbered}

@@ -18,7 +18,7 @@ use Rattle.lexer.proofs.Same.{same-bytes-true}
 use Rattle.parser.specs.Runs.{typeCell, variablesCells}
 use Rattle.functions.specs.Known.{signature, formalTypes}
 use Rattle.functions.specs.Functions.{Function, function}
-use Rattle.functions.specs.Rows.{rowAt, nameAt, typeAt}
+use Rattle.functions.specs.Columns.{rowAt, nameAt, typeAt}
 use Rattle.functions.specs.Rows.{signedAt, headCells, rowCells}
 use Rattle.functions.proofs.Stores.{sets-set}
 use Rattle.functions.proofs.Seen.{length-variables}
@@ -29,19 +29,19 @@ use Rattle.sema.specs.Globals.{rowGlobal, globalsIn}
 use Rattle.sema.specs.declared.FoundRow.the-variants as W
 use Rattle.elaborate.specs.Types.{calleeOf}
 use Rattle.typing.specs.Rows.{RowsFit}
-use Rattle.recheck.specs.Spelled.{rowName, nameSpelled, globalsSpelled, calleesSpelled, Named}
-use Rattle.recheck.specs.Recheck.{keeps, aloneD, retyped}
-use Rattle.recheck.specs.Brought.{cellsFrom, Brought, brought, broughtAs, broughtFrom, headersBrought, Brings}
+use Rattle.headers.specs.Spelled.{rowName, nameSpelled, globalsSpelled, calleesSpelled, Named}
+use Rattle.headers.specs.Kept.{keeps}
+use Rattle.recheck.specs.Recheck.{aloneD, retyped}
+use Rattle.headers.specs.Brought.{cellsFrom, Brought, brought, broughtAs, broughtFrom, headersBrought, Brings}
 use Rattle.recheck.specs.Alone.{Places}
-use Rattle.recheck.specs.declared.Placed.{Placed}
-use Rattle.recheck.proofs.Ranges.{Tabled}
-use Rattle.recheck.proofs.Named.{spelled-found}
-use Rattle.recheck.proofs.Brought.{put-below, put-cell, step-grows, step-length}
-use Rattle.recheck.proofs.Brought.{length-brought}
-use Rattle.recheck.proofs.Brought.{row-named, cell-same, global-same, globals-brought, callees-brought}
-use Rattle.recheck.proofs.Brought.{Stands, place-brought}
-use Rattle.recheck.proofs.Alike.{Alike, globals-alike, callees-alike, other-row}
-use Rattle.recheck.proofs.Keeping.{kept-same}
+use Rattle.headers.specs.declared.Placed.{Placed}
+use Rattle.headers.proofs.Ranges.{Tabled}
+use Rattle.headers.proofs.Named.{spelled-found}
+use Rattle.headers.proofs.Brought.{put-below, put-cell, step-grows, step-length, length-brought}
+use Rattle.headers.proofs.Brought.{row-named, cell-same, global-same, globals-brought, callees-brought}
+use Rattle.headers.proofs.Brought.{Stands, place-brought}
+use Rattle.headers.proofs.Alike.{Alike, globals-alike, callees-alike, other-row}
+use Rattle.headers.proofs.Keeping.{kept-same}
 
 -- Stores. ------------------------------------------------------------------------------------------------------------
 

@@ -6,14 +6,14 @@ use lib.ListN.{getD, set}
 use lib.Seq.{sets}
 use Rattle.lexer.specs.Decoded.{Tok}
 use Rattle.functions.specs.Functions.{FunctionAt, function, noFunction}
-use Rattle.functions.specs.Rows.{rowAt, typeAt}
+use Rattle.functions.specs.Columns.{rowAt, typeAt}
 use Rattle.functions.specs.Answer.{Slices, countsFrom}
 use Rattle.functions.specs.declared.ProgramRead.{ProgramRead}
 use Rattle.functions.specs.declared.ProgramRead.the-variants as U
 use Rattle.typing.specs.Outcome.{none, asLong}
 use Rattle.recheck.specs.Recheck.{Verdict, refuses, accepts, verdictSlices}
-use Rattle.recheck.specs.Brought.{cellsFrom, brought, broughtFrom, headersBrought}
-use Rattle.recheck.specs.declared.Placed.{Placed}
+use Rattle.headers.specs.Brought.{cellsFrom, brought, broughtFrom, headersBrought}
+use Rattle.headers.specs.declared.Placed.{Placed}
 
 -- a function that is parsed, and nothing behind it
 abbrev pub aloneRead : FunctionAt → ProgramRead

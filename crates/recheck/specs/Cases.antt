@@ -20,9 +20,10 @@ use Rattle.elaborate.specs.Types.{calleeIn, isCall, typedLast, typedRecord, typ
 use Rattle.elaborate.specs.Types.{typedArgumentsCells}
 use Rattle.typing.specs.Outcome.{unitD, tablesOf, allItems, allArguments}
 use Rattle.checker.specs.Check.{Checking, checkOf}
-use Rattle.recheck.specs.Table.{between, formalsFit, nameFits, typeFits, rowFits, rowsFit, isTable}
-use Rattle.recheck.specs.Spelled.{rowName, rowSpelled}
-use Rattle.recheck.specs.Recheck.{isWhole, keepsBehind, keeps, aloneD, functionAlone, recheckOf}
+use Rattle.headers.specs.Table.{between, formalsFit, nameFits, typeFits, rowFits, rowsFit, isTable}
+use Rattle.headers.specs.Spelled.{rowName, rowSpelled}
+use Rattle.headers.specs.Kept.{isWhole, keepsBehind, keeps}
+use Rattle.recheck.specs.Recheck.{aloneD, functionAlone, recheckOf}
 
 -- To unfold this is to unfold the whole definition.
 unfoldable pub opened : ℕ

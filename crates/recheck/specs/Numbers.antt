@@ -10,9 +10,10 @@ use Rattle.lexer.specs.Numbered.{Part, Outcome, tokensCells, namesCells}
 use Rattle.lexer.specs.Read.{lexedFrom}
 use Rattle.lexer.specs.Decoded.{tokensOf}
 use Rattle.functions.specs.Functions.{Function}
-use Rattle.checker.specs.Header.{lineAt}
-use Rattle.recheck.specs.Table.{isTable}
-use Rattle.recheck.specs.Recheck.{isWhole, accepts, verdictD}
+use Rattle.functions.specs.Columns.{lineAt}
+use Rattle.headers.specs.Table.{isTable}
+use Rattle.headers.specs.Kept.{isWhole}
+use Rattle.recheck.specs.Recheck.{accepts, verdictD}
 
 -- The refusals of a new text: check's but 35, since there is no 65th function; 40, 41. 42 is the table's.
 abbrev pub Listed : ℕ → Type 0

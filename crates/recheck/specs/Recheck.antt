@@ -1,23 +1,20 @@
 -- Recheck (document 01): one new function against the headers of an accepted text. "Given: old text, its header table
 -- as check wrote it, a function number, new text." The parts of an answer are those of check.
-use Prim.Native.Nat.{ℕ, _+_, _-_}
+use Prim.Native.Nat.{ℕ}
 use mathlib.Core.List.{List, [], _∷_}
-use mathlib.Core.Bool.{Bool, true, false}
+use mathlib.Core.Bool.{false}
 use lib.Dec.{eqb}
-use lib.ListN.{length, getD}
+use lib.ListN.{getD}
 use Rattle.utils.specs.Bytes.{pick, sameBytes}
 use Rattle.utils.specs.Message.{reported}
 use Rattle.lexer.specs.Read.{Reading, readFrom}
-use Rattle.lexer.specs.Decoded.{Tok, tokensOf, tokenAt, nameOf}
+use Rattle.lexer.specs.Decoded.{Tok, tokensOf, tokenAt}
 use Rattle.parser.specs.Kinds as T
-use Rattle.parser.specs.Step.{refusal, look, thenNamed, thenType}
-use Rattle.parser.specs.Grammar.{globalD}
-use Rattle.pieces.specs.declared.Identifier.{Identifier}
+use Rattle.parser.specs.Step.{refusal, look}
 use Rattle.parser.specs.declared.Refusal.{Refusal}
-use Rattle.functions.specs.Known.{signature}
-use Rattle.functions.specs.Functions.{Header, Function, FunctionAt, function, noFunction, thenFunction, functionD}
-use Rattle.functions.specs.Functions.{thenFormals, optionalFormals, optionalType}
-use Rattle.functions.specs.Rows.{typeAt, signedAt}
+use Rattle.functions.specs.Functions.{Function, FunctionAt, function, noFunction, thenFunction, functionD}
+use Rattle.functions.specs.Columns.{typeAt, lineAt}
+use Rattle.functions.specs.Rows.{signedAt}
 use Rattle.functions.specs.Answer.{Slices, slices, countsFrom}
 use Rattle.messages.specs.Messages.{fixed}
 use Rattle.sema.specs.Symbols.{Typed}
@@ -27,35 +24,13 @@ use Rattle.sema.specs.declared.Checked.{Checked}
 use Rattle.sema.specs.declared.Checked.the-variants as K
 use Rattle.typing.specs.Outcome.{untyped, none, slicesOf}
 use Rattle.checker.specs.Check.{Checking, accepted, refusing, refusedAt}
-use Rattle.checker.specs.Header.{lineAt}
-use Rattle.recheck.specs.Table.{isTable}
-use Rattle.recheck.specs.Spelled.{rowName, globalsSpelled, calleesSpelled}
+use Rattle.headers.specs.Table.{isTable}
+use Rattle.headers.specs.Kept.{isWhole, keeps}
+use Rattle.headers.specs.Spelled.{rowName, globalsSpelled, calleesSpelled}
 
 -- a refusal at no token, with the text that its number has
 abbrev pub refusedWith : ℕ → ℕ → ℕ → Checking
 refusedWith number line place = refusing number line place (reported line [] (fixed number))
-
--- "40 if its first byte doesn't begin a global or its last byte isn't a `}` token": the first token, and the last
--- before the end token.
-unfoldable pub isWhole : List ℕ → List Tok → Bool
-isWhole new ts =
-    let first = tokenAt ts 0 in
-    let last = tokenAt ts (length ts - 2) in
-    pick (eqb (first .kind) T.global)
-    (pick (eqb (first .place) 0)
-    (pick (eqb (last .kind) T.rightBrace) (eqb (last .place + 1) (length new)) false) false) false
-
--- "with 41 where the name would be entered, if name or type differ": whether it is kept. What is refused before the
--- name would be entered is no matter here.
-unfoldable pub keepsBehind : (List ℕ → Bool) → List ℕ → List ℕ → List ℕ → List Tok → Identifier → ℕ → Bool
-keepsBehind named signed new names ts g at =
-    thenFormals (λ e. true) (optionalFormals ts at) (λ formals at1.
-    thenType (λ e. true) (optionalType ts at1) (λ ret at2.
-    pick (named (nameOf new names (g .0))) (sameBytes signed (signature ret formals)) false))
-
-unfoldable pub keeps : (List ℕ → Bool) → List ℕ → List ℕ → List ℕ → List Tok → Bool
-keeps named signed new names ts =
-    thenNamed (λ e. true) (globalD ts 0) (λ g at. keepsBehind named signed new names ts g at)
 
 -- What the new text is, as tokens.
 pub data Verdict : Type 0 where

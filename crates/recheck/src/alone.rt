@@ -1,23 +1,24 @@
 // The new function alone: parsed by the code that check uses, and typed among the old headers.
 ghost use mathlib.Core.Path.{_≡_};
 ghost use mathlib.Core.Bool.{true};
-ghost use Prim.Native.Nat.{ℕ, _≤_, _<_};
+ghost use Prim.Native.Nat.{_≤_, _<_};
 ghost use lib.ListN.{length, getD};
 ghost use Rattle.lexer.specs.Decoded.{tokensOf};
 ghost use Rattle.body.specs.Room.{Within};
-ghost use Rattle.functions.specs.Rows.{typeAt};
+ghost use Rattle.functions.specs.Columns.{typeAt};
 ghost use Rattle.functions.specs.Answer.{Long, slices, FunctionHeld};
 ghost use Rattle.typing.specs.Outcome.{none, cleared, asLong, Counted};
-ghost use Rattle.recheck.specs.Table.{isTable};
-ghost use Rattle.recheck.specs.Spelled.{Named, calleesSpelled};
+ghost use Rattle.headers.specs.Table.{isTable};
+ghost use Rattle.headers.specs.Spelled.{Named, calleesSpelled};
 ghost use Rattle.recheck.specs.Recheck.{aloneD, verdictD, verdictSlices};
 ghost use Rattle.recheck.specs.Alone.{aloneRead, verdictRead, VerdictHeld, Places};
-use crate::Placed;
-use crate::bring;
-use crate::header;
 use functions::Counts;
 use functions::FunctionRead;
 use functions::ProgramRead;
+use functions::columns;
+use headers::Placed;
+use headers::bring;
+use headers::kept;
 use sema::Checked;
 use typing::clear;
 use typing::types;
@@ -94,7 +95,7 @@ fn place_alone<'t, 'c>(
         (now (local .entry)) (now (functions .entry)) r (now (local .exit)) (now (functions .exit)) ⌝ }
 {
     functions[0] = 1;
-    functions[super::TYPE] = cell_at(rows, super::TYPE + number * super::ROW);
+    functions[columns::TYPE] = cell_at(rows, columns::TYPE + number * columns::ROW);
     let placed = bring::bring(local, old, rows, number, new, names, known);
     bring::copy_row(local, placed.place, functions, 0);
     placed
@@ -134,7 +135,7 @@ fn build<'t, 'c>(
         (tokensOf (now (tokens .entry)))) ⌝ }
     ensures { λ r. ⌜ Counted r ⌝ }
 {
-    if !header::keeps(old, new, rows, names, number, tokens, local) {
+    if !kept::keeps(old, new, rows, names, number, tokens, local) {
         return ProgramRead::Refused(parser::refuse(super::HEADER_CHANGED, 0));
     }
     match parse_alone(
@@ -198,7 +199,7 @@ pub(crate) fn unit<'t, 'c>(
     ensures { λ r. ⌜ Counted r ⌝ }
 {
     clear::clear_five(functions, items, arguments, blocks, predecessors);
-    let mut local = [0u32; 2881];
+    let mut local = [0u32; columns::TABLE];
     match build(
         old,
         rows,

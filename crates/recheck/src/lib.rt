@@ -1,71 +1,25 @@
 // One new function against the headers of an accepted text.
 mod alone;
-mod bring;
-mod header;
-mod names;
-mod table;
 
 ghost use mathlib.Core.Path.{_≡_};
 ghost use mathlib.Core.Bool.{true};
-ghost use Prim.Native.Nat.{ℕ, _≤_};
+ghost use Prim.Native.Nat.{_≤_};
 ghost use lib.ListN.{length, getD};
 ghost use Rattle.functions.specs.Answer.{slices};
-ghost use Rattle.checker.specs.Header.{lineAt};
+ghost use Rattle.functions.specs.Columns.{lineAt};
 ghost use Rattle.checker.specs.Promise.{checking, padded, Lexed, Sizes};
-ghost use Rattle.recheck.specs.Table.{isTable};
+ghost use Rattle.headers.specs.Table.{isTable};
 ghost use Rattle.recheck.specs.Recheck.{refusedWith, recheckOf};
 ghost use Rattle.recheck.specs.Promise.{Rechecks};
 use checker::CheckAnswer;
 use functions::ProgramRead;
+use functions::columns;
+use headers::kept;
+use headers::table;
 use lexer::ReadAnswer;
-use pieces::Identifier;
 use pieces::Location;
 use typing::clear;
 use utils::cell_at;
-
-// The header table: its cells, the cells of a row, and where a row's cells stand for row 0 (docs/INTERFACE.md).
-const TABLE: usize = 2881;
-
-const ROW: usize = 45;
-
-const FIRST: usize = 1;
-
-const NAME: usize = 2;
-
-const PLACE: usize = 4;
-
-const LENGTH: usize = 5;
-
-const LINE: usize = 6;
-
-const RESULT: usize = 7;
-
-const TYPE: usize = 8;
-
-const BLOCKS: usize = 12;
-
-const FORMALS: usize = 13;
-
-const FORMAL_TYPE: usize = 15;
-
-// Where row 1 has its formals.
-const SECOND_FORMALS: usize = 59;
-
-// Document 01's limits, and what a line is at most in a text of that size.
-const MOST_BYTES: usize = 16384;
-
-const MOST_LINES: u32 = 16385;
-
-const MOST_FUNCTIONS: u32 = 64;
-
-const MOST_FORMALS: u32 = 16;
-
-// Kinds of tokens (docs/INTERFACE.md).
-const GLOBAL: u32 = 2;
-
-const RIGHT_BRACE: u32 = 28;
-
-const END_OF_FILE: u32 = 38;
 
 // Document 01's numbers.
 const NO_GLOBAL: u32 = 7;
@@ -78,17 +32,10 @@ const HEADER_CHANGED: u32 = 41;
 
 const BAD_TABLE: u32 = 42;
 
-// Whose name is looked up: a row's of the header table, or one of the new text's names.
-pub enum Looked {
-    Header(usize),
-    Name(Identifier),
-}
+// Kinds of tokens (docs/INTERFACE.md).
+const GLOBAL: u32 = 2;
 
-// How many of the old headers the new text names, and where among them is the one of the replaced function.
-pub struct Placed {
-    pub place: usize,
-    pub count: usize,
-}
+const END_OF_FILE: u32 = 38;
 
 // A refusal at no token: its message, and every other slice zero.
 fn refuse_all(
@@ -148,8 +95,8 @@ fn recheck_lexed<'t>(
 {
     let last = r.tokens as usize * 4;
     let end = r.names as usize * 2;
-    if !header::is_whole(new, &tokens[0..last]) {
-        let line = Location(cell_at(table, LINE + number as usize * ROW));
+    if !kept::is_whole(new, &tokens[0..last]) {
+        let line = Location(cell_at(table, columns::LINE + number as usize * columns::ROW));
         return refuse_all(
             NOT_ONE_FUNCTION,
             line,
@@ -221,7 +168,7 @@ fn recheck_sized<'t>(
             message,
         );
     }
-    let line = cell_at(table, LINE + number as usize * ROW);
+    let line = cell_at(table, columns::LINE + number as usize * columns::ROW);
     let r = lexer::read_from(new, line, tokens, names, message);
     if r.number == 0 {
         return recheck_lexed(

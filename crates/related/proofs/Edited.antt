@@ -16,8 +16,8 @@ use Rattle.parser.specs.declared.Variable.{Variable}
 use Rattle.parser.specs.declared.Consumed.{Consumed}
 use Rattle.parser.specs.declared.Consumed.the-variants as C
 use Rattle.parser.proofs.Sim.{eqbS}
-use Rattle.parser.proofs.SimBody.{number-of}
-use Rattle.parser.proofs.SimBlocks.{countS}
+use Rattle.body.proofs.SimBody.{number-of}
+use Rattle.body.proofs.SimItems.{countS}
 use Rattle.functions.specs.Known.{Known, typesAfter, formalTypes}
 use Rattle.functions.specs.Functions.{Function, function, noFunction, Program, programThen, knownOf}
 use Rattle.functions.specs.Functions.{functionsD, programD}

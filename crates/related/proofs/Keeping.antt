@@ -15,7 +15,7 @@ use Rattle.parser.specs.declared.Ty.the-variants as Y
 use Rattle.parser.specs.declared.Variable.{Variable}
 use Rattle.functions.specs.Known.{signature, formalTypes}
 use Rattle.functions.specs.Functions.{Function, thenFormals}
-use Rattle.recheck.specs.Recheck.{keepsBehind, keeps}
+use Rattle.headers.specs.Kept.{keepsBehind, keeps}
 use Rattle.related.specs.Alone.{Kept, Keeps}
 
 -- a type by its cell

@@ -7,14 +7,17 @@ use lib.ListN.{length, getD, take, drop}
 use Rattle.graph.specs.Walk.{blockOrder}
 use Rattle.lexer.specs.Decoded.{Tok}
 use Rattle.parser.specs.Runs.{typeCell}
-use Rattle.parser.specs.Body.{Item}
-use Rattle.parser.specs.Blocks.{Block, fresh}
-use Rattle.parser.specs.Edges.{successors}
-use Rattle.parser.specs.Moved.{Move, Sim, SimName, SimNumber, SimV, SimItem, SimBlock, Each}
+use Rattle.body.specs.Body.{Item}
+use Rattle.link.specs.Blocks.{Block, fresh}
+use Rattle.link.specs.Edges.{successors}
+use Rattle.parser.specs.Moved.{Move, Sim, SimName, SimNumber, SimV, Each}
+use Rattle.body.specs.Moved.{SimItem}
+use Rattle.link.specs.Moved.{SimBlock}
 use Rattle.parser.specs.declared.Variable.{Variable}
 use Rattle.parser.proofs.Sim.{eqbS}
-use Rattle.parser.proofs.SimBody.{number-of, token-moved, token-below, terminator-kept}
-use Rattle.parser.proofs.SimBlocks.{countS, partsS, blocksS, edgesS}
+use Rattle.body.proofs.SimBody.{number-of, token-moved, token-below, terminator-kept}
+use Rattle.body.proofs.SimItems.{countS, partsS}
+use Rattle.link.proofs.SimBlocks.{blocksS, edgesS}
 use Rattle.functions.specs.Functions.{Function, blocksIn}
 use Rattle.functions.specs.Moved.{SimFunction}
 use Rattle.functions.proofs.SimFunctions.{formalTypesS}

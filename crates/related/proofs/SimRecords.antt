@@ -5,10 +5,11 @@ use mathlib.Core.List.{List, _++_}
 use native.Mathlib.Omega.{arith}
 use lib.ListN.{length}
 use Rattle.utils.specs.Bytes.{pick}
-use Rattle.parser.specs.Body.{Item, argumentsIn}
-use Rattle.parser.specs.Moved.{Move, SimName, SimV, SimO, SimItem, Each}
+use Rattle.body.specs.Body.{Item, argumentsIn}
+use Rattle.parser.specs.Moved.{Move, SimName, SimV, SimO, Each}
+use Rattle.body.specs.Moved.{SimItem}
 use Rattle.parser.specs.declared.Variable.{Variable}
-use Rattle.parser.proofs.SimBlocks.{countS}
+use Rattle.body.proofs.SimItems.{countS}
 use Rattle.body.specs.Records.{recordOf, operationRecord}
 use Rattle.functions.specs.Functions.{Function}
 use Rattle.elaborate.specs.Types.{calleeIn, isCall, typedLast, typedRecord, typedItemsCells, typedVariables}

@@ -13,16 +13,16 @@ use Rattle.lexer.specs.Decoded.{Tok, tokenAt}
 use Rattle.lexer.specs.declared.TokenAt.{TokenAt}
 use Rattle.pieces.specs.declared.Identifier.{Identifier}
 use Rattle.parser.specs.Step.{refusal}
-use Rattle.parser.specs.Body.{Item}
-use Rattle.parser.specs.Moved.{Move, Sim, SimName, SimE, SimV, SimO, SimItem, Each}
+use Rattle.body.specs.Body.{Item}
+use Rattle.parser.specs.Moved.{Move, Sim, SimName, SimE, SimV, SimO, Each}
+use Rattle.body.specs.Moved.{SimItem}
 use Rattle.parser.specs.declared.Refusal.{Refusal}
 use Rattle.parser.specs.declared.Variable.{Variable}
 use Rattle.parser.specs.declared.Operation.{Operation}
-use Rattle.parser.proofs.SimBlocks.{countS}
+use Rattle.body.proofs.SimItems.{countS}
 use Rattle.sema.specs.Symbols.{Typed, on, stop, thenEnd, thenTyped, enterD, thenLook, thenSame}
 use Rattle.sema.specs.Typing.{thenThree, operandsD, binaryD, operandD, unaryD, constD, retValueD, retD, Global}
-use Rattle.sema.specs.Typing.{presentD}
-use Rattle.sema.specs.Typing.{typesOf, sameAll, argumentsD, thenGlobal, callD, callIntoD, plainD, analyzeD}
+use Rattle.sema.specs.Typing.{presentD, typesOf, sameAll, argumentsD, thenGlobal, callD, callIntoD, plainD, analyzeD}
 use Rattle.related.specs.Tables.{Tables, SimChecked, SimTyped, SameGlobals}
 
 -- Steps. -------------------------------------------------------------------------------------------------------------

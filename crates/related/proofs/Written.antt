@@ -7,12 +7,14 @@ use lib.ListN.{length, getD}
 use Rattle.lexer.specs.Decoded.{Tok, tokenAt}
 use Rattle.lexer.specs.declared.TokenAt.{TokenAt}
 use Rattle.parser.specs.Runs.{typeCell, variablesCells}
-use Rattle.parser.specs.Blocks.{Block}
-use Rattle.parser.specs.Edges.{predecessors}
-use Rattle.parser.specs.Moved.{Move, Sim, SimName, SimNumber, SimV, SimBlock, Each}
+use Rattle.link.specs.Blocks.{Block}
+use Rattle.link.specs.Edges.{predecessors}
+use Rattle.parser.specs.Moved.{Move, Sim, SimName, SimNumber, SimV, Each}
+use Rattle.link.specs.Moved.{SimBlock}
 use Rattle.parser.specs.declared.Variable.{Variable}
-use Rattle.parser.proofs.SimBody.{number-of}
-use Rattle.parser.proofs.SimBlocks.{countS, partsS, blocksS, edgesS}
+use Rattle.body.proofs.SimBody.{number-of}
+use Rattle.body.proofs.SimItems.{countS, partsS}
+use Rattle.link.proofs.SimBlocks.{blocksS, edgesS}
 use Rattle.link.specs.Cells.{blockCells, predecessorCells}
 use Rattle.functions.specs.Functions.{Function, blocksIn}
 use Rattle.functions.specs.Rows.{rowCells}

@@ -9,7 +9,7 @@ use lib.ListN.{length, take, drop, getD, length-append, length-drop, take-append
 use lib.Seq.{length-take-le, drop-at}
 use Rattle.utils.specs.Bytes.{pick}
 use Rattle.parser.specs.Runs.{typeCell, variablesCells}
-use Rattle.parser.specs.Body.{Item, label, plain, call, callInto, argumentsIn}
+use Rattle.body.specs.Body.{Item, label, plain, call, callInto, argumentsIn}
 use Rattle.parser.specs.declared.Ty.{Ty}
 use Rattle.parser.specs.declared.Ty.the-variants as Y
 use Rattle.parser.specs.declared.Variable.{Variable}

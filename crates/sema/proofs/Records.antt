@@ -13,7 +13,7 @@ use Rattle.lexer.specs.declared.TokenAt.{TokenAt}
 use Rattle.pieces.specs.declared.Identifier.{Identifier}
 use Rattle.parser.specs.Step.{refusal}
 use Rattle.parser.specs.Runs.{typeCell}
-use Rattle.parser.specs.Body.{plain, label, call, callInto}
+use Rattle.body.specs.Body.{plain, label, call, callInto}
 use Rattle.parser.specs.declared.Variable.{Variable}
 use Rattle.parser.specs.declared.Operation.the-variants as O
 use Rattle.body.specs.Records.{named, lastOf, recordAt}

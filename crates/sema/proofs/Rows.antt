@@ -1,6 +1,6 @@
 -- The functions by name, from the rows in which they are stored, are those of the list that was parsed.
 use Prim.Native.Nat.{ℕ, _+_}
-use mathlib.Core.Path.{_≡_, refl, ap}
+use mathlib.Core.Path.{_≡_, refl}
 use mathlib.Core.Bool.{Bool, true, false}
 use mathlib.Core.List.{List, [], _∷_, _++_}
 use lib.Dec.{eqb}
@@ -10,9 +10,9 @@ use Rattle.lexer.specs.Decoded.{Tok}
 use Rattle.parser.specs.Runs.{typeCell}
 use Rattle.functions.specs.Known.{formalTypes}
 use Rattle.functions.specs.Functions.{Function}
-use Rattle.functions.specs.Rows.{rowAt}
+use Rattle.functions.specs.Columns.{rowAt}
 use Rattle.functions.specs.Answer.{counts, countsWith}
-use Rattle.functions.specs.Laid.{rowsCells, Fits, FitsFrom}
+use Rattle.functions.specs.Laid.{rowsCells, FitsFrom}
 use Rattle.functions.specs.declared.Counts.{Counts}
 use Rattle.functions.proofs.Standing.{row-name, row-ret, row-types, row-stands, rows-behind}
 use Rattle.sema.specs.Typing.{Global, global}

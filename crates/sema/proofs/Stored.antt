@@ -1,13 +1,13 @@
 -- Typing the cells in which a function is stored is typing the function: its blocks and their items are read back from
 -- the records, its successors from the pairs of cells, and its formals from its row.
 use Prim.Native.Nat.{ℕ, zero, suc, _+_, _*_, _≤_, _<_}
-use mathlib.Core.Path.{_≡_, refl, ap, _∙_, fun-ext}
+use mathlib.Core.Path.{_≡_, refl, ap, fun-ext}
 use mathlib.Core.List.{List, [], _∷_, _++_}
 use native.Mathlib.Omega.{arith}
-use lib.ListN.{length, getD, take, drop}
+use lib.ListN.{length, getD, drop}
 use Rattle.utils.specs.Bytes.{padTo}
 use Rattle.graph.specs.Walk.{blockOrder}
-use Rattle.graph.specs.Records.{blockAt, recorded, blocksIn as atMost256}
+use Rattle.graph.specs.Records.{blockAt, recorded}
 use Rattle.graph.specs.declared.BlockRecord.{BlockRecord}
 use Rattle.graph.proofs.Rows.{counted-is}
 use Rattle.graph.proofs.Once.{order-permutation, order-below}
@@ -15,9 +15,10 @@ use Rattle.graph.proofs.Below.{order-depends-below}
 use Rattle.graph.proofs.Callers.{blocks-few}
 use Rattle.lexer.specs.Decoded.{Tok}
 use Rattle.parser.specs.Runs.{typeCell}
-use Rattle.parser.specs.Body.{Item}
-use Rattle.parser.specs.Blocks.{Block, fresh, partsOf}
-use Rattle.parser.specs.Edges.{successors}
+use Rattle.body.specs.Body.{Item}
+use Rattle.link.specs.Blocks.{Block, fresh}
+use Rattle.body.specs.Shapes.{partsOf}
+use Rattle.link.specs.Edges.{successors}
 use Rattle.parser.specs.declared.Variable.{Variable}
 use Rattle.body.specs.Records.{itemsCells, argumentsCells}
 use Rattle.link.specs.Cells.{blockCells}
@@ -25,16 +26,16 @@ use Rattle.link.specs.Table.{leading}
 use Rattle.link.proofs.Laws.{Below, Parted, blocks-partition}
 use Rattle.link.proofs.Edges.{Thin, thin-items, places-few}
 use Rattle.functions.specs.Functions.{Function, blocksIn}
-use Rattle.functions.specs.Rows.{rowAt, rowCells}
+use Rattle.functions.specs.Columns.{rowAt}
+use Rattle.functions.specs.Rows.{rowCells}
 use Rattle.functions.specs.Answer.{edgesIn}
 use Rattle.functions.specs.Laid.{Fits}
 use Rattle.functions.specs.declared.Counts.{Counts}
 use Rattle.functions.proofs.Standing.{cell-there, rest-there, row-token, row-ret, row-base, row-blocks, row-formals}
 use Rattle.functions.proofs.Standing.{row-at-most}
-use Rattle.sema.specs.Symbols.{Typed}
 use Rattle.sema.specs.Typing.{Global}
 use Rattle.sema.specs.Globals.{globalsIn}
-use Rattle.sema.specs.Blocks.{itemsAt, typeFunctionD, formalsIn, blocksAt, inOrder, rowD}
+use Rattle.sema.specs.Blocks.{typeFunctionD, formalsIn, blocksAt, inOrder, rowD}
 use Rattle.sema.specs.Program.{numbered, orderedBlocks}
 use Rattle.sema.proofs.Back.{items-back, block-back, formals-back}
 

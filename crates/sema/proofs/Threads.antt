@@ -6,7 +6,7 @@ use native.Mathlib.Omega.{arith}
 use lib.ListN.{length, getD}
 use lib.Seq.{sets}
 use Rattle.lexer.specs.Decoded.{Tok}
-use Rattle.parser.specs.Body.{Item}
+use Rattle.body.specs.Body.{Item}
 use Rattle.parser.specs.declared.Refusal.{Refusal}
 use Rattle.parser.specs.declared.Variable.{Variable}
 use Rattle.graph.specs.Walk.{blockOrder}
@@ -19,8 +19,7 @@ use Rattle.graph.proofs.Callers.{blocks-most, new-remaining, popped-block, popp
 use Rattle.sema.specs.Symbols.{Typed, typed, on, thenTyped, enterD}
 use Rattle.sema.specs.Typing.{Global, analyzeD}
 use Rattle.body.specs.Records.{named}
-use Rattle.sema.specs.Items.{itemAt}
-use Rattle.sema.specs.Items.{typed as variable}
+use Rattle.sema.specs.Items.{itemAt, typed as variable}
 use Rattle.sema.specs.Blocks.{itemsAt, itemsD, endD, blockD, formalsFrom, formalsD, blockItems, blocksAt, blocksD}
 use Rattle.sema.specs.declared.Checked.{Checked}
 use Rattle.sema.specs.declared.Checked.the-variants as K

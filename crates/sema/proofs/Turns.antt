@@ -8,7 +8,8 @@ use native.Mathlib.Omega.{arith}
 use borrow.Author.Tests.{eq-eqb, ne-eqb}
 use lib.ListN.{getD, length}
 use Rattle.utils.specs.Bytes.{pick}
-use Rattle.functions.specs.Rows.{nameAt, typesAt}
+use Rattle.functions.specs.Columns.{nameAt}
+use Rattle.functions.specs.Rows.{typesAt}
 use Rattle.body.specs.Records.{named}
 use Rattle.sema.specs.Items.{typed, variablesAt}
 use Rattle.sema.specs.Globals.{rowFrom}

@@ -1,5 +1,5 @@
 -- Blocks, functions, and all functions (document 01, "Typing"; Sema::analyze of parser.rs).
-use Prim.Native.Nat.{ℕ, zero, suc, _+_, _*_}
+use Prim.Native.Nat.{ℕ, zero, suc, _+_}
 use mathlib.Core.List.{List, [], _∷_}
 use lib.ListN.{length, getD}
 use Rattle.utils.specs.Bytes.{pick, padTo}
@@ -8,10 +8,11 @@ use Rattle.graph.specs.Records.{blockAt, recorded, blocksIn}
 use Rattle.lexer.specs.Decoded.{Tok}
 use Rattle.parser.specs.Step.{refusal}
 use Rattle.parser.specs.Runs.{typeCell}
-use Rattle.parser.specs.Body.{Item, isTerminator, itemToken}
+use Rattle.body.specs.Body.{Item, isTerminator, itemToken}
 use Rattle.parser.specs.declared.Variable.{Variable}
 use Rattle.body.specs.Records.{named}
-use Rattle.functions.specs.Rows.{rowAt, retAt, countAt, formalsAt, atMost16}
+use Rattle.functions.specs.Columns.{rowAt, retAt, firstBlockAt, blockCountAt, countAt, formalsAt}
+use Rattle.functions.specs.Rows.{atMost16}
 use Rattle.sema.specs.Symbols.{Typed, on, stop, thenTyped, enterD}
 use Rattle.sema.specs.Typing.{Global, analyzeD}
 use Rattle.sema.specs.Items.{typed, itemAt}
@@ -56,13 +57,6 @@ typeFunctionD ts globals ret token formals blocks t =
     thenTyped (formalsD t token formals) (λ t1. blocksD ts globals ret t1 blocks)
 
 -- What the cells hold. -----------------------------------------------------------------------------------------------
-
--- a row's cells for the first block and how many there are (crates/functions/specs/Rows.antt)
-abbrev pub firstBlockAt : ℕ → ℕ
-firstBlockAt i = 11 + i * 45
-
-abbrev pub blockCountAt : ℕ → ℕ
-blockCountAt i = 12 + i * 45
 
 -- n formals, a name and a type each
 unfoldable pub formalsFrom : List ℕ → ℕ → ℕ → List Variable

@@ -4,7 +4,8 @@ use mathlib.Core.List.{List}
 use lib.Dec.{eqb}
 use lib.ListN.{getD}
 use Rattle.utils.specs.Bytes.{pick}
-use Rattle.functions.specs.Rows.{nameAt, retAt, countAt, formalsAt, atMost16, typesAt}
+use Rattle.functions.specs.Columns.{nameAt, retAt, countAt, formalsAt}
+use Rattle.functions.specs.Rows.{atMost16, typesAt}
 use Rattle.sema.specs.declared.FoundRow.{FoundRow}
 use Rattle.sema.specs.declared.FoundRow.the-variants as W
 use Rattle.sema.specs.Typing.{Global, absent, global}

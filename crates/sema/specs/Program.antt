@@ -7,11 +7,11 @@ use Rattle.utils.specs.Bytes.{pick}
 use Rattle.graph.specs.Walk.{blockOrder}
 use Rattle.lexer.specs.Decoded.{Tok}
 use Rattle.parser.specs.Runs.{typeCell}
-use Rattle.parser.specs.Body.{Item}
-use Rattle.parser.specs.Blocks.{Block, fresh}
-use Rattle.parser.specs.Edges.{successors}
+use Rattle.body.specs.Body.{Item}
+use Rattle.link.specs.Blocks.{Block, fresh}
+use Rattle.link.specs.Edges.{successors}
 use Rattle.functions.specs.Known.{formalTypes}
-use Rattle.functions.specs.Functions.{Header, Function, blocksIn}
+use Rattle.functions.specs.Functions.{Function, blocksIn}
 use Rattle.sema.specs.Symbols.{Typed, on, thenTyped}
 use Rattle.sema.specs.Typing.{Global, absent, global}
 use Rattle.sema.specs.Blocks.{typeFunctionD}

@@ -2,7 +2,6 @@
 -- comparisons.
 use Prim.Native.Nat.{ℕ}
 use mathlib.Core.List.{List, [], _∷_}
-use mathlib.Core.Bool.{Bool, true, false}
 use lib.Dec.{eqb, leb}
 use lib.ListN.{length, getD}
 use Rattle.utils.specs.Bytes.{pick}
@@ -11,7 +10,7 @@ use Rattle.pieces.specs.declared.Identifier.{Identifier}
 use Rattle.parser.specs.Kinds as T
 use Rattle.parser.specs.Step.{refusal}
 use Rattle.parser.specs.Runs.{typeCell}
-use Rattle.parser.specs.Body.{Item, label, plain, call, callInto}
+use Rattle.body.specs.Body.{Item, label, plain, call, callInto}
 use Rattle.parser.specs.declared.Variable.{Variable}
 use Rattle.parser.specs.declared.Operation.{Operation}
 use Rattle.parser.specs.declared.Operation.the-variants as O

@@ -7,7 +7,7 @@ use lib.ListN.{getD}
 use Rattle.lexer.specs.Decoded.{Tok}
 use Rattle.pieces.specs.declared.Identifier.{Identifier}
 use Rattle.parser.specs.Runs.{typeCell}
-use Rattle.parser.specs.Body.{Item, label, plain, call, callInto}
+use Rattle.body.specs.Body.{Item, label, plain, call, callInto}
 use Rattle.parser.specs.declared.Variable.{Variable}
 use Rattle.parser.specs.declared.Operation.{Operation}
 use Rattle.parser.specs.declared.Operation.the-variants as O

@@ -1,17 +1,18 @@
 // Calls: the callee, the result, then how many arguments, then which, then of which types.
 ghost use mathlib.Core.Path.{_≡_};
-ghost use mathlib.Core.List.{List};
-ghost use Prim.Native.Nat.{ℕ, _+_, _*_, _≤_, _<_};
+ghost use Prim.Native.Nat.{_+_, _*_, _≤_, _<_};
 ghost use lib.ListN.{length, getD};
-ghost use Rattle.functions.specs.Rows.{retAt, countAt, formalsAt, atMost16, typesAt};
+ghost use Rattle.functions.specs.Columns.{retAt, countAt, formalsAt};
+ghost use Rattle.functions.specs.Rows.{atMost16, typesAt};
 ghost use Rattle.sema.specs.Symbols.{typed, thenTyped, enterD};
 ghost use Rattle.sema.specs.Typing.{presentD, typesOf, sameAll, argumentsD, callD, callIntoD};
 ghost use Rattle.body.specs.Records.{named};
 ghost use Rattle.sema.specs.Items.{variablesAt};
-ghost use Rattle.sema.specs.Globals.{rowFrom, rowGlobal, globalsIn};
+ghost use Rattle.sema.specs.Globals.{rowFrom, globalsIn};
 use crate::Checked;
 use crate::FoundRow;
 use crate::symbols;
+use functions::columns;
 use pieces::Identifier;
 use utils::cell_at;
 
@@ -22,7 +23,7 @@ fn find_function(rows: &[u32], n: usize, name: Identifier) -> FoundRow
 {
     let mut i: usize = 0;
     while i < n {
-        if rows[2 + i * 45] == name.0 {
+        if rows[columns::NAME + i * columns::ROW] == name.0 {
             return FoundRow::At(i);
         }
         i += 1;
@@ -117,14 +118,22 @@ fn analyze_arguments(
         (typesAt (now (rows .entry)) (formalsAt i) (atMost16 (getD (now (rows .entry)) (countAt i) 0)))
         (variablesAt (now (arguments .entry)) first count) ⌝ }
 {
-    let formals = at_most_16(rows[13 + i * 45]);
+    let formals = at_most_16(rows[columns::COUNT + i * columns::ROW]);
     if formals != count {
         return symbols::refuse(20, token, formals, count, Identifier(0));
     }
     match look_arguments(table, token, arguments, first, count) {
         Checked::Refused(e) => Checked::Refused(e),
         Checked::Fine => {
-            compare_arguments(table, token, arguments, first, count, rows, 14 + i * 45)
+            compare_arguments(
+                table,
+                token,
+                arguments,
+                first,
+                count,
+                rows,
+                columns::FORMALS + i * columns::ROW,
+            )
         }
     }
 }
@@ -134,7 +143,7 @@ pub(crate) fn result_type(rows: &[u32], i: usize) -> u32
     requires { ⌜ (i < 64) × (2881 ≤ length (now rows)) ⌝ }
     ensures { λ r. ⌜ r ≡ getD (now (rows .entry)) (retAt i) 0 ⌝ }
 {
-    rows[7 + i * 45]
+    rows[columns::RESULT + i * columns::ROW]
 }
 
 // A call whose result nobody takes.

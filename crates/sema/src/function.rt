@@ -1,19 +1,19 @@
 // A function: its formals, then its blocks in the walk's order.
 ghost use mathlib.Core.Path.{_≡_};
-ghost use mathlib.Core.List.{List};
-ghost use Prim.Native.Nat.{ℕ, _+_, _*_, _≤_, _<_};
+ghost use Prim.Native.Nat.{_+_, _*_, _≤_, _<_};
 ghost use lib.ListN.{length, getD};
 ghost use Rattle.lexer.specs.Decoded.{tokensOf};
-ghost use Rattle.functions.specs.Rows.{rowAt, retAt};
+ghost use Rattle.functions.specs.Columns.{rowAt, retAt, firstBlockAt, blockCountAt};
 ghost use Rattle.graph.specs.Worklist.{remaining};
 ghost use Rattle.sema.specs.Symbols.{typed};
 ghost use Rattle.sema.specs.Globals.{globalsIn};
-ghost use Rattle.sema.specs.Blocks.{firstBlockAt, blockCountAt, formalsFrom, formalsIn, formalsD};
+ghost use Rattle.sema.specs.Blocks.{formalsFrom, formalsIn, formalsD};
 ghost use Rattle.sema.specs.Blocks.{blockD, blocksD, blockItems, blocksAt, inOrder, rowD};
 use crate::Checked;
 use crate::blocks;
 use crate::calls;
 use crate::symbols;
+use functions::columns;
 use graph::Popped;
 use graph::RPOWorklist;
 use graph::blocks::block_at;
@@ -48,10 +48,10 @@ fn enter_row(table: &mut [u32], rows: &[u32], row: usize) -> Checked
     ensures { λ r. ⌜ typed (now (table .exit)) r
         ≡ formalsD (now (table .entry)) (getD (now (rows .entry)) (rowAt row) 0) (formalsIn (now (rows .entry)) row) ⌝ }
 {
-    let at = row * 45;
-    let token = rows[1 + at];
-    let count = calls::at_most_16(rows[13 + at]);
-    enter_formals(table, token, rows, 14 + at, count)
+    let at = row * columns::ROW;
+    let token = rows[columns::TOKEN + at];
+    let count = calls::at_most_16(rows[columns::COUNT + at]);
+    enter_formals(table, token, rows, columns::FORMALS + at, count)
 }
 
 // The block of a record.
@@ -144,8 +144,8 @@ fn analyze_blocks(
         (getD (now (rows .entry)) (firstBlockAt row) 0) (getD (now (rows .entry)) (blockCountAt row) 0)) ⌝ }
 {
     let ret = calls::result_type(rows, row);
-    let first = rows[11 + row * 45];
-    let count = rows[12 + row * 45];
+    let first = rows[columns::FIRST_BLOCK + row * columns::ROW];
+    let count = rows[columns::BLOCKS + row * columns::ROW];
     let mut order = [0u32; 256];
     let work = RPOWorklist::new(blocks, first, count, &mut order);
     analyze_remaining(

@@ -1,21 +1,19 @@
 -- From the slices that `parse` leaves to those that the whole unit leaves.
-use Prim.Native.Nat.{ℕ, zero, suc, _+_, _*_, _-_, _≤_, _<_}
+use Prim.Native.Nat.{ℕ, _+_, _*_, _-_, _≤_}
 use mathlib.Core.Path.{_≡_, refl, sym, ap, subst, _∙_}
 use mathlib.Core.List.{List, [], _∷_, _++_}
 use native.Mathlib.Omega.{arith}
-use lib.ListN.{length, drop, getD, replicate, length-append, length-replicate}
+use lib.ListN.{length, drop, replicate, length-append, length-replicate}
 use Rattle.utils.specs.Bytes.{padTo}
 use Rattle.lexer.specs.Decoded.{Tok}
 use Rattle.parser.specs.Step.{thenAt}
 use Rattle.parser.specs.declared.Refusal.{Refusal}
 use Rattle.parser.specs.declared.Consumed.{Consumed}
 use Rattle.parser.specs.declared.Consumed.the-variants as C
-use Rattle.functions.specs.Functions.{Function, Program, programD}
-use Rattle.functions.specs.Rows.{rowAt, typeAt}
-use Rattle.functions.specs.Answer.{Slices, slices, Long, counts, countsWith, countsFrom, programRead, storedFrom, withCount, Held}
-use Rattle.functions.specs.Laid.{rowsCells, untypedItems, untypedArguments, allBlocks, allPredecessors, Fits, FitsFrom, AllFit}
+use Rattle.functions.specs.Functions.{Function, programD}
+use Rattle.functions.specs.Answer.{Slices, slices, Long, countsWith, countsFrom, programRead, storedFrom, withCount, Held}
+use Rattle.functions.specs.Laid.{rowsCells, untypedItems, untypedArguments, allBlocks, allPredecessors, FitsFrom, AllFit}
 use Rattle.functions.specs.declared.Counts.{Counts}
-use Rattle.functions.specs.declared.ProgramRead.{ProgramRead}
 use Rattle.functions.specs.declared.ProgramRead.the-variants as U
 use Rattle.functions.proofs.Laid.{functions-counted, length-items, length-arguments, Inside, inside-from, none-inside, stored-laid}
 use Rattle.functions.proofs.Laid.{LaidFits, laid-fits}
@@ -32,7 +30,7 @@ use Rattle.elaborate.proofs.Lists.{length-typed-items, length-typed-arguments}
 use Rattle.elaborate.proofs.Rows.{callees-stored}
 use Rattle.typing.specs.Outcome.{untyped, Outcome, checked, refused, unitD, unitRead, unitSlices, none, asLong, cleared}
 use Rattle.typing.specs.Outcome.{tablesOf, allItems, allArguments, UnitHeld, Counted}
-use Rattle.typing.specs.Rows.{firstItemAt, itemCountAt, Done, typedRows, RowsFit, HeldBy, RowsHeld}
+use Rattle.typing.specs.Rows.{Done, typedRows, RowsFit, HeldBy, RowsHeld}
 use Rattle.typing.proofs.Typed.{Same, all-typed}
 
 -- Lengths. ----------------------------------------------------------------------------------------------------------

@@ -11,7 +11,8 @@ use Rattle.sema.specs.Blocks.{rowD}
 use Rattle.sema.specs.declared.Checked.{Checked}
 use Rattle.sema.specs.declared.Checked.the-variants as K
 use Rattle.elaborate.specs.Types.{calleeOf, typedItems, typedCalls}
-use Rattle.typing.specs.Rows.{firstItemAt, itemCountAt, Done, done, thenRow, typedRows}
+use Rattle.functions.specs.Columns.{firstItemAt, itemCountAt}
+use Rattle.typing.specs.Rows.{Done, done, thenRow, typedRows}
 
 module _ (ts : List Tok) (rows : List ℕ) (n : ℕ) (blocks t₀ : List ℕ) (i left : ℕ) (items args : List ℕ) {d : Done}
     (same : typedRows ts rows n blocks t₀ i left items args ≡ d) where

@@ -1,26 +1,26 @@
 -- Typing on the cells in which functions stand is typing the functions, and the cells that it leaves are theirs with the
 -- types of operands.
-use Prim.Native.Nat.{ℕ, zero, suc, _+_, _*_, _-_, _≤_, _<_}
-use mathlib.Core.Path.{_≡_, refl, sym, ap, subst, fun-ext, _∙_}
+use Prim.Native.Nat.{ℕ, suc, _+_, _*_}
+use mathlib.Core.Path.{_≡_, refl, sym, ap, fun-ext, _∙_}
 use mathlib.Core.List.{List, [], _∷_, _++_, append-assoc}
 use native.Mathlib.Omega.{arith}
-use lib.ListN.{length, drop, getD, length-append}
+use lib.ListN.{length, drop, length-append}
 use lib.Seq.{drop-at, drop-drop}
 use Rattle.utils.specs.Bytes.{padTo}
 use Rattle.lexer.specs.Decoded.{Tok}
-use Rattle.parser.specs.Body.{Item}
+use Rattle.body.specs.Body.{Item}
 use Rattle.parser.specs.Runs.{typeCell}
-use Rattle.parser.specs.declared.Refusal.{Refusal}
-use Rattle.body.specs.Records.{itemsCells, argumentsCells, argumentsCount}
+use Rattle.body.specs.Records.{itemsCells, argumentsCells}
 use Rattle.link.specs.Cells.{blockCells}
 use Rattle.functions.specs.Functions.{Function, blocksIn}
-use Rattle.functions.specs.Rows.{rowAt, rowCells}
-use Rattle.functions.specs.Answer.{edgesIn, predecessorsIn, countsWith, countsFrom}
+use Rattle.functions.specs.Columns.{rowAt}
+use Rattle.functions.specs.Rows.{rowCells}
+use Rattle.functions.specs.Answer.{edgesIn, countsWith, countsFrom}
 use Rattle.functions.specs.Laid.{rowsCells, untypedItems, untypedArguments, allBlocks, Fits, FitsFrom}
 use Rattle.functions.specs.declared.Counts.{Counts}
 use Rattle.functions.proofs.Laid.{length-all-blocks}
 use Rattle.functions.proofs.Standing.{row-first, row-items, row-stands, rows-behind}
-use Rattle.sema.specs.Symbols.{Typed, on, thenEnd, thenTyped}
+use Rattle.sema.specs.Symbols.{Typed, thenEnd, thenTyped}
 use Rattle.sema.specs.Globals.{globalsIn}
 use Rattle.sema.specs.Blocks.{typeFunctionD, rowD}
 use Rattle.sema.specs.Program.{globalsOf, orderedBlocks, programD as typedD}
@@ -30,7 +30,7 @@ use Rattle.sema.proofs.Stored.{row-typed}
 use Rattle.elaborate.specs.Types.{calleeIn, calleeOf, typedItems, typedCalls, typedItemsCells, typedArgumentsCells}
 use Rattle.elaborate.proofs.Lists.{items-typed, calls-typed, length-typed-items, length-typed-arguments}
 use Rattle.typing.specs.Outcome.{untyped, tablesOf, allItems, allArguments}
-use Rattle.typing.specs.Rows.{firstItemAt, itemCountAt, Done, done, thenRow, typedRows}
+use Rattle.typing.specs.Rows.{Done, done, thenRow, typedRows}
 
 abbrev cellsOf : Counts → Function → List ℕ
 cellsOf n f =

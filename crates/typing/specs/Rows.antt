@@ -4,20 +4,12 @@ use mathlib.Core.Path.{_≡_}
 use mathlib.Core.List.{List}
 use lib.ListN.{getD}
 use Rattle.lexer.specs.Decoded.{Tok}
-use Rattle.functions.specs.Rows.{typeAt}
+use Rattle.functions.specs.Columns.{typeAt, firstItemAt, itemCountAt}
 use Rattle.parser.specs.declared.Refusal.{Refusal}
-use Rattle.sema.specs.Symbols.{Typed}
 use Rattle.sema.specs.Blocks.{rowD}
 use Rattle.sema.specs.declared.Checked.{Checked}
 use Rattle.sema.specs.declared.Checked.the-variants as K
 use Rattle.elaborate.specs.Types.{calleeOf, typedItems, typedCalls}
-
--- a row's cells for the first item and how many there are (crates/functions/specs/Rows.antt)
-abbrev pub firstItemAt : ℕ → ℕ
-firstItemAt i = 9 + i * 45
-
-abbrev pub itemCountAt : ℕ → ℕ
-itemCountAt i = 10 + i * 45
 
 -- how typing ends, and the cells of items and arguments then
 pub record Done : Type 0 where

@@ -6,6 +6,7 @@ ghost use lib.ListN.{length, getD};
 ghost use Rattle.utils.specs.Bytes.{padTo};
 ghost use Rattle.lexer.specs.Decoded.{tokensOf};
 ghost use Rattle.typing.specs.Rows.{RowsFit, typedRows, RowsHeld};
+use functions::columns;
 use sema::Checked;
 
 // A cell of a row, as an index or a count.
@@ -42,8 +43,8 @@ fn type_with(
                 return Checked::Refused(e);
             }
             Checked::Fine => {
-                let start = cell(rows, 9 + row * 45);
-                let count = cell(rows, 10 + row * 45);
+                let start = cell(rows, columns::FIRST_ITEM + row * columns::ROW);
+                let count = cell(rows, columns::ITEMS + row * columns::ROW);
                 elaborate::elaborate(table, rows, n, items, start, count, arguments);
                 row += 1;
                 left -= 1;

@@ -4,7 +4,7 @@ use native.Mathlib.Omega.{arith}
 use mathlib.Core.Path.{sym, subst, _∙_}
 use denote.Ref.{now}
 use borrow.Author.Needs.{needs}
-use Rattle.parser.specs.Blocks.{blocksOf}
+use Rattle.link.specs.Blocks.{blocksOf}
 use Rattle.body.specs.Records.{partsAt}
 use Rattle.link.specs.Steps.{ClosedHeld}
 use Rattle.link.specs.declared.Numbered.{Numbered}

@@ -6,7 +6,7 @@ use borrow.Author.Needs.{needs}
 use native.Mathlib.Nat.{add-zero}
 use Rattle.lexer.specs.Decoded.{tokensOf}
 use Rattle.parser.specs.Runs.{callD, variablesCells}
-use Rattle.parser.specs.Body.{itemD, parsedItem, callInto}
+use Rattle.body.specs.Body.{itemD, parsedItem, callInto}
 use Rattle.body.specs.Records.{recordOf}
 use Rattle.body.specs.Turns.{itemRead, callRecord}
 use Rattle.body.proofs.Progress.{instruction-in}

@@ -1,7 +1,7 @@
 -- The tests of the definition.
 use borrow.Author.Tests.{eq-eqb, ne-eqb}
 use Rattle.utils.specs.Bytes.{pick}
-use Rattle.parser.specs.Body.{closes}
+use Rattle.body.specs.Body.{closes}
 use Rattle.body.proofs.turns.closes_body.Statement.{statement}
 use Rattle.body.proofs.turns.closes_body.Tie as tie
 

@@ -4,7 +4,7 @@ use mathlib.Core.Path.{refl, sym, ap, _∙_}
 use denote.Ref.{now}
 use borrow.Author.Needs.{needs}
 use Rattle.lexer.specs.Decoded.{tokensOf}
-use Rattle.parser.specs.Body.{itemD, bodyStop}
+use Rattle.body.specs.Body.{itemD, bodyStop}
 use Rattle.body.specs.Turns.{lateRefusal}
 use Rattle.body.proofs.Items.{read-refused, read-done, item-refused, item-late, item-taken}
 use Rattle.body.proofs.turns.item_turn.Statement.{statement}

@@ -1,6 +1,6 @@
 -- The tests of the definition.
 use Rattle.utils.specs.Bytes.{pick}
-use Rattle.parser.specs.Body.{lacksRet}
+use Rattle.body.specs.Body.{lacksRet}
 use Rattle.body.proofs.turns.lacks_ret.Statement.{statement}
 use Rattle.body.proofs.turns.lacks_ret.Tie as tie
 

@@ -1,6 +1,7 @@
 use native.Mathlib.Nat.{sub-zero}
 use Rattle.functions.proofs.Turns.{types-more, types-none}
-use Rattle.functions.specs.Rows.{typesAt, formalsAt}
+use Rattle.functions.specs.Rows.{typesAt}
+use Rattle.functions.specs.Columns.{formalsAt}
 use Rattle.utils.specs.Bytes.{pick, sameBytes}
 use borrow.Author.Needs.{needs}
 use borrow.Author.Tests.{eq-eqb, ne-eqb}

@@ -1,6 +1,7 @@
 use native.Mathlib.Nat.{sub-zero}
 use Rattle.functions.proofs.Turns.{known-more, known-none}
-use Rattle.functions.specs.Rows.{knownFrom, typesAt, formalsAt}
+use Rattle.functions.specs.Rows.{knownFrom, typesAt}
+use Rattle.functions.specs.Columns.{formalsAt}
 use Rattle.functions.specs.Known.{typeNumber}
 use Rattle.utils.specs.Bytes.{pick}
 use borrow.Author.Needs.{needs}

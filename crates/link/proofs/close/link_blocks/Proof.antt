@@ -6,7 +6,7 @@ use mathlib.Core.Path.{refl}
 use lib.ListN.{take}
 use denote.Ref.{now}
 use Rattle.parser.specs.Step.{refusal}
-use Rattle.parser.specs.Blocks.{blocksOf}
+use Rattle.link.specs.Blocks.{blocksOf}
 use Rattle.body.specs.Records.{partsAt}
 use Rattle.link.specs.declared.Numbered.the-variants as N
 use Rattle.link.proofs.Cutting.{Cutting, cut-start, cut-room, turn-refused, turn-done, cut-end, cut-on, added-is}

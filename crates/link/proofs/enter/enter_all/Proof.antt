@@ -9,7 +9,7 @@ use lib.ListN.{length, length-append}
 use lib.Seq.{length-sets}
 use denote.Ref.{now}
 use Rattle.graph.specs.Records.{cellsOf, blockAt, rowOf}
-use Rattle.parser.specs.Edges.{predecessors}
+use Rattle.link.specs.Edges.{predecessors}
 use Rattle.link.specs.Steps.{linksFrom, entriesFrom, enteredBy, putEntered}
 use Rattle.link.proofs.Entering.{Entered, entered-none, entered-more, entered-all}
 use Rattle.link.proofs.Entering.{entries-more, entries-none, entered-step, entered-end}

@@ -7,7 +7,7 @@ use mathlib.Core.List.{List, []}
 use denote.Ref.{now}
 use lib.ListN.{length-append}
 use Rattle.graph.specs.Records.{rowOf}
-use Rattle.parser.specs.Edges.{entering, predecessors}
+use Rattle.link.specs.Edges.{entering, predecessors}
 use Rattle.link.specs.Steps.{linksFrom}
 use Rattle.link.proofs.Entering.{Entered, entered-none, entered-more}
 use Rattle.link.proofs.Entering.{entered-all, predecessors-more, predecessors-none}

@@ -9,7 +9,7 @@ use lib.ListN.{length}
 use denote.Ref.{now}
 use Rattle.lexer.specs.Decoded.{tokensOf}
 use Rattle.functions.specs.Answer.{slices}
-use Rattle.recheck.proofs.Ranges.{table-in-range}
+use Rattle.headers.proofs.Ranges.{table-in-range}
 use Rattle.recheck.proofs.Building.{parsed-is, header-changed, parse-refused, typing-asks, types-refused}
 use Rattle.recheck.proofs.Building.{types-fine}
 use Rattle.recheck.proofs.alone.build.Statement.{statement}

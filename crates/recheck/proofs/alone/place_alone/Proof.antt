@@ -5,8 +5,8 @@ use native.Mathlib.Omega.{arith}
 use mathlib.Core.Path.{ap}
 use lib.ListN.{length-set}
 use denote.Ref.{now}
-use Rattle.recheck.specs.Brought.{Brought, brought}
-use Rattle.recheck.proofs.Brought.{grows}
+use Rattle.headers.specs.Brought.{Brought, brought}
+use Rattle.headers.proofs.Brought.{grows}
 use Rattle.recheck.proofs.alone.place_alone.Statement.{statement}
 use Rattle.recheck.proofs.alone.place_alone.Tie as tie
 

@@ -5,11 +5,11 @@ use mathlib.Core.Path.{sym, subst, _∙_}
 use lib.ListN.{getD}
 use denote.Ref.{now}
 use Rattle.lexer.specs.Decoded.{tokensOf}
-use Rattle.functions.specs.Rows.{typeAt}
+use Rattle.functions.specs.Columns.{typeAt}
 use Rattle.functions.specs.Answer.{slices}
 use Rattle.typing.specs.Outcome.{Counted}
 use Rattle.typing.proofs.Building.{zero-now}
-use Rattle.recheck.specs.Spelled.{calleesSpelled}
+use Rattle.headers.specs.Spelled.{calleesSpelled}
 use Rattle.recheck.specs.Recheck.{verdictD}
 use Rattle.recheck.proofs.Building.{unit-done, unit-refused}
 use Rattle.recheck.proofs.alone.unit.Statement.{statement}

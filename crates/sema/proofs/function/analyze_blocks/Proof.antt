@@ -2,7 +2,8 @@ use lib.Seq.{length-sets}
 use Rattle.lexer.specs.Decoded.{tokensOf}
 use Rattle.graph.proofs.Callers.{blocks-most}
 use Rattle.sema.specs.Globals.{globalsIn}
-use Rattle.sema.specs.Blocks.{firstBlockAt, blockCountAt, blocksAt, blocksD}
+use Rattle.functions.specs.Columns.{firstBlockAt, blockCountAt}
+use Rattle.sema.specs.Blocks.{blocksAt, blocksD}
 use Rattle.sema.proofs.Threads.{all-remaining}
 use Prim.Native.Nat.{ℕ}
 use mathlib.Core.Path.{refl, ap, _∙_}
