@@ -19,7 +19,7 @@ use Rattle.body.specs.Body.{Item, label, plain, call, callInto, ItemAt, 
 use Rattle.body.specs.Body.{afterLabel, afterOperation, afterTerminator, behind, closes, bodyEnd}
 use Rattle.body.specs.Body.{bodyStop, bodyThen, thenItem, calledItem, parsedItem, itemD, bodyD, labelsOf, ret}
 use Rattle.body.specs.Body.{lacksRet, closedFrom}
-use Rattle.body.specs.Shapes.{partsOf, namesIn}
+use Rattle.body.specs.Shapes.{shapesOf, namesIn}
 use Rattle.parser.specs.declared.Refusal.{Refusal}
 use Rattle.parser.specs.declared.Consumed.{Consumed}
 use Rattle.parser.specs.declared.Consumed.the-variants as C
@@ -303,14 +303,14 @@ closed-ends before last (callInto w v g xs ∷ is) =
 
 -- The labels among the parts of closed items are the body's labels.
 pub names-closed : (void : Bool) (before last : ℕ) (is : List Item)
-    → namesIn (partsOf (closedFrom void before last is)) ≡ labelsOf is
-unfolding closedFrom partsOf namesIn labelsOf
+    → namesIn (shapesOf (closedFrom void before last is)) ≡ labelsOf is
+unfolding closedFrom shapesOf namesIn labelsOf
 names-closed void before last [] =
-    added (λ (js : List Item). namesIn (partsOf js) ≡ []) (lacksRet void before) last [] (λ _. refl) (λ _. refl)
+    added (λ (js : List Item). namesIn (shapesOf js) ≡ []) (lacksRet void before) last [] (λ _. refl) (λ _. refl)
 names-closed void before last (label w l ∷ is) =
-    let more : namesIn (partsOf (label w l ∷ closedFrom void afterLabel last is)) ≡ l .0 ∷ labelsOf is =
+    let more : namesIn (shapesOf (label w l ∷ closedFrom void afterLabel last is)) ≡ l .0 ∷ labelsOf is =
     rw (names-closed void afterLabel last is) in
-    added (λ (js : List Item). namesIn (partsOf js) ≡ l .0 ∷ labelsOf is) (lacksRet void before) last
+    added (λ (js : List Item). namesIn (shapesOf js) ≡ l .0 ∷ labelsOf is) (lacksRet void before) last
     (label w l ∷ closedFrom void afterLabel last is) (λ _. more) (λ _. more)
 names-closed void before last (plain o ∷ is) = names-closed void _ _ is
 names-closed void before last (call w g xs ∷ is) = names-closed void _ _ is

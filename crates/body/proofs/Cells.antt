@@ -14,7 +14,7 @@ use Rattle.utils.proofs.Runs.{sets-append}
 use Rattle.parser.specs.Runs.{variablesCells}
 use Rattle.body.specs.Body.{Item, label, plain, call, callInto, terminates, argumentsIn}
 use Rattle.body.specs.Body.{behind, labelsOf, ret, lacksRet, closedFrom}
-use Rattle.body.specs.Shapes.{partsOf}
+use Rattle.body.specs.Shapes.{shapesOf}
 use Rattle.parser.specs.declared.Variable.{Variable}
 use Rattle.parser.specs.declared.Operation.{Operation}
 use Rattle.body.specs.Records.{recordOf, itemsCells, argumentsCells, argumentsCount}
@@ -100,9 +100,9 @@ lacks-operation true before h = eqb-true before 2 h
 lacks-operation false before h = absurd (let z : _≡_ {A = ℕ} 0 1 = cc in omega arith)
 
 added-filled : (t : Bool) (before last : ℕ) (is : List Item) → (t ≡ true → before ≡ 2)
-    → filled (fresh before) (partsOf (added t last ++ is)) ≡ filled (pick t false (fresh before)) (partsOf is)
-unfolding filled partsOf added pick
-added-filled true before last is h = let e = h refl in rw e (zero-add (filled false (partsOf is)))
+    → filled (fresh before) (shapesOf (added t last ++ is)) ≡ filled (pick t false (fresh before)) (shapesOf is)
+unfolding filled shapesOf added pick
+added-filled true before last is h = let e = h refl in rw e (zero-add (filled false (shapesOf is)))
 added-filled false before last is h = refl
 
 behind-late : (t : Bool) → leb (pick t 3 2) 1 ≡ false
@@ -115,23 +115,23 @@ unfolding behind
 late o = behind-late (terminates o)
 
 closing-filled : (void : Bool) (before last : ℕ) (i : Item) (is : List Item)
-    → filled (fresh before) (partsOf (closing void before last i ++ is))
-    ≡ started before i + filled (fresh (beforeNext i)) (partsOf is)
-unfolding closing started beforeNext filled partsOf
+    → filled (fresh before) (shapesOf (closing void before last i ++ is))
+    ≡ started before i + filled (fresh (beforeNext i)) (shapesOf is)
+unfolding closing started beforeNext filled shapesOf
 closing-filled void before last (label w l) is =
     rw (append-assoc (added (lacksRet void before) last) (label w l ∷ []) is)
     (added-filled (lacksRet void before) before last (label w l ∷ is) (lacks-operation void before)
-    ∙ sym (zero-add (filled true (partsOf is))))
+    ∙ sym (zero-add (filled true (shapesOf is))))
 closing-filled void before last (plain o) is = rw (late o)
 closing-filled void before last (call w g xs) is = refl
 closing-filled void before last (callInto w v g xs) is = refl
 
 pub ending-filled : (void : Bool) (before last : ℕ)
-    → filled (fresh before) (partsOf (added (lacksRet void before) last)) ≡ 0
-unfolding filled partsOf added pick
+    → filled (fresh before) (shapesOf (added (lacksRet void before) last)) ≡ 0
+unfolding filled shapesOf added pick
 ending-filled void before last = ends (lacksRet void before) (lacks-operation void before)
   where
-    ends : (t : Bool) → (t ≡ true → before ≡ 2) → filled (fresh before) (partsOf (added t last)) ≡ 0
+    ends : (t : Bool) → (t ≡ true → before ≡ 2) → filled (fresh before) (shapesOf (added t last)) ≡ 0
     ends true h = let e = h refl in rw e
     ends false h = refl
 
@@ -180,8 +180,8 @@ module _ {void : Bool} {i : Item} {s s′ : Going} {items₀ items arguments₀ 
   arguments-count-on = omega (arith, t .arguments-next)
 
   pub blocks-on : started (s .before) i + filled (fresh (s′ .before))
-      (partsOf (closedFrom void (s′ .before) (s′ .last) is))
-      ≡ filled (fresh (s .before)) (partsOf (closedFrom void (s .before) (s .last) (i ∷ is)))
+      (shapesOf (closedFrom void (s′ .before) (s′ .last) is))
+      ≡ filled (fresh (s .before)) (shapesOf (closedFrom void (s .before) (s .last) (i ∷ is)))
   blocks-on =
       rw (closed-on, t .before-next, t .last-next)
       (sym (closing-filled void (s .before) (s .last) i (closedFrom void (beforeNext i) (lastNext (s .last) i) is)))

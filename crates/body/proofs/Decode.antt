@@ -7,7 +7,7 @@ use lib.ListN.{length, take, length-append}
 use lib.Seq.{sets, sets-eq, length-take-le, getD-append-seam, getD-append-add}
 use Rattle.utils.specs.Bytes.{pick}
 use Rattle.body.specs.Body.{Item, label, plain, call, callInto, argumentsIn}
-use Rattle.body.specs.Shapes.{partOf, partsOf}
+use Rattle.body.specs.Shapes.{shapeOf, shapesOf}
 use Rattle.parser.specs.declared.Operation.the-variants as O
 use Rattle.body.specs.Records.{operationRecord, recordOf, firstCell, secondCell, recordCells, itemsCells, lastOf}
 use Rattle.body.specs.Records.{recordAt, goesBy, recordPart, partsAt}
@@ -15,7 +15,7 @@ use Rattle.body.specs.declared.ItemRecord.{ItemRecord}
 use Rattle.body.proofs.Lay.{length-items-cells}
 
 -- an item's record gives its part back
-pub part-of-record : (used : ℕ) (i : Item) → recordPart (recordOf used i) ≡ partOf i
+pub part-of-record : (used : ℕ) (i : Item) → recordPart (recordOf used i) ≡ shapeOf i
 unfolding recordPart recordOf operationRecord goesBy pick
 part-of-record used (label w l) = refl
 part-of-record used (plain (O.BinaryOp w v x y)) = refl
@@ -57,17 +57,17 @@ record-there pre used i rest first e =
 
 -- the parts of items whose cells stand from an index on, whatever stands before and behind them
 pub parts-there : (pre : List ℕ) (used : ℕ) (is : List Item) (rest : List ℕ) (first : ℕ) → length pre ≡ first * 8
-    → partsAt (pre ++ (itemsCells used is ++ rest)) first (length is) ≡ partsOf is
-unfolding partsAt partsOf itemsCells
+    → partsAt (pre ++ (itemsCells used is ++ rest)) first (length is) ≡ shapesOf is
+unfolding partsAt shapesOf itemsCells
 parts-there pre used [] rest first e = refl
 parts-there pre used (i ∷ is) rest first e =
     let r : ItemRecord = recordOf used i in
     let behind : List ℕ = itemsCells (used + length (argumentsIn i)) is ++ rest in
     let all : List ℕ = pre ++ (recordCells r ++ behind) in
     let far : length (pre ++ recordCells r) ≡ (first + 1) * 8 = omega (arith, length-append pre (recordCells r)) in
-    let one : recordPart (recordAt all first) ≡ partOf i =
+    let one : recordPart (recordAt all first) ≡ shapeOf i =
     ap recordPart (record-there pre used i behind first e) ∙ part-of-record used i in
-    let more : partsAt all (first + 1) (length is) ≡ partsOf is =
+    let more : partsAt all (first + 1) (length is) ≡ shapesOf is =
     ap (λ (cells : List ℕ). partsAt cells (first + 1) (length is)) (sym (append-assoc pre (recordCells r) behind))
     ∙ parts-there (pre ++ recordCells r) (used + length (argumentsIn i)) is rest (first + 1) far in
     cc
@@ -75,7 +75,7 @@ parts-there pre used (i ∷ is) rest first e =
 -- THE DECODING of stored items
 pub parts-stored : (cells cells₀ : List ℕ) (used first : ℕ) (is : List Item)
     → cells ≡ sets cells₀ (first * 8) (itemsCells used is) → first * 8 + length is * 8 ≤ length cells₀
-    → partsAt cells first (length is) ≡ partsOf is
+    → partsAt cells first (length is) ≡ shapesOf is
 parts-stored cells cells₀ used first is e h =
     let l : length (itemsCells used is) ≡ length is * 8 = length-items-cells used is in
     let f : first * 8 + length (itemsCells used is) ≤ length cells₀ = omega arith in

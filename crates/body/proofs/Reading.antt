@@ -11,7 +11,7 @@ use lib.Seq.{sets, length-sets}
 use Rattle.lexer.specs.Decoded.{Tok}
 use Rattle.parser.specs.Step.{thenAt}
 use Rattle.body.specs.Body.{Body, bodyStop, labelsOf, lacksRet, closedFrom, closedItems}
-use Rattle.body.specs.Shapes.{partsOf}
+use Rattle.body.specs.Shapes.{shapesOf}
 use Rattle.parser.specs.declared.Refusal.{Refusal}
 use Rattle.parser.specs.declared.Consumed.the-variants as C
 use Rattle.body.specs.Records.{itemsCells, argumentsCells, argumentsCount}
@@ -48,8 +48,8 @@ pub record Reading (ts : List Tok) (void : Bool) (at first used : ℕ) (whole : 
       ≡ used + argumentsCount (whole .items)
   pub labels-count : s .labels + length (labelsOf (bodyFrom ts room s labels .items)) ≡ length (labelsOf (whole .items))
   pub blocks-count : blocks
-      + filled (fresh (s .before)) (partsOf (closedFrom void (s .before) (s .last) (bodyFrom ts room s labels .items)))
-      ≡ filled true (partsOf (closedItems void (whole .items)))
+      + filled (fresh (s .before)) (shapesOf (closedFrom void (s .before) (s .last) (bodyFrom ts room s labels .items)))
+      ≡ filled true (shapesOf (closedItems void (whole .items)))
   pub items-few : at * 3 + s .items * 4 ≤ s .at * 3 + first * 4
   pub items-spared : s .before ≡ 2 → at * 3 + s .items * 4 + 2 ≤ s .at * 3 + first * 4
   pub arguments-few : at * 16 + s .arguments * 19 ≤ s .at * 16 + used * 19
@@ -78,7 +78,7 @@ begin ts void at first used items arguments labels w =
       items-count = refl;
       arguments-count = refl;
       labels-count = zero-add (length (labelsOf (functionBody ts at .items)));
-      blocks-count = zero-add (filled true (partsOf (closedItems void (functionBody ts at .items))));
+      blocks-count = zero-add (filled true (shapesOf (closedItems void (functionBody ts at .items))));
       items-few = omega arith;
       items-spared = λ z. absurd (omega (arith, z));
       arguments-few = omega arith;
@@ -198,8 +198,8 @@ module _ {ts : List Tok} {void : Bool} {at first used : ℕ} {whole : Body} {ite
         rw go at (v .items-count) in
         let m : s .arguments + 0 ≡ used + argumentsCount (whole .items) = rw go at (v .arguments-count) in
         let l : s .labels + 0 ≡ length (labelsOf (whole .items)) = rw go at (v .labels-count) in
-        let b : blocks + filled (fresh (s .before)) (partsOf (added lacks (s .last)))
-        ≡ filled true (partsOf (closedItems void (whole .items))) =
+        let b : blocks + filled (fresh (s .before)) (shapesOf (added lacks (s .last)))
+        ≡ filled true (shapesOf (closedItems void (whole .items))) =
         rw go at (v .blocks-count) in
         let few =
         ending-few lacks (s .last) (s .before) (s .items) (at * 3) (s .at) (e .next) (first * 4)

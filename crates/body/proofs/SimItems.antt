@@ -10,9 +10,9 @@ use lib.ListN.{length}
 use Rattle.utils.specs.Bytes.{pick}
 use Rattle.body.specs.Body.{Item, operationToken, afterBrace, afterLabel, afterOperation, behind, labelsOf, ret}
 use Rattle.body.specs.Body.{lacksRet, closedFrom, closedItems}
-use Rattle.body.specs.Shapes.{partOf, partsOf}
+use Rattle.body.specs.Shapes.{shapeOf, shapesOf}
 use Rattle.parser.specs.Moved.{Move, SimO, Each, SimNumber}
-use Rattle.body.specs.Moved.{SimItem, SimPart}
+use Rattle.body.specs.Moved.{SimItem, SimShape}
 use Rattle.body.proofs.SimBody.{token-moved, token-below, terminator-kept, number-of}
 
 -- related lists are equally long
@@ -74,23 +74,23 @@ closedItemsS void r = closedS void afterBrace 0 0 (λ h. absurd (omega (arith, h
 
 -- Parts. --------------------------------------------------------------------------------------------------------------
 
-pub partS : {m : Move} {n : ℕ} {i i′ : Item} → SimItem m n i i′ → SimPart m n (partOf i) (partOf i′)
-partS (SimItem.label w q h) = SimPart.name (number-of q)
-partS (SimItem.plain (SimO.binary w v x y h)) = SimPart.operation w Each.none h
-partS (SimItem.plain (SimO.unary w v x h)) = SimPart.operation w Each.none h
-partS (SimItem.plain (SimO.const w v h)) = SimPart.operation w Each.none h
-partS (SimItem.plain (SimO.jump w x h)) = SimPart.operation w (Each.more (number-of x) Each.none) h
-partS (SimItem.plain (SimO.branch w x y z h)) =
-    SimPart.operation w (Each.more (number-of y) (Each.more (number-of z) Each.none)) h
-partS (SimItem.plain (SimO.ret w h)) = SimPart.operation w Each.none h
-partS (SimItem.plain (SimO.retValue w x h)) = SimPart.operation w Each.none h
-partS (SimItem.plain (SimO.print w x h)) = SimPart.operation w Each.none h
-partS (SimItem.plain (SimO.nop w h)) = SimPart.operation w Each.none h
-partS (SimItem.call w g xs h) = SimPart.operation w Each.none h
-partS (SimItem.callInto w v g xs h) = SimPart.operation w Each.none h
+pub shapeS : {m : Move} {n : ℕ} {i i′ : Item} → SimItem m n i i′ → SimShape m n (shapeOf i) (shapeOf i′)
+shapeS (SimItem.label w q h) = SimShape.name (number-of q)
+shapeS (SimItem.plain (SimO.binary w v x y h)) = SimShape.operation w Each.none h
+shapeS (SimItem.plain (SimO.unary w v x h)) = SimShape.operation w Each.none h
+shapeS (SimItem.plain (SimO.const w v h)) = SimShape.operation w Each.none h
+shapeS (SimItem.plain (SimO.jump w x h)) = SimShape.operation w (Each.more (number-of x) Each.none) h
+shapeS (SimItem.plain (SimO.branch w x y z h)) =
+    SimShape.operation w (Each.more (number-of y) (Each.more (number-of z) Each.none)) h
+shapeS (SimItem.plain (SimO.ret w h)) = SimShape.operation w Each.none h
+shapeS (SimItem.plain (SimO.retValue w x h)) = SimShape.operation w Each.none h
+shapeS (SimItem.plain (SimO.print w x h)) = SimShape.operation w Each.none h
+shapeS (SimItem.plain (SimO.nop w h)) = SimShape.operation w Each.none h
+shapeS (SimItem.call w g xs h) = SimShape.operation w Each.none h
+shapeS (SimItem.callInto w v g xs h) = SimShape.operation w Each.none h
 
-pub partsS : {m : Move} {n : ℕ} {is is′ : List Item} → Each (SimItem m n) is is′
-    → Each (SimPart m n) (partsOf is) (partsOf is′)
-unfolding partsOf
-partsS Each.none = Each.none
-partsS (Each.more q r) = Each.more (partS q) (partsS r)
+pub shapesS : {m : Move} {n : ℕ} {is is′ : List Item} → Each (SimItem m n) is is′
+    → Each (SimShape m n) (shapesOf is) (shapesOf is′)
+unfolding shapesOf
+shapesS Each.none = Each.none
+shapesS (Each.more q r) = Each.more (shapeS q) (shapesS r)

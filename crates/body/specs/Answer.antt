@@ -8,7 +8,7 @@ use lib.Seq.{sets}
 use Rattle.lexer.specs.Decoded.{Tok}
 use Rattle.parser.specs.Step.{thenAt}
 use Rattle.body.specs.Body.{Item, Body, afterBrace, bodyD, labelsOf, closedItems}
-use Rattle.body.specs.Shapes.{partsOf}
+use Rattle.body.specs.Shapes.{shapesOf}
 use Rattle.parser.specs.declared.Consumed.{Consumed}
 use Rattle.parser.specs.declared.Consumed.the-variants as C
 use Rattle.body.specs.Records.{itemsCells, argumentsCells, argumentsCount}
@@ -41,7 +41,7 @@ pub record Stored (ts : List Tok) (void : Bool) (is : List Item) (at first used 
   pub few-labels : length (labelsOf is) ≤ 255
   pub on : Within ts next
   pub bounds : Bounds at next (length (closedItems void is)) (argumentsCount is)
-      (filled true (partsOf (closedItems void is)))
+      (filled true (shapesOf (closedItems void is)))
 
 abbrev pub Held : (ts : List Tok) (void : Bool) (is : List Item) (at first used : ℕ)
     (items₀ items arguments₀ arguments labels₀ labels : List ℕ) → Consumed → Type 0

@@ -3,7 +3,7 @@ use Prim.Native.Nat.{ℕ, _+_, _≤_, _<_}
 use mathlib.Core.List.{List}
 use Rattle.pieces.specs.declared.Identifier.{Identifier}
 use Rattle.body.specs.Body.{Item, ItemAt, Body}
-use Rattle.body.specs.Shapes.{Part}
+use Rattle.body.specs.Shapes.{Shape}
 use Rattle.parser.specs.declared.Refusal.{Refusal}
 use Rattle.parser.specs.declared.Variable.{Variable}
 use Rattle.parser.specs.declared.Operation.{Operation}
@@ -38,7 +38,7 @@ pub record SimBody (m : Move) (l : ℕ) (r r′ : Body) : Type 0 where
   pub end : SimBrace m l (r .end) (r′ .end)
 
 -- the same part, with its token, one of the first n, moved and its names renamed
-pub data SimPart (m : Move) (n : ℕ) : Part → Part → Type 0 where
-  name : {l l′ : ℕ} → SimNumber m l l′ → SimPart m n (Part.name l) (Part.name l′)
+pub data SimShape (m : Move) (n : ℕ) : Shape → Shape → Type 0 where
+  name : {l l′ : ℕ} → SimNumber m l l′ → SimShape m n (Shape.name l) (Shape.name l′)
   operation : (w : ℕ) {goes goes′ : List ℕ} → Each (SimNumber m) goes goes′ → w < n
-      → SimPart m n (Part.operation (m .by + w) goes) (Part.operation w goes′)
+      → SimShape m n (Shape.operation (m .by + w) goes) (Shape.operation w goes′)

@@ -11,7 +11,7 @@ use Rattle.utils.specs.Bytes.{pick}
 use Rattle.pieces.specs.declared.Identifier.{Identifier}
 use Rattle.parser.specs.Runs.{typeCell, variablesCells}
 use Rattle.body.specs.Body.{Item, label, plain, call, callInto, argumentsIn}
-use Rattle.body.specs.Shapes.{Part, name, operation}
+use Rattle.body.specs.Shapes.{Shape, name, operation}
 use Rattle.parser.specs.declared.Operation.{Operation}
 use Rattle.parser.specs.declared.Operation.the-variants as O
 use Rattle.body.specs.declared.ItemRecord.{ItemRecord}
@@ -111,10 +111,10 @@ goesBy kind (L.Run first count) = []
 abbrev pub goesOf : ItemRecord → List ℕ
 goesOf r = goesBy (r .kind) (r .last)
 
-unfoldable pub recordPart : ItemRecord → Part
+unfoldable pub recordPart : ItemRecord → Shape
 recordPart r = pick (eqb (r .kind) 1) (name (firstCell (r .last))) (operation (r .token) (goesOf r))
 
 -- the parts of `count` records from the index `first` on
-unfoldable pub partsAt : List ℕ → ℕ → ℕ → List Part
+unfoldable pub partsAt : List ℕ → ℕ → ℕ → List Shape
 partsAt cells first zero = []
 partsAt cells first (suc count) = recordPart (recordAt cells first) ∷ partsAt cells (first + 1) count

@@ -7,7 +7,7 @@ use mathlib.Core.Bool.{Bool, true, false}
 use Rattle.utils.specs.Bytes.{pick}
 use Rattle.lexer.specs.Decoded.{Tok, tokenAt}
 use Rattle.parser.specs.Kinds as T
-use Rattle.body.specs.Shapes.{Part, name, operation}
+use Rattle.body.specs.Shapes.{Shape, name, operation}
 
 -- The end token is one of the first 4,096, and this index is not behind it.
 pub record Within (ts : List Tok) (at : ℕ) : Type 0 where
@@ -17,7 +17,7 @@ pub record Within (ts : List Tok) (at : ℕ) : Type 0 where
   pub few : last ≤ 4095
 
 -- The blocks that have an operation: each has a first one, which stands behind a label or behind the body's brace.
-unfoldable pub filled : Bool → List Part → ℕ
+unfoldable pub filled : Bool → List Shape → ℕ
 filled first [] = 0
 filled first (name l ∷ ps) = filled true ps
 filled first (operation w goes ∷ ps) = pick first 1 0 + filled false ps

@@ -20,8 +20,8 @@ use Rattle.functions.specs.Answer.{Slices, slices, countsFrom}
 use Rattle.functions.specs.declared.Counts.{Counts}
 use Rattle.functions.specs.declared.ProgramRead.{ProgramRead}
 use Rattle.functions.specs.declared.ProgramRead.the-variants as U
-use Rattle.typing.specs.Outcome.{Outcome, checked, refused, unitD, unitRead, unitSlices, asLong, cleared, none}
-use Rattle.checker.specs.Check.{Checking, accepted, refusal, refusing, refusedAt, checkedOr, readAs, checkOf}
+use Rattle.unit.specs.Outcome.{UnitOutcome, checked, refused, unitD, unitRead, unitSlices, asLong, cleared, none}
+use Rattle.checker.specs.Check.{Checking, accepted, checkRefusal, refusing, refusedAt, checkedOr, readAs, checkOf}
 use Rattle.checker.specs.Promise.{checking, padded, sized, sizedUnit, allSized, checkDef, Lexed, Refuses, Sizes}
 use Rattle.checker.specs.Promise.{IfSized, IfSizedUnit, gated, Gives, Checks}
 use Rattle.checker.specs.declared.CheckAnswer.{CheckAnswer}
@@ -44,10 +44,10 @@ module _ (text m t n : List ℕ) (u : Slices) (r : ReadAnswer) (v : Lexed 1 text
 
   -- the answer and the slices, by what the functions are
   module _ (u′ : Slices) (unit-is : u′ ≡ asLong u (unitSlices ts (readFrom 1 text .names) (unitD ts))) where
-    unit-by : (o : Outcome) → unitD ts ≡ o → u′ ≡ asLong u (unitSlices ts (readFrom 1 text .names) o)
-    unit-by o e = unit-is ∙ ap (λ (x : Outcome). asLong u (unitSlices ts (readFrom 1 text .names) x)) e
+    unit-by : (o : UnitOutcome) → unitD ts ≡ o → u′ ≡ asLong u (unitSlices ts (readFrom 1 text .names) o)
+    unit-by o e = unit-is ∙ ap (λ (x : UnitOutcome). asLong u (unitSlices ts (readFrom 1 text .names) x)) e
 
-    accepts-by : (k : Counts) (o : Outcome) → unitD ts ≡ o → U.Done k ≡ unitRead o
+    accepts-by : (k : Counts) (o : UnitOutcome) → unitD ts ≡ o → U.Done k ≡ unitRead o
         → checking (accepted (r .tokens) (r .names) k) m t n u′ ≡ padded m t n u (checkedOr text (readFrom 1 text) ts o)
     accepts-by k (checked fs) e h =
         let counts-are : k ≡ countsFrom none fs = cc in
@@ -59,7 +59,7 @@ module _ (text m t n : List ℕ) (u : Slices) (r : ReadAnswer) (v : Lexed 1 text
         → checking (accepted (r .tokens) (r .names) k) m t n u′ ≡ padded m t n u (checkOf text)
     check-accepts k h = accepts-by k (unitD ts) refl h ∙ ap (padded m t n u) (sym goes-on)
 
-    refuses-by : (e : Refusal) (o : Outcome) → unitD ts ≡ o → U.Refused e ≡ unitRead o
+    refuses-by : (e : Refusal) (o : UnitOutcome) → unitD ts ≡ o → U.Refused e ≡ unitRead o
         → (res : CheckAnswer) (m′ t′ n′ : List ℕ) → Refuses text (readFrom 1 text .names) ts e m t n res m′ t′ n′
         → checking res m′ t′ n′ u′ ≡ padded m t n u (checkedOr text (readFrom 1 text) ts o)
     refuses-by e (checked fs) q h res m′ t′ n′ w = absurd (let z : _≡_ {A = ℕ} 0 1 = cc in omega arith)
@@ -107,7 +107,7 @@ module _ (text m t n : List ℕ) (u : Slices) (r : ReadAnswer) (v : Lexed 1 text
   ends-accepted k h =
       check-accepts text m t n u r v u′ unit-same k (h ∙ ap (λ (x : List ℕ). unitRead (unitD (tokensOf x))) tk-is)
 
-  -- the refusal stands at the reading's own tokens and names
+  -- the checkRefusal stands at the reading's own tokens and names
   refused-there : (e : Refusal) (res : CheckAnswer) (m′ t′ n′ : List ℕ)
       → Refuses text (take (r .names * 2) n) (tokensOf (take (r .tokens * 4) t)) e m t n res m′ t′ n′
       → Refuses text (readFrom 1 text .names) (tokensOf (readFrom 1 text .tokens)) e m t n res m′ t′ n′
@@ -124,17 +124,17 @@ module _ (text m t n : List ℕ) (u : Slices) (r : ReadAnswer) (v : Lexed 1 text
       check-refuses text m t n u r v u′ unit-same e (h ∙ ap (λ (x : List ℕ). unitRead (unitD (tokensOf x))) tk-is) res m′
       t′ n′ (refused-there e res m′ t′ n′ w)
 
--- the refusal by parts of the slices, tk and nm, that are the cells in use
+-- the checkRefusal by parts of the slices, tk and nm, that are the cells in use
 pub refuses-by-cells : (text m t n : List ℕ) (e : Refusal) (tk nm tk′ nm′ : List ℕ) → tk ≡ tk′ → nm ≡ nm′
     → (x : TokenAt) → x ≡ tokenAt (tokensOf tk) (e .token)
-    → (res : CheckAnswer) (m′ t′ n′ : List ℕ) → res ≡ refusal (e .number) (x .line .0) (x .place)
+    → (res : CheckAnswer) (m′ t′ n′ : List ℕ) → res ≡ checkRefusal (e .number) (x .line .0) (x .place)
     → m′ ≡ padTo (length m) (messageOf text (tokensOf tk) nm e) → t′ ≡ padTo (length t) [] → n′ ≡ padTo (length n) []
     → Refuses text nm′ (tokensOf tk′) e m t n res m′ t′ n′
 refuses-by-cells text m t n e tk nm tk′ nm′ p q x w res m′ t′ n′ a b d f =
     record {
       answer =
           a
-          ∙ ap (λ (y : TokenAt). refusal (e .number) (y .line .0) (y .place))
+          ∙ ap (λ (y : TokenAt). checkRefusal (e .number) (y .line .0) (y .place))
           (w ∙ ap (λ (y : List ℕ). tokenAt (tokensOf y) (e .token)) p);
       message =
           b
@@ -184,7 +184,7 @@ module _ (text t₀ n₀ m₀ : List ℕ) (r : ReadAnswer) (t n m : List ℕ) (r
     as-at-entry u = rw (lt, ln, lm)
 
   pub not-lexed : (r .number ≡ 0 → ⊥) → (u u′ : Slices) → u′ ≡ cleared u
-      → checking (refusal (r .number) (r .line) (r .place)) m t n u′ ≡ padded m₀ t₀ n₀ u (checkOf text)
+      → checking (checkRefusal (r .number) (r .line) (r .place)) m t n u′ ≡ padded m₀ t₀ n₀ u (checkOf text)
   unfolding checkOf pick
   not-lexed z u u′ e =
       let z′ : readOf text .answer .number ≡ 0 → ⊥ = λ q. z (ap (λ (a : ReadAnswer). a .number) answer-is ∙ q) in
@@ -220,7 +220,7 @@ module _ (o : Checking) (m t n : List ℕ) (u : Slices) (unit ok : Bool)
   unfolding pick
   works h r m′ t′ n′ u′ e = by-parts (e ∙ rw (← sized-is, h))
 
-  pub shorts : ok ≡ false → (r : CheckAnswer) → r ≡ refusal 30 0 0 → Gives (gated m t n u o) r m t n u
+  pub shorts : ok ≡ false → (r : CheckAnswer) → r ≡ checkRefusal 30 0 0 → Gives (gated m t n u o) r m t n u
   unfolding pick
   shorts h r e = by-parts (rw (← sized-is, h, e))
 

@@ -21,7 +21,7 @@ use Rattle.pieces.specs.declared.Identifier.{Identifier}
 use Rattle.parser.specs.Step.{refusal, look, thenAt, thenNamed, thenType, thenDefined}
 use Rattle.parser.specs.Grammar.{consumeD, namedD, globalD, localD, typeD}
 use Rattle.body.specs.Body.{Item, afterBrace, closedItems}
-use Rattle.body.specs.Shapes.{partsOf, namesIn}
+use Rattle.body.specs.Shapes.{shapesOf, namesIn}
 use Rattle.link.specs.Edges.{Resolved, resolveD, fine, refused as unresolved}
 use Rattle.body.proofs.BodyLaws.{labels-few, names-closed}
 use Rattle.link.proofs.Laws.{at-least-1, at-most-256}
@@ -54,10 +54,10 @@ use Rattle.functions.proofs.Standing.{cell-there, rest-there, row-ret, row-type
 use Rattle.functions.specs.declared.Entered.{Entered}
 use Rattle.functions.specs.declared.Entered.the-variants as E
 use Rattle.lexer.specs.Read.{readFrom, readOf}
-use Rattle.sema.specs.Program.{programD as typedD}
+use Rattle.sema.specs.Program.{typeProgramD as typedD}
 use Rattle.sema.specs.declared.Checked.{Checked}
 use Rattle.sema.specs.declared.Checked.the-variants as K
-use Rattle.typing.specs.Outcome.{Outcome, checked, refused, afterTyping, afterParsing, untyped, unitD, none}
+use Rattle.unit.specs.Outcome.{UnitOutcome, checked, refused, afterTyping, afterParsing, untyped, unitD, none}
 use Rattle.checker.specs.Check.{checkedOr, checkOf}
 use Rattle.checker.specs.declared.CheckAnswer.{CheckAnswer}
 use Rattle.checker.specs.Promise.{Lexed, allSized, checkDef, Checks}
@@ -272,7 +272,7 @@ GoodBuilt (notBuilt e) = Unit
 closed-blocks : (ts : List Tok) (void : Bool) (at : ℕ) → GoodBlocks (closedItems void (functionBody ts at .items))
 closed-blocks ts void at =
     let is = functionBody ts at .items in
-    let ps = partsOf (closedItems void is) in
+    let ps = shapesOf (closedItems void is) in
     let few : length (namesIn ps) ≤ 255 =
     omega (arith, ap length (names-closed void 0 0 is), labels-few ts 4096 afterBrace at) in
     (at-least-1 ps, at-most-256 ps few)
@@ -541,7 +541,7 @@ module _ (text : List ℕ) (m : ℕ)
         global-in text (is-done v .ts) (is-done v .ns) (is-done v .sound) (readFrom 1 text .tokens)
         (readFrom 1 text .names) (tokens-unpadded v) (read-names v ∙ sym (append-nil (namesCells (is-done v .ns))))
 
-    by-outcome : (o : Outcome) → unitD (tokensOf (readFrom 1 text .tokens)) ≡ o
+    by-outcome : (o : UnitOutcome) → unitD (tokensOf (readFrom 1 text .tokens)) ≡ o
         → TableInRange text
         (padTo m (checkedOr text (readFrom 1 text) (tokensOf (readFrom 1 text .tokens)) o .unit .functions))
     by-outcome (checked fs) e =

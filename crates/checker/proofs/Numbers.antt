@@ -24,7 +24,7 @@ use Rattle.body.specs.Room.{Within}
 use Rattle.functions.specs.Functions.{Function}
 use Rattle.functions.specs.Answer.{Slices}
 use Rattle.sema.specs.Symbols.{Typed}
-use Rattle.typing.specs.Outcome.{Outcome, checked, refused, afterTyping, afterParsing, untyped, unitD}
+use Rattle.unit.specs.Outcome.{UnitOutcome, checked, refused, afterTyping, afterParsing, untyped, unitD}
 use Rattle.checker.specs.Check.{checkOf}
 use Rattle.checker.specs.Promise.{allSized, checkDef}
 use Rattle.checker.specs.Numbers.{Listed, Accepts, Numbered}
@@ -48,7 +48,7 @@ lexing-listed (R.NameTooLong c) = inr (omega arith, omega arith)
 
 -- What parsing and typing make of the tokens. -----------------------------------------------------------------------
 
-abbrev IfRefused : Outcome → Type 0
+abbrev IfRefused : UnitOutcome → Type 0
 IfRefused (checked fs) = Unit
 IfRefused (refused e) = Listed (e .number)
 
@@ -84,7 +84,7 @@ pub every-number : (text : List ℕ) → Numbered text (checkOf text .answer .nu
 unfolding checkOf readOf pick
 every-number text = by-lexing (lexedFrom 1 text) refl
   where
-    by-unit : (toks : List Token) (ns : List Part) → lexedFrom 1 text ≡ lexes.Outcome.done toks ns → (o : Outcome)
+    by-unit : (toks : List Token) (ns : List Part) → lexedFrom 1 text ≡ lexes.Outcome.done toks ns → (o : UnitOutcome)
         → unitD (tokensOf (tokensCells toks)) ≡ o → IfRefused o → Numbered text (checkOf text .answer .number)
     by-unit toks ns p (checked fs) q h =
         inl (record { tokens = toks; names = ns; functions = fs; lexed = p; typed = q }, rw (p, q))

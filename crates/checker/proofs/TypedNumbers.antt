@@ -10,10 +10,12 @@ use Rattle.parser.specs.declared.Operation.{Operation}
 use Rattle.parser.specs.declared.Operation.the-variants as O
 use Rattle.functions.specs.Functions.{Function}
 use Rattle.sema.specs.Symbols.{Typed, typed, thenTyped, thenEnd, enterD, thenLook, thenSame}
-use Rattle.sema.specs.Typing.{thenThree, operandsD, binaryD, operandD, unaryD, constD, retValueD, retD, Global, absent}
-use Rattle.sema.specs.Typing.{global, presentD, sameAll, argumentsD, thenGlobal, callD, callIntoD, plainD, analyzeD}
-use Rattle.sema.specs.Blocks.{itemsD, endD, blockD, formalsD, blocksD, typeFunctionD}
-use Rattle.sema.specs.Program.{functionTyped, programD}
+use Rattle.sema.specs.Typing.{thenThree, operandsD, typeBinaryD, operandD, typeUnaryD, typeConstD, typeRetValueD}
+use Rattle.sema.specs.Typing.{typeRetD, Global, absent}
+use Rattle.sema.specs.Typing.{global, presentD, sameAll, typeArgumentsD, thenGlobal, typeCallD, typeCallIntoD}
+use Rattle.sema.specs.Typing.{typePlainD, typeItemD}
+use Rattle.sema.specs.Blocks.{typeItemsD, typeEndD, typeBlockD, enterFormalsD, typeBlocksD, typeFunctionD}
+use Rattle.sema.specs.Program.{functionTyped, typeProgramD}
 use Rattle.sema.specs.declared.Checked.the-variants as K
 use Rattle.checker.proofs.ParsedNumbers.{Fine, Is, pickF}
 
@@ -54,8 +56,8 @@ ruleset steps = (shapes, enterF, thenLookF, thenSameF, thenGlobalF)
 
 -- Operations. -------------------------------------------------------------------------------------------------------
 
-plainF : (ts : List Tok) (ret : ℕ) (t : List ℕ) (o : Operation) → Is FineT (plainD ts ret t o)
-unfolding plainD binaryD operandsD thenThree unaryD operandD constD retD retValueD
+plainF : (ts : List Tok) (ret : ℕ) (t : List ℕ) (o : Operation) → Is FineT (typePlainD ts ret t o)
+unfolding typePlainD typeBinaryD operandsD thenThree typeUnaryD operandD typeConstD typeRetD typeRetValueD
 plainF ts ret t (O.BinaryOp w v x y) = search steps depth 24
 plainF ts ret t (O.UnaryOp w v x) = search steps depth 20
 plainF ts ret t (O.Const w v) = search steps depth 14
@@ -79,32 +81,32 @@ sameAllF t token (f ∷ fs) (w ∷ ws) = search (steps, sameAllF t token fs ws) 
 
 -- Blocks, functions. ------------------------------------------------------------------------------------------------
 
-endF : (t : List ℕ) (xs : List Item) → Is FineT (endD t xs)
-unfolding endD
+endF : (t : List ℕ) (xs : List Item) → Is FineT (typeEndD t xs)
+unfolding typeEndD
 endF t [] = search steps
 endF t (x ∷ []) = search steps depth 14
 endF t (x ∷ y ∷ xs) = endF t (y ∷ xs)
 
-formalsF : (t : List ℕ) (token : ℕ) (vs : List Variable) → Is FineT (formalsD t token vs)
-unfolding formalsD
+formalsF : (t : List ℕ) (token : ℕ) (vs : List Variable) → Is FineT (enterFormalsD t token vs)
+unfolding enterFormalsD
 formalsF t token [] = search steps
 formalsF t token (v ∷ vs) = thenTypedF _ (enterF t token (v .id) _) (λ t1. formalsF t1 token vs)
 
 module _ (ts : List Tok) (globals : ℕ → Global) (ret : ℕ) where
-  analyzeF : (t : List ℕ) (x : Item) → Is FineT (analyzeD ts globals ret t x)
-  unfolding analyzeD callD callIntoD argumentsD
+  analyzeF : (t : List ℕ) (x : Item) → Is FineT (typeItemD ts globals ret t x)
+  unfolding typeItemD typeCallD typeCallIntoD typeArgumentsD
   analyzeF t (Item.label w l) = search steps
   analyzeF t (Item.plain o) = plainF ts ret t o
   analyzeF t (Item.call w g xs) = search (steps, presentF, sameAllF) depth 20
   analyzeF t (Item.callInto w v g xs) = search (steps, presentF, sameAllF) depth 20
 
-  itemsF : (t : List ℕ) (xs : List Item) → Is FineT (itemsD ts globals ret t xs)
-  unfolding itemsD
+  itemsF : (t : List ℕ) (xs : List Item) → Is FineT (typeItemsD ts globals ret t xs)
+  unfolding typeItemsD
   itemsF t [] = search steps
   itemsF t (x ∷ xs) = thenTypedF _ (analyzeF t x) (λ t1. itemsF t1 xs)
 
-  blocksF : (t : List ℕ) (bs : List (List Item)) → Is FineT (blocksD ts globals ret t bs)
-  unfolding blocksD blockD
+  blocksF : (t : List ℕ) (bs : List (List Item)) → Is FineT (typeBlocksD ts globals ret t bs)
+  unfolding typeBlocksD typeBlockD
   blocksF t [] = search steps
   blocksF t (b ∷ bs) = thenTypedF _ (thenTypedF _ (itemsF t b) (λ t1. endF t1 b)) (λ t1. blocksF t1 bs)
 
@@ -113,7 +115,7 @@ pub function-fine : (ts : List Tok) (globals : ℕ → Global) (f : Function) (b
 unfolding typeFunctionD
 function-fine ts globals f blank = thenTypedF _ (formalsF blank _ _) (λ t. blocksF ts _ _ t _)
 
-pub typed-fine : (ts : List Tok) (all fs : List Function) (blank : List ℕ) → Is FineT (programD ts all fs blank)
-unfolding programD
+pub typed-fine : (ts : List Tok) (all fs : List Function) (blank : List ℕ) → Is FineT (typeProgramD ts all fs blank)
+unfolding typeProgramD
 typed-fine ts all [] blank = search steps
 typed-fine ts all (f ∷ fs) blank = thenTypedF _ (function-fine ts _ f blank) (λ t. typed-fine ts all fs blank)

@@ -10,7 +10,7 @@ use Rattle.parser.specs.declared.Refusal.{Refusal}
 use Rattle.functions.specs.Answer.{Slices, slices, countsFrom}
 use Rattle.functions.specs.declared.Counts.{Counts}
 use Rattle.messages.specs.Messages.{messageOf}
-use Rattle.typing.specs.Outcome.{Outcome, checked, refused, unitD, unitSlices, none}
+use Rattle.unit.specs.Outcome.{UnitOutcome, checked, refused, unitD, unitSlices, none}
 use Rattle.checker.specs.declared.CheckAnswer.{CheckAnswer}
 
 -- The answer and the contents of every slice.
@@ -37,9 +37,9 @@ accepted tokens names n =
       predecessors = n .predecessors;
     }
 
--- "after a refusal every count is zero"
-abbrev pub refusal : ℕ → ℕ → ℕ → CheckAnswer
-refusal number line place =
+-- "after a checkRefusal every count is zero"
+abbrev pub checkRefusal : ℕ → ℕ → ℕ → CheckAnswer
+checkRefusal number line place =
     record {
       number = number;
       line = line;
@@ -53,11 +53,11 @@ refusal number line place =
       predecessors = 0;
     }
 
--- A refusal: its message, and nothing else.
+-- A checkRefusal: its message, and nothing else.
 abbrev pub refusing : ℕ → ℕ → ℕ → List ℕ → Checking
 refusing number line place message =
     record {
-      answer = refusal number line place;
+      answer = checkRefusal number line place;
       message = message;
       tokens = [];
       names = [];
@@ -71,7 +71,7 @@ refusedAt text names ts e =
     refusing (e .number) (t .line .0) (t .place) (messageOf text ts names e)
 
 -- a text that reads as r, with the tokens ts
-abbrev pub checkedOr : List ℕ → Reading → List Tok → Outcome → Checking
+abbrev pub checkedOr : List ℕ → Reading → List Tok → UnitOutcome → Checking
 checkedOr text r ts (checked fs) =
     record {
       answer = accepted (r .answer .tokens) (r .answer .names) (countsFrom none fs);

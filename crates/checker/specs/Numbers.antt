@@ -8,7 +8,7 @@ use Rattle.lexer.specs.Numbered.{Part, Outcome, tokensCells}
 use Rattle.lexer.specs.Read.{lexedFrom}
 use Rattle.lexer.specs.Decoded.{tokensOf}
 use Rattle.functions.specs.Functions.{Function}
-use Rattle.typing.specs.Outcome.{checked, unitD}
+use Rattle.unit.specs.Outcome.{checked, unitD}
 
 -- the refusals of a text; 30 is the gate's (`checkDef`), 40 to 42 are recheck's
 abbrev pub Listed : ℕ → Type 0

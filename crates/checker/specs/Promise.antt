@@ -11,8 +11,8 @@ use Rattle.lexer.specs.Decoded.{Tok}
 use Rattle.parser.specs.declared.Refusal.{Refusal}
 use Rattle.lexer.specs.declared.ReadAnswer.{ReadAnswer}
 use Rattle.functions.specs.Answer.{Long, Slices}
-use Rattle.typing.specs.Outcome.{asLong}
-use Rattle.checker.specs.Check.{Checking, refusal, refusedAt, checkOf}
+use Rattle.unit.specs.Outcome.{asLong}
+use Rattle.checker.specs.Check.{Checking, checkRefusal, refusedAt, checkOf}
 use Rattle.checker.specs.declared.CheckAnswer.{CheckAnswer}
 
 abbrev pub checking : CheckAnswer → List ℕ → List ℕ → List ℕ → Slices → Checking
@@ -42,7 +42,7 @@ allSized m t n u =
 -- The answer and the slices at exit, for the answer o of any text; m, t, n and u are the slices at entry. 30 is given
 -- exactly when a lent slice is shorter than its size, and then nothing is written.
 abbrev pub gated : List ℕ → List ℕ → List ℕ → Slices → Checking → Checking
-gated m t n u o = pick (allSized m t n u) (padded m t n u o) (checking (refusal 30 0 0) m t n u)
+gated m t n u o = pick (allSized m t n u) (padded m t n u o) (checking (checkRefusal 30 0 0) m t n u)
 
 unfoldable pub checkDef : List ℕ → List ℕ → List ℕ → List ℕ → Slices → Checking
 checkDef text m t n u = gated m t n u (checkOf text)
@@ -64,7 +64,7 @@ pub record Lexed (line : ℕ) (text : List ℕ) (r : ReadAnswer) (m t n : List �
   pub tokens : t ≡ padTo (length t) (readFrom line text .tokens)
   pub names : n ≡ padTo (length n) (readFrom line text .names)
 
--- a refusal at a token, once its message is written; ns and ts, the names' cells and the tokens in use, are gone
+-- a checkRefusal at a token, once its message is written; ns and ts, the names' cells and the tokens in use, are gone
 pub record Refuses (text ns : List ℕ) (ts : List Tok) (e : Refusal) (m₀ t₀ n₀ : List ℕ) (r : CheckAnswer)
     (m t n : List ℕ) : Type 0 where
   pub answer : r ≡ refusedAt text ns ts e .answer

@@ -1,11 +1,11 @@
-// Any text to typed functions with blocks and edges, or one refusal.
+// Any text to typed functions with blocks and edges, or one checkRefusal.
 ghost use mathlib.Core.Path.{_≡_};
 ghost use Prim.Native.Nat.{ℕ, _*_, _≤_};
 ghost use lib.ListN.{length, take};
 ghost use Rattle.lexer.specs.Decoded.{tokensOf};
 ghost use Rattle.functions.specs.Answer.{slices};
 ghost use Rattle.messages.specs.Messages.{ShortNames};
-ghost use Rattle.checker.specs.Check.{accepted, refusal, checkOf};
+ghost use Rattle.checker.specs.Check.{accepted, checkRefusal, checkOf};
 ghost use Rattle.checker.specs.Promise.{checking, padded, Lexed, Refuses, Sizes};
 ghost use Rattle.checker.specs.Promise.{sized, sizedUnit, IfSized, IfSizedUnit, Checks};
 use functions::Counts;
@@ -31,7 +31,7 @@ pub struct CheckAnswer {
 
 // A refusal's answer.
 pub fn refused(number: u32, line: Location, place: u32) -> CheckAnswer
-    ensures { λ r. ⌜ r ≡ refusal number (line .0) place ⌝ }
+    ensures { λ r. ⌜ r ≡ checkRefusal number (line .0) place ⌝ }
 {
     CheckAnswer {
         number,
@@ -67,7 +67,7 @@ pub fn counted(tokens: u32, names: u32, n: Counts) -> CheckAnswer
     }
 }
 
-// A refusal at a token: its message, and no tokens or names.
+// A checkRefusal at a token: its message, and no tokens or names.
 pub fn refuse(
     text: &[u8],
     r: ReadAnswer,
@@ -118,7 +118,7 @@ fn check_lexed(
 {
     let last = r.tokens as usize * 4;
     let end = r.names as usize * 2;
-    match typing::unit(
+    match unit::unit(
         &tokens[0..last],
         &names[0..end],
         functions,
@@ -168,7 +168,7 @@ fn check_sized(
             message,
         );
     }
-    typing::clear::clear_five(functions, items, arguments, blocks, predecessors);
+    unit::clear::clear_five(functions, items, arguments, blocks, predecessors);
     refused(r.number, Location(r.line), r.place)
 }
 
@@ -210,7 +210,7 @@ pub fn fits(m: usize, t: usize, n: usize, unit: bool) -> bool
     unit
 }
 
-// Document 01's check of any text: typed functions with blocks and edges as cells, or a refusal and its message.
+// Document 01's check of any text: typed functions with blocks and edges as cells, or a checkRefusal and its message.
 pub fn check(
     text: &[u8],
     tokens: &mut [u32],

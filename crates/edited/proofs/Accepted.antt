@@ -13,7 +13,7 @@ use Rattle.lexer.specs.Decoded.{tokensOf}
 use Rattle.lexer.proofs.Sound.{read-sound}
 use Rattle.functions.specs.Functions.{Function}
 use Rattle.functions.proofs.Laid.{functions-counted}
-use Rattle.typing.specs.Outcome.{checked, unitD, unitSlices, none}
+use Rattle.unit.specs.Outcome.{checked, unitD, unitSlices, none}
 use Rattle.checker.specs.Check.{Checking, checkedOr, checkOf}
 use Rattle.checker.specs.Numbers.{Accepts}
 use Rattle.checker.proofs.Numbers.{every-number}

@@ -12,7 +12,7 @@ use Rattle.lexer.specs.Read.{lexedFrom, readFrom, readOf}
 use Rattle.lexer.specs.Decoded.{Tok, tokensOf}
 use Rattle.functions.specs.Columns.{typeAt, lineAt}
 use Rattle.functions.specs.Rows.{signedAt}
-use Rattle.typing.specs.Outcome.{Outcome, unitD}
+use Rattle.unit.specs.Outcome.{UnitOutcome, unitD}
 use Rattle.checker.specs.Check.{checkedOr, checkOf}
 use Rattle.headers.specs.Table.{isTable}
 use Rattle.headers.specs.Spelled.{rowName, globalsSpelled, calleesSpelled}
@@ -21,7 +21,7 @@ use Rattle.recheck.specs.Recheck.{functionAlone, verdictAs, recheckOf}
 
 -- Check. ------------------------------------------------------------------------------------------------------------
 
-pub checked-as : (text : List ℕ) (toks : List Token) (ns : List Part) (o : Outcome)
+pub checked-as : (text : List ℕ) (toks : List Token) (ns : List Part) (o : UnitOutcome)
     → lexedFrom 1 text ≡ lexes.Outcome.done toks ns → unitD (tokensOf (tokensCells toks)) ≡ o
     → checkOf text ≡ checkedOr text (readFrom 1 text) (tokensOf (tokensCells toks)) o
 unfolding checkOf readOf pick

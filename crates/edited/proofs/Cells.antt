@@ -24,7 +24,7 @@ use Rattle.functions.proofs.Seen.{length-variables}
 use Rattle.functions.proofs.Laid.{length-block-cells, length-all-blocks, length-predecessors}
 use Rattle.elaborate.specs.Types.{isCall, typedLast, typedRecord, typedItemsCells, typedArgumentsCells}
 use Rattle.elaborate.proofs.Lists.{length-typed-items, length-typed-arguments}
-use Rattle.typing.specs.Outcome.{none, slicesOf, allItems, allArguments}
+use Rattle.unit.specs.Outcome.{none, slicesOf, allItems, allArguments}
 use Rattle.checker.specs.Check.{Checking}
 use Rattle.edited.specs.Reading.{Own, records, recordsFrom, firstArgument, argumentsOf, firstPredecessor}
 use Rattle.edited.specs.Reading.{predecessorsOf, ownOf}

@@ -18,7 +18,7 @@ use Rattle.lexer.proofs.Accepted.{Done}
 use Rattle.functions.specs.Functions.{Function}
 use Rattle.functions.specs.Columns.{typeAt}
 use Rattle.sema.specs.Typing.{Global}
-use Rattle.typing.specs.Outcome.{checked, unitD}
+use Rattle.unit.specs.Outcome.{checked, unitD}
 use Rattle.checker.specs.Check.{checkOf}
 use Rattle.checker.specs.Numbers.{Accepts}
 use Rattle.checker.proofs.Lexed.{is-done, lexed-itself}

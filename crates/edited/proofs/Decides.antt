@@ -13,7 +13,7 @@ use Rattle.lexer.specs.Decoded.{Tok}
 use Rattle.lexer.specs.Sound.{noToken}
 use Rattle.parser.specs.declared.Refusal.{Refusal}
 use Rattle.functions.specs.Functions.{Function}
-use Rattle.typing.specs.Outcome.{checked, unitD}
+use Rattle.unit.specs.Outcome.{checked, unitD}
 use Rattle.recheck.specs.Recheck.{Verdict, refuses, accepts, retyped}
 use Rattle.joined.specs.Edits.{Replaced}
 use Rattle.joined.specs.Readings.{Readings}

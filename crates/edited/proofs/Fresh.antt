@@ -12,7 +12,7 @@ use Rattle.lexer.specs.Read.{lexedFrom, readFrom, readOf}
 use Rattle.lexer.specs.Decoded.{Tok}
 use Rattle.parser.specs.declared.Refusal.{Refusal}
 use Rattle.functions.specs.Functions.{Function}
-use Rattle.typing.specs.Outcome.{checked, refused, unitD}
+use Rattle.unit.specs.Outcome.{checked, refused, unitD}
 use Rattle.checker.specs.Check.{Checking, checkedOr, checkOf}
 use Rattle.recheck.specs.Recheck.{Verdict, refuses, accepts, retyped, verdictAs}
 use Rattle.joined.specs.Readings.{Readings}

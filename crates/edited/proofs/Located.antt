@@ -8,7 +8,7 @@ use lib.ListN.{length, getD}
 use Rattle.pieces.specs.declared.Token.{Token}
 use Rattle.lexer.specs.Read.{readOf}
 use Rattle.lexer.specs.Decoded.{Tok, tokensOf, tokenAt}
-use Rattle.typing.specs.Outcome.{checked, unitD}
+use Rattle.unit.specs.Outcome.{checked, unitD}
 use Rattle.checker.specs.Check.{checkOf}
 use Rattle.checker.specs.Numbers.{Accepts}
 use Rattle.edited.specs.Demand3.{tableOf, beginsAt, lineOf, endsAt, editedText}

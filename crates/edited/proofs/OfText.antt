@@ -17,7 +17,7 @@ use Rattle.functions.specs.Functions.{FunctionAt, function, noFunction, thenFun
 use Rattle.functions.specs.Columns.{typeAt}
 use Rattle.sema.specs.Typing.{Global}
 use Rattle.sema.specs.Program.{functionTyped}
-use Rattle.typing.specs.Outcome.{untyped}
+use Rattle.unit.specs.Outcome.{untyped}
 use Rattle.checker.specs.Check.{checkOf}
 use Rattle.checker.proofs.Lexed.{within, lexed-itself}
 use Rattle.checker.proofs.ParsedNumbers.{FunctionOn, function-on}

@@ -24,7 +24,7 @@ use Rattle.checker.specs.Check.{checkOf}
 use Rattle.functions.specs.Columns.{lineAt}
 use Rattle.checker.specs.Numbers.{Accepts}
 use Rattle.checker.proofs.TypedNumbers.{function-fine}
-use Rattle.typing.specs.Outcome.{untyped}
+use Rattle.unit.specs.Outcome.{untyped}
 use Rattle.headers.specs.Table.{isTable}
 use Rattle.headers.specs.Spelled.{rowName, globalsSpelled}
 use Rattle.headers.specs.Kept.{isWhole, keeps}

@@ -7,7 +7,7 @@ use mathlib.Core.Bool.{false}
 use native.Mathlib.Omega.{arith}
 use Rattle.lexer.specs.Decoded.{Tok, tokenAt}
 use Rattle.functions.specs.Functions.{Function}
-use Rattle.typing.specs.Outcome.{checked, unitD}
+use Rattle.unit.specs.Outcome.{checked, unitD}
 use Rattle.related.specs.Runs.{Place, start, behindAll, Run}
 use Rattle.related.proofs.Onward.{function-on}
 use Rattle.related.proofs.Running.{turn, cut, on-by, run-onward}

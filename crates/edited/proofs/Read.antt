@@ -21,7 +21,7 @@ use Rattle.functions.specs.declared.Counts.{Counts}
 use Rattle.functions.proofs.Heads.{formals-few}
 use Rattle.sema.specs.Program.{globalsOf, functionTyped}
 use Rattle.elaborate.specs.Types.{calleeIn}
-use Rattle.typing.specs.Outcome.{none, untyped}
+use Rattle.unit.specs.Outcome.{none, untyped}
 use Rattle.checker.specs.Check.{Checking, checkOf}
 use Rattle.checker.specs.Numbers.{Accepts}
 use Rattle.recheck.specs.Recheck.{accepts, aloneD, retyped, verdictAs}

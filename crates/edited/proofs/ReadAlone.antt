@@ -19,7 +19,7 @@ use Rattle.functions.specs.Known.{Known}
 use Rattle.functions.specs.Functions.{Function, FunctionAt, function, noFunction, thenFunction, optionalFormals}
 use Rattle.functions.specs.Functions.{optionalType, functionD}
 use Rattle.functions.specs.Moved.{SimFunction, SimFunctionAt}
-use Rattle.typing.specs.Outcome.{checked, unitD}
+use Rattle.unit.specs.Outcome.{checked, unitD}
 use Rattle.recheck.specs.Recheck.{aloneD, retyped}
 use Rattle.related.specs.Runs.{start, behindAll}
 use Rattle.related.specs.Entry.{retypedFunctionAt, UpToEntry, Enters}

@@ -22,7 +22,7 @@ use Rattle.sema.specs.Typing.{Global}
 use Rattle.sema.specs.Globals.{rowGlobal, globalOf}
 use Rattle.sema.specs.declared.FoundRow.{FoundRow}
 use Rattle.sema.specs.declared.FoundRow.the-variants as W
-use Rattle.typing.specs.Outcome.{none}
+use Rattle.unit.specs.Outcome.{none}
 use Rattle.checker.specs.Check.{checkOf}
 use Rattle.headers.specs.Ranges.{RowInRange}
 use Rattle.checker.specs.Numbers.{Accepts}

@@ -16,7 +16,7 @@ use Rattle.functions.specs.declared.Counts.{Counts}
 use Rattle.functions.proofs.Heads.{formals-few}
 use Rattle.sema.specs.Program.{globalsOf, functionTyped}
 use Rattle.elaborate.specs.Types.{calleeIn}
-use Rattle.typing.specs.Outcome.{checked, unitD, slicesOf, tablesOf, none, untyped}
+use Rattle.unit.specs.Outcome.{checked, unitD, slicesOf, tablesOf, none, untyped}
 use Rattle.checker.specs.Check.{checkOf}
 use Rattle.checker.specs.Numbers.{Accepts}
 use Rattle.related.specs.Runs.{Place, start, Run}

@@ -16,7 +16,7 @@ use Rattle.sema.specs.Opened as typing
 use Rattle.functions.specs.Laid.{rowsCells, allBlocks, allPredecessors}
 use Rattle.elaborate.specs.Types.{calleeIn, isCall, typedLast, typedRecord, typedItemsCells, typedVariables}
 use Rattle.elaborate.specs.Types.{typedArgumentsCells}
-use Rattle.typing.specs.Outcome.{unitD, tablesOf, allItems, allArguments}
+use Rattle.unit.specs.Outcome.{unitD, tablesOf, allItems, allArguments}
 use Rattle.checker.specs.Check.{checkOf}
 use Rattle.edited.specs.Reading.{Seen, number, word, seen, formalColumns, itemTable, records, firstArgument}
 use Rattle.edited.specs.Reading.{argumentsOf, predecessorsOf, ReadingOf, seenEach, readingOf, movedReading}

@@ -8,7 +8,7 @@ use Rattle.lexer.specs.Decoded.{Tok}
 use Rattle.body.specs.Records.{argumentsCount}
 use Rattle.functions.specs.Functions.{Function, blocksIn}
 use Rattle.functions.specs.Answer.{predecessorsIn}
-use Rattle.typing.specs.Outcome.{slicesOf}
+use Rattle.unit.specs.Outcome.{slicesOf}
 use Rattle.checker.specs.Check.{Checking}
 use Rattle.related.specs.Written.{Written}
 use Rattle.edited.specs.Reading.{Own, records, recordsFrom}

@@ -10,7 +10,7 @@ use lib.Seq.{length-sets, sets-eq, take-append-seam}
 use Rattle.lexer.specs.Decoded.{Tok}
 use Rattle.parser.specs.Step.{thenAt}
 use Rattle.body.specs.Body.{Item, Body, labelsOf, closedItems}
-use Rattle.body.specs.Shapes.{partsOf}
+use Rattle.body.specs.Shapes.{shapesOf}
 use Rattle.link.specs.Blocks.{Block}
 use Rattle.link.specs.Edges.{Resolved, fine, refused, resolveD, successors}
 use Rattle.body.proofs.BodyLaws.{names-closed}
@@ -92,7 +92,7 @@ module _ (ts : List Tok) (void : Bool) (named at : ℕ) (n : Counts)
         Held ts void (body .items) at (n .items) (n .arguments) items₀ items arguments₀ arguments labels₀ labels e)
         (ended .0) held
 
-    bounds : Bounds at (c .next) (length is) (argumentsCount (body .items)) (filled true (partsOf is))
+    bounds : Bounds at (c .next) (length is) (argumentsCount (body .items)) (filled true (shapesOf is))
     bounds = stored .bounds
 
     few-items : n .items + c .items ≤ 3072
@@ -102,7 +102,7 @@ module _ (ts : List Tok) (void : Bool) (named at : ℕ) (n : Counts)
     items-long : length items ≡ length items₀
     items-long = ap length (stored .items-are) ∙ length-sets items₀ (n .items * 8) (itemsCells (n .arguments) is)
 
-    parts : partsAt items (n .items) (c .items) ≡ partsOf is
+    parts : partsAt items (n .items) (c .items) ≡ shapesOf is
     parts =
         ap (λ (k : ℕ). partsAt items (n .items) k) (ended .1)
         ∙ parts-stored items items₀ (n .arguments) (n .items) is (stored .items-are)
@@ -116,7 +116,7 @@ module _ (ts : List Tok) (void : Bool) (named at : ℕ) (n : Counts)
         let fits : 0 + length ls ≤ length labels₀ = omega (arith, stored .few-labels, labels-long) in
         rw (stored .labels-are, sets-eq ls labels₀ 0 fits) (take-append-seam ls (drop (0 + length ls) labels₀))
 
-    few-filled : (n .blocks + filled true (partsOf is)) * 4 ≤ 4096
+    few-filled : (n .blocks + filled true (shapesOf is)) * 4 ≤ 4096
     few-filled = omega (arith, bounds .blocks-few, behind, stored .on .reached, stored .on .few)
 
     pub ready : Ready items (n .items) (c .items) labels (c .labels) blocks₀ (n .blocks) preds₀ (n .predecessors)
@@ -183,11 +183,11 @@ module _ (ts : List Tok) (void : Bool) (named at : ℕ) (n : Counts)
                     arguments-few =
                         omega (arith, bounds .arguments-few, room .arguments-few, arguments-count-closed void (body .items));
                     blocks-few =
-                        omega (arith, bounds .blocks-few, behind, blocks-counted named (partsOf is) (linked-to .0));
+                        omega (arith, bounds .blocks-few, behind, blocks-counted named (shapesOf is) (linked-to .0));
                     predecessors-few = omega (arith, few-predecessors, room .predecessors-few);
                   };
               few-blocks =
-                  at-most-256 (partsOf is)
+                  at-most-256 (shapesOf is)
                   (omega (arith, stored .few-labels, ap length (names-closed void 0 0 (body .items))));
               on = omega (arith, bounds .blocks-few, behind);
             })

@@ -13,7 +13,7 @@ use Rattle.parser.specs.Grammar.{consumeD, globalD, typeD}
 use Rattle.parser.specs.Runs.{Variables, ended, typeCell, formalsD}
 use Rattle.body.specs.Body.{Item, closedItems}
 use Rattle.link.specs.Blocks.{Block, blocksOf}
-use Rattle.body.specs.Shapes.{partsOf}
+use Rattle.body.specs.Shapes.{shapesOf}
 use Rattle.link.specs.Edges.{Resolved, fine, refused, resolveD}
 use Rattle.parser.specs.declared.Refusal.{Refusal}
 use Rattle.parser.specs.declared.Ty.{Ty}
@@ -92,7 +92,7 @@ thenBuilt fail (built is next) k = k is next
 thenBuilt fail (notBuilt e) k = fail e
 
 abbrev pub blocksIn : List Item → List Block
-blocksIn is = blocksOf (partsOf is)
+blocksIn is = blocksOf (shapesOf is)
 
 -- the blocks stand fine, or give 22 or 14
 abbrev pub resolvedItems : List Item → ℕ → Resolved → BuiltAt

@@ -8,7 +8,7 @@ use Rattle.parser.specs.Grammar.{constD, unaryD, binaryD, isUnary, isBinary, va
 use Rattle.parser.specs.Runs.{formalD, formalsFromD, formalsD, argumentsD, callD}
 use Rattle.parser.specs.Labels.{has, labelledD}
 use Rattle.body.specs.Body.{thenItem, calledItem, parsedItem, itemD, behind, closes, bodyD, lacksRet, closedFrom}
-use Rattle.body.specs.Shapes.{partsOf}
+use Rattle.body.specs.Shapes.{shapesOf}
 use Rattle.link.specs.Blocks.{blocksFrom, blocksAfter}
 use Rattle.link.specs.Edges.{placeOf, thenPlace, resolveLabels, resolveFrom, places, successors, entering}
 use Rattle.link.specs.Edges.{predecessors, isDead}
@@ -23,7 +23,7 @@ unfolding
     lexing.opened tokensOf isName nameIn integerIn tokenAt look thenAt thenNamed thenType thenDefined
     consumeD namedD typeD printD retD jumpD branchD nopD definedD isConstant constD unaryD binaryD isUnary isBinary
     valueD definitionD instructionD formalD formalsFromD formalsD argumentsD callD has labelledD
-    thenItem calledItem parsedItem itemD behind closes bodyD lacksRet closedFrom partsOf blocksFrom blocksAfter
+    thenItem calledItem parsedItem itemD behind closes bodyD lacksRet closedFrom shapesOf blocksFrom blocksAfter
     placeOf thenPlace resolveLabels resolveFrom places successors entering predecessors isDead
     formalTypes typeNumber typesAfter expectedType thenHeader thenFormals thenEntered optionalFormals optionalType
     enteredD signatureD headerD thenBuilt builtD thenFunction functionD functionsD

@@ -13,7 +13,7 @@ use lib.ListN.{length, getD, take, drop, List·getD-append, drop-of-length-le}
 use lib.Seq.{sets, sets-eq, slice-cons, take-at, length-take-le}
 use Rattle.utils.specs.Bytes.{pick}
 use Rattle.graph.specs.Walk.{walked, metBlocks, blockOrder}
-use Rattle.graph.specs.Records.{blocksIn}
+use Rattle.graph.specs.Records.{atMost256}
 use Rattle.graph.specs.Reach.{PathFrom}
 use Rattle.graph.specs.Worklist.{worklist, remaining, popped, flagged}
 use Rattle.graph.specs.declared.BlockId.{BlockId}
@@ -23,12 +23,12 @@ use Rattle.graph.proofs.Counts.{walked-long}
 use Rattle.graph.proofs.Once.{order-permutation}
 use Rattle.graph.proofs.Paths.{met-iff-path}
 
-pub blocks-few : (count : ℕ) → count ≤ 256 → blocksIn count ≡ count
-unfolding blocksIn pick
+pub blocks-few : (count : ℕ) → count ≤ 256 → atMost256 count ≡ count
+unfolding atMost256 pick
 blocks-few count h = rw (le-ltb 256 count h)
 
-pub blocks-most : (count : ℕ) → blocksIn count ≤ 256
-unfolding blocksIn pick
+pub blocks-most : (count : ℕ) → atMost256 count ≤ 256
+unfolding atMost256 pick
 blocks-most count = by (ltb 256 count) refl
   where
     by : (b : Bool) → ltb 256 count ≡ b → pick b 256 count ≤ 256

@@ -7,11 +7,11 @@ use mathlib.Core.Bool.{Bool, true, false}
 use lib.ListN.{length, getD, replicate}
 use Rattle.utils.specs.Bytes.{pick, sameBytes}
 use Rattle.graph.specs.Walk.{walkFrom, walked, metBlocks, neverMet, blockOrder}
-use Rattle.graph.specs.Records.{recorded, blocksIn}
+use Rattle.graph.specs.Records.{recorded, atMost256}
 
 -- To unfold this is to unfold the whole definition.
 unfoldable pub opened : ℕ
-unfolding pick sameBytes walkFrom walked metBlocks neverMet blockOrder blocksIn
+unfolding pick sameBytes walkFrom walked metBlocks neverMet blockOrder atMost256
 opened = 0
 
 -- Rows. -------------------------------------------------------------------------------------------------------------
@@ -34,7 +34,7 @@ joined (x ∷ xs) = x ++ joined xs
 -- a function by block records, its first block's record and its count of blocks
 records : List (List ℕ) → ℕ → ℕ → List ℕ → List ℕ → Case
 records rs first count order met =
-    record { successors = recorded (joined rs) first; blocks = blocksIn count; order = order; met = met }
+    record { successors = recorded (joined rs) first; blocks = atMost256 count; order = order; met = met }
 
 -- a record with so many successors, and these
 block : ℕ → ℕ → ℕ → List ℕ

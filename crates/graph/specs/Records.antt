@@ -66,5 +66,5 @@ pub record Loaded (cells : List ℕ) (first n : ℕ) (rows₀ rows : List (List 
   pub other-counts : (v : ℕ) → n ≤ v → getD counts v 0 ≡ getD counts₀ v 0
 
 -- How many blocks are looked at, of so many.
-unfoldable pub blocksIn : ℕ → ℕ
-blocksIn count = pick (ltb 256 count) 256 count
+unfoldable pub atMost256 : ℕ → ℕ
+atMost256 count = pick (ltb 256 count) 256 count

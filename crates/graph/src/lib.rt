@@ -11,7 +11,7 @@ mod walk;
 ghost use mathlib.Core.Path.{_≡_};
 ghost use lib.Seq.{sets};
 ghost use Rattle.graph.specs.Walk.{metBlocks, blockOrder};
-ghost use Rattle.graph.specs.Records.{recorded, blocksIn};
+ghost use Rattle.graph.specs.Records.{recorded, atMost256};
 ghost use Rattle.graph.specs.Worklist.{worklist, popped, flagged};
 
 // Cells of a block's record.
@@ -50,9 +50,9 @@ pub enum Popped {
 impl RPOWorklist {
     // Orders a function's blocks.
     pub fn new(blocks: &[u32], first: u32, count: u32, order: &mut [u32; 256]) -> RPOWorklist
-        ensures { λ r. ⌜ r ≡ worklist 0 (blocksIn count) ⌝ }
+        ensures { λ r. ⌜ r ≡ worklist 0 (atMost256 count) ⌝ }
         ensures { λ r. ⌜ now (order .exit)
-            ≡ sets (now (order .entry)) 0 (blockOrder (recorded (now (blocks .entry)) first) (blocksIn count)) ⌝ }
+            ≡ sets (now (order .entry)) 0 (blockOrder (recorded (now (blocks .entry)) first) (atMost256 count)) ⌝ }
     {
         let n = successors::at_most_256(count);
         let mut met = [0u8; 256];
@@ -91,7 +91,7 @@ impl RPOWorklist {
 // Which blocks a path of edges leads to from block 0: a flag for each block, 1 or 0.
 pub fn met_blocks(blocks: &[u32], first: u32, count: u32, met: &mut [u8; 256])
     ensures { λ r. ⌜ now (met .exit)
-        ≡ sets (now (met .entry)) 0 (metBlocks (recorded (now (blocks .entry)) first) (blocksIn count)) ⌝ }
+        ≡ sets (now (met .entry)) 0 (metBlocks (recorded (now (blocks .entry)) first) (atMost256 count)) ⌝ }
 {
     let n = successors::at_most_256(count);
     let mut flags = [0u8; 256];

@@ -2,12 +2,12 @@
 ghost use mathlib.Core.Path.{_≡_};
 ghost use Prim.Native.Nat.{_≤_};
 ghost use lib.ListN.{length};
-ghost use Rattle.graph.specs.Records.{Loaded, blocksIn};
+ghost use Rattle.graph.specs.Records.{Loaded, atMost256};
 use crate::blocks::block_at;
 
 // How many blocks are looked at.
 pub fn at_most_256(count: u32) -> u32
-    ensures { λ r. ⌜ (r ≡ blocksIn count) × (r ≤ 256) ⌝ }
+    ensures { λ r. ⌜ (r ≡ atMost256 count) × (r ≤ 256) ⌝ }
 {
     if 256 < count {
         return 256;

@@ -9,7 +9,7 @@ use lib.ListN.{length}
 use Rattle.utils.specs.Bytes.{pick, padTo}
 use Rattle.pieces.specs.Refusals.{factsOf}
 use Rattle.lexer.specs.Numbered.{Part, Outcome, tokensCells, namesCells}
-use Rattle.lexer.specs.Read.{reading, refusal, lexedFrom, readingOf, readOf, sized, padded, readDef, resultOf}
+use Rattle.lexer.specs.Read.{reading, readRefusal, lexedFrom, readingOf, readOf, sized, padded, readDef, resultOf}
 use Rattle.lexer.specs.Read.{Reads}
 use Rattle.lexer.specs.Sound.{Sound}
 use Rattle.pieces.specs.declared.Token.{Token}
@@ -47,7 +47,7 @@ result-refused line s r e = from (lexedFrom line s) refl e
     from (Outcome.refused r′) p q = cc
     from Outcome.cut p q = absurd (never-cut line s p)
 
--- no refusal has number 0
+-- no readRefusal has number 0
 pub refusal-number : (r : Refusal) → factsOf r .number ≡ 0 → ⊥
 refusal-number (R.NotAscii line) e = omega arith
 refusal-number (R.CommentNotClosed c) e = omega arith
@@ -91,6 +91,6 @@ read-accepted s t₀ n₀ m₀ r t n m v z = gate (sized (length t₀) (length n
     gate : (b : Bool) → sized (length t₀) (length n₀) (length m₀) ≡ b → Accepted s t₀ n₀ r t n
     gate true e = from (lexedFrom 1 s) refl (rw e)
     gate false e =
-        let q : readDef s t₀ n₀ m₀ ≡ reading (refusal 30 0 0) t₀ n₀ m₀ = rw e in
+        let q : readDef s t₀ n₀ m₀ ≡ reading (readRefusal 30 0 0) t₀ n₀ m₀ = rw e in
         let k : r .number ≡ 30 = ap (λ (a : ReadAnswer). a .number) (rw q at (v .answer)) in
         absurd (omega arith)

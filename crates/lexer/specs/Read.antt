@@ -28,14 +28,14 @@ reading r t n m = record { answer = r; tokens = t; names = n; message = m }
 abbrev pub accepted : ℕ → ℕ → ReadAnswer
 accepted tokens names = record { number = 0; line = 0; place = 0; tokens = tokens; names = names }
 
--- After a refusal every count is zero.
-abbrev pub refusal : ℕ → ℕ → ℕ → ReadAnswer
-refusal number line place = record { number = number; line = line; place = place; tokens = 0; names = 0 }
+-- After a readRefusal every count is zero.
+abbrev pub readRefusal : ℕ → ℕ → ℕ → ReadAnswer
+readRefusal number line place = record { number = number; line = line; place = place; tokens = 0; names = 0 }
 
 abbrev pub answerOf : Refusal → ReadAnswer
-answerOf r = refusal (factsOf r .number) (factsOf r .line) (factsOf r .place)
+answerOf r = readRefusal (factsOf r .number) (factsOf r .line) (factsOf r .place)
 
--- a refusal: its message, and nothing else
+-- a readRefusal: its message, and nothing else
 abbrev pub refused : Refusal → Reading
 refused r = reading (answerOf r) [] [] (messageOf r)
 
@@ -49,7 +49,7 @@ abbrev pub readingOf : Outcome → Reading
 readingOf (Outcome.done ts ns) = reading (accepted (length ts) (length ns)) (tokensCells ts) (namesCells ns) []
 readingOf (Outcome.refused r) = refused r
 -- no text gives this (`never-cut`)
-readingOf Outcome.cut = reading (refusal 0 0 0) [] [] []
+readingOf Outcome.cut = reading (readRefusal 0 0 0) [] [] []
 
 -- what a text reads as, if its first line has this number
 abbrev pub readFrom : ℕ → List ℕ → Reading
@@ -71,7 +71,7 @@ padded t n m o =
 -- than its size, and then nothing is written.
 unfoldable pub readDef : List ℕ → List ℕ → List ℕ → List ℕ → Reading
 readDef text t n m =
-    pick (sized (length t) (length n) (length m)) (padded t n m (readOf text)) (reading (refusal 30 0 0) t n m)
+    pick (sized (length t) (length n) (length m)) (padded t n m (readOf text)) (reading (readRefusal 30 0 0) t n m)
 
 -- Where the answer is an enum: document 01's number, line, place and counts for each of its cases.
 abbrev pub answered : LexResult → ReadAnswer

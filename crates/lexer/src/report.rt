@@ -6,14 +6,14 @@ ghost use mathlib.Core.List.{[]};
 ghost use Rattle.utils.specs.Bytes.{padTo};
 ghost use Rattle.utils.specs.Message.{reported};
 ghost use Rattle.pieces.specs.Refusals.{factsOf, messageOf, unexpected};
-ghost use Rattle.lexer.specs.Read.{refusal, answerOf};
+ghost use Rattle.lexer.specs.Read.{readRefusal, answerOf};
 use crate::ReadAnswer;
 use pieces::Location;
 use pieces::Refusal;
 
 pub(crate) fn refuse_at(number: u32, line: Location, place: usize) -> ReadAnswer
     requires { ⌜ place < 4294967296 ⌝ }
-    ensures { λ r. ⌜ r ≡ refusal number (line .0) place ⌝ }
+    ensures { λ r. ⌜ r ≡ readRefusal number (line .0) place ⌝ }
 {
     ReadAnswer {
         number,
@@ -24,11 +24,11 @@ pub(crate) fn refuse_at(number: u32, line: Location, place: usize) -> ReadAnswer
     }
 }
 
-pub(crate) fn answer_of(refusal: Refusal) -> ReadAnswer
-    requires { ⌜ factsOf refusal .place < 4294967296 ⌝ }
-    ensures { λ r. ⌜ r ≡ answerOf refusal ⌝ }
+pub(crate) fn answer_of(readRefusal: Refusal) -> ReadAnswer
+    requires { ⌜ factsOf readRefusal .place < 4294967296 ⌝ }
+    ensures { λ r. ⌜ r ≡ answerOf readRefusal ⌝ }
 {
-    match refusal {
+    match readRefusal {
         Refusal::NotAscii(line) => refuse_at(1, Location(line), 0),
         Refusal::CommentNotClosed(at) => refuse_at(2, Location(at.line), at.place),
         Refusal::UnexpectedByte(_, at) => refuse_at(3, Location(at.line), at.place),
@@ -50,12 +50,12 @@ fn report_unexpected(message: &mut [u8], line: Location, b: u8)
     utils::error(message, line.0, &text);
 }
 
-// The message of a refusal, and zeros after it.
-pub(crate) fn report(message: &mut [u8], refusal: Refusal)
+// The message of a readRefusal, and zeros after it.
+pub(crate) fn report(message: &mut [u8], readRefusal: Refusal)
     requires { ⌜ 512 ≤ length (now message) ⌝ }
-    ensures { λ r. ⌜ now (message .exit) ≡ padTo (length (now (message .entry))) (messageOf refusal) ⌝ }
+    ensures { λ r. ⌜ now (message .exit) ≡ padTo (length (now (message .entry))) (messageOf readRefusal) ⌝ }
 {
-    match refusal {
+    match readRefusal {
         Refusal::NotAscii(line) => utils::error(message, line, b"Only ASCII input is supported."),
         Refusal::CommentNotClosed(at) => {
             utils::error(message, at.line, b"Multiline comment no closed.")

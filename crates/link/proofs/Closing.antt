@@ -7,48 +7,48 @@ use native.Mathlib.Omega.{arith}
 use lib.Dec.{eqb}
 use lib.ListN.{length}
 use Rattle.utils.specs.Bytes.{pick}
-use Rattle.body.specs.Shapes.{Part, name, operation}
+use Rattle.body.specs.Shapes.{Shape, name, operation}
 use Rattle.link.specs.Blocks.{Block, fresh, grown, blocksFrom}
 use Rattle.body.specs.Records.{firstCell, recordAt, recordPart, goesOf, partsAt}
 use Rattle.body.specs.Room.{filled}
 use Rattle.link.specs.Steps.{run}
 
 -- a block with the operations up to the next label
-abbrev pub closing : Block → List Part → Block
+abbrev pub closing : Block → List Shape → Block
 closing b [] = b
 closing b (name l ∷ ps) = b
 closing b (operation w goes ∷ ps) = closing (grown b w goes) ps
 
 -- the label behind them, and what is behind that
-abbrev pub opened : List Part → List ℕ
+abbrev pub opened : List Shape → List ℕ
 opened [] = []
 opened (name l ∷ ps) = l ∷ []
 opened (operation w goes ∷ ps) = opened ps
 
-abbrev pub beyond : List Part → List Part
+abbrev pub beyond : List Shape → List Shape
 beyond [] = []
 beyond (name l ∷ ps) = ps
 beyond (operation w goes ∷ ps) = beyond ps
 
 -- the blocks behind the first
-abbrev pub others : ℕ → List Part → List Block
+abbrev pub others : ℕ → List Shape → List Block
 others at [] = []
 others at (name l ∷ ps) = blocksFrom (at + 1) (fresh (l ∷ []) (at + 1)) ps
 others at (operation w goes ∷ ps) = others (at + 1) ps
 
-pub first-closed : (ps : List Part) (at : ℕ) (b : Block) → blocksFrom at b ps ≡ closing b ps ∷ others at ps
+pub first-closed : (ps : List Shape) (at : ℕ) (b : Block) → blocksFrom at b ps ≡ closing b ps ∷ others at ps
 unfolding blocksFrom
 first-closed [] at b = refl
 first-closed (name l ∷ ps) at b = refl
 first-closed (operation w goes ∷ ps) at b = first-closed ps (at + 1) (grown b w goes)
 
-pub others-none : (ps : List Part) (at : ℕ) → run ps ≡ length ps → others at ps ≡ []
+pub others-none : (ps : List Shape) (at : ℕ) → run ps ≡ length ps → others at ps ≡ []
 unfolding run
 others-none [] at h = refl
 others-none (name l ∷ ps) at h = absurd (omega arith)
 others-none (operation w goes ∷ ps) at h = others-none ps (at + 1) (omega arith)
 
-pub others-more : (ps : List Part) (at next : ℕ) → run ps < length ps → next ≡ at + run ps + 1
+pub others-more : (ps : List Shape) (at next : ℕ) → run ps < length ps → next ≡ at + run ps + 1
     → others at ps ≡ blocksFrom next (fresh (opened ps) next) (beyond ps)
 unfolding run
 others-more [] at next h e = absurd (omega arith)
@@ -58,13 +58,13 @@ others-more (name l ∷ ps) at next h e =
 others-more (operation w goes ∷ ps) at next h e = others-more ps (at + 1) next (omega arith) (omega arith)
 
 -- one block with an operation is gone
-filled-false : (ps : List Part) → filled false ps ≡ filled true (beyond ps)
+filled-false : (ps : List Shape) → filled false ps ≡ filled true (beyond ps)
 unfolding filled pick
 filled-false [] = refl
 filled-false (name l ∷ ps) = refl
 filled-false (operation w goes ∷ ps) = omega (arith, filled-false ps)
 
-pub filled-beyond : (ps : List Part) → 0 < run ps → filled true ps ≡ filled true (beyond ps) + 1
+pub filled-beyond : (ps : List Shape) → 0 < run ps → filled true ps ≡ filled true (beyond ps) + 1
 unfolding run filled pick
 filled-beyond [] h = absurd (omega arith)
 filled-beyond (name l ∷ ps) h = absurd (omega arith)
@@ -86,10 +86,10 @@ beyond-at cells zero from n h =
     rw e
 beyond-at cells (suc m) from n h = by (recordPart (recordAt cells from)) h (beyond-at cells m (from + 1) (n - 1))
   where
-    rest : List Part
+    rest : List Shape
     rest = partsAt cells (from + 1) m
 
-    by : (p : Part) → n ≡ run (p ∷ rest)
+    by : (p : Shape) → n ≡ run (p ∷ rest)
         → (n - 1 ≡ run rest → beyond rest ≡ partsAt cells (from + 1 + (n - 1) + 1) (m - (n - 1 + 1)))
         → beyond (p ∷ rest) ≡ partsAt cells (from + n + 1) (suc m - (n + 1))
     by (name l) e ih =
@@ -115,7 +115,7 @@ pub record Closed (cells : List ℕ) (from : ℕ) (b x : Block) (n : ℕ) : Type
   pub last-token : 0 < n → x .token ≡ recordAt cells (from + n - 1) .token
   pub last-goes : 0 < n → x .goes ≡ goesOf (recordAt cells (from + n - 1))
 
-closed-one : (cells : List ℕ) (from : ℕ) (b : Block) (rest : List Part) (p : Part)
+closed-one : (cells : List ℕ) (from : ℕ) (b : Block) (rest : List Shape) (p : Shape)
     → recordPart (recordAt cells from) ≡ p → ((x : Block) → Closed cells (from + 1) x (closing x rest) (run rest))
     → Closed cells from b (closing b (p ∷ rest)) (run (p ∷ rest))
 unfolding run recordPart

@@ -14,7 +14,7 @@ use Rattle.graph.specs.Records.{blockRecord, cellsOf}
 use Rattle.graph.specs.declared.BlockId.{BlockId}
 use Rattle.graph.specs.declared.BlockRecord.{BlockRecord}
 use Rattle.parser.specs.Step.{refusal}
-use Rattle.body.specs.Shapes.{Part, name, operation}
+use Rattle.body.specs.Shapes.{Shape, name, operation}
 use Rattle.link.specs.Blocks.{Block, fresh, blocksFrom, blocksAfter, blocksOf}
 use Rattle.link.specs.Edges.{placeOf, places, refused, resolveLabels, resolveFrom}
 use Rattle.parser.specs.declared.Refusal.{Refusal}
@@ -52,7 +52,7 @@ pub record Cutting (items : List ℕ) (all : List Block) (name first end base : 
 
 -- The first turn. ---------------------------------------------------------------------------------------------------
 
-begins : (ps : List Part) (at : ℕ) (ls : List ℕ)
+begins : (ps : List Shape) (at : ℕ) (ls : List ℕ)
     → (ms : List ℕ) × (blocksAfter at ls ps ≡ blocksFrom (at + leading ps) (fresh ms (at + leading ps)) (drop (leading ps) ps))
 unfolding blocksAfter blocksFrom leading
 begins [] at ls = (ls, rw add-zero)
@@ -73,7 +73,7 @@ drop-parts items (suc n) first (suc count) h =
     let f : suc count - suc n ≡ count - n = omega arith in
     rw (e, f) (drop-parts items n (first + 1) count (omega arith))
 
-filled-leading : (ps : List Part) → filled true (drop (leading ps) ps) ≡ filled true ps
+filled-leading : (ps : List Shape) → filled true (drop (leading ps) ps) ≡ filled true ps
 unfolding filled leading
 filled-leading [] = refl
 filled-leading (name l ∷ ps) =
@@ -112,7 +112,7 @@ module _ (items : List ℕ) (all : List Block) (named first end base : ℕ) (cel
     (cut : Cutting items all named first end base cells₀ cells from k) (stop : ℕ)
     (ends : stop ≡ from + run (partsAt items from (end - from)))
     (before : ℕ) (names : List ℕ) (same : (l : ℕ) → placeOf all l 0 ≡ labelPlace before 0 names l) where
-  abbrev here : List Part
+  abbrev here : List Shape
   here = partsAt items from (end - from)
 
   abbrev block : Block

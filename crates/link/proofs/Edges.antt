@@ -9,7 +9,7 @@ use lib.Dec.{eqb}
 use lib.ListN.{length, length-append}
 use Rattle.utils.specs.Bytes.{pick}
 use Rattle.body.specs.Body.{Item, label, plain, call, callInto, targets}
-use Rattle.body.specs.Shapes.{Part, name, operation, numbersOf, partOf, partsOf}
+use Rattle.body.specs.Shapes.{Shape, name, operation, numbersOf, shapeOf, shapesOf}
 use Rattle.link.specs.Blocks.{Block, fresh, grown, blocksFrom, blocksAfter, blocksOf}
 use Rattle.link.specs.Edges.{Place, at, nowhere, placeOf, thenPlace, places, successors, entering, predecessors}
 use Rattle.parser.specs.declared.Operation.{Operation}
@@ -116,11 +116,11 @@ abbrev pub Thin : List Block → Type 0
 Thin [] = Unit
 Thin (b ∷ bs) = (length (b .goes) ≤ 2) × Thin bs
 
-abbrev ThinPart : Part → Type 0
+abbrev ThinPart : Shape → Type 0
 ThinPart (name l) = Unit
 ThinPart (operation w goes) = length goes ≤ 2
 
-abbrev ThinParts : List Part → Type 0
+abbrev ThinParts : List Shape → Type 0
 ThinParts [] = Unit
 ThinParts (p ∷ ps) = ThinPart p × ThinParts ps
 
@@ -147,13 +147,13 @@ unfolding partsAt
 thin-parts cells zero first = tt
 thin-parts cells (suc count) first = (thin-part (recordAt cells first), thin-parts cells count (first + 1))
 
-thin-from : (ps : List Part) (here : ℕ) (b : Block) → ThinParts ps → length (b .goes) ≤ 2 → Thin (blocksFrom here b ps)
+thin-from : (ps : List Shape) (here : ℕ) (b : Block) → ThinParts ps → length (b .goes) ≤ 2 → Thin (blocksFrom here b ps)
 unfolding blocksFrom
 thin-from [] here b t h = (h, tt)
 thin-from (name l ∷ ps) here b t h = (h, thin-from ps (here + 1) (fresh (l ∷ []) (here + 1)) (t .1) (omega arith))
 thin-from (operation w goes ∷ ps) here b t h = thin-from ps (here + 1) (grown b w goes) (t .1) (t .0)
 
-thin-after : (ps : List Part) (here : ℕ) (ls : List ℕ) → ThinParts ps → Thin (blocksAfter here ls ps)
+thin-after : (ps : List Shape) (here : ℕ) (ls : List ℕ) → ThinParts ps → Thin (blocksAfter here ls ps)
 unfolding blocksAfter
 thin-after [] here ls t = (omega arith, tt)
 thin-after (name l ∷ ps) here ls t = thin-after ps (here + 1) (ls ++ (l ∷ [])) (t .1)
@@ -175,19 +175,19 @@ thin-operation (O.RetValue w x) = omega arith
 thin-operation (O.Print w x) = omega arith
 thin-operation (O.Nop w) = omega arith
 
-thin-item : (i : Item) → ThinPart (partOf i)
+thin-item : (i : Item) → ThinPart (shapeOf i)
 thin-item (label w l) = tt
 thin-item (plain o) = thin-operation o
 thin-item (call w g xs) = omega arith
 thin-item (callInto w v g xs) = omega arith
 
-thin-each : (is : List Item) → ThinParts (partsOf is)
-unfolding partsOf
+thin-each : (is : List Item) → ThinParts (shapesOf is)
+unfolding shapesOf
 thin-each [] = tt
 thin-each (i ∷ is) = (thin-item i, thin-each is)
 
-pub thin-items : (is : List Item) → Thin (blocksOf (partsOf is))
-thin-items is = thin-after (partsOf is) 0 [] (thin-each is)
+pub thin-items : (is : List Item) → Thin (blocksOf (shapesOf is))
+thin-items is = thin-after (shapesOf is) 0 [] (thin-each is)
 
 place-few : (p : Place) (more : List ℕ) (n : ℕ) → length more ≤ n → length (thenPlace p (λ k. k ∷ more) more) ≤ suc n
 unfolding thenPlace

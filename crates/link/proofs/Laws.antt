@@ -10,7 +10,7 @@ use lib.ListN.{length, length-append}
 use Rattle.utils.specs.Bytes.{pick}
 use Rattle.parser.specs.Step.{refusal}
 use Rattle.parser.specs.Labels.{has}
-use Rattle.body.specs.Shapes.{Part, name, operation, namesIn}
+use Rattle.body.specs.Shapes.{Shape, name, operation, namesIn}
 use Rattle.link.specs.Blocks.{Block, fresh, grown, blocksFrom, blocksAfter, blocksOf}
 use Rattle.link.specs.Edges.{Place, at, nowhere, placeOf, thenPlace, Resolved, fine, refused, missing, resolveLabels}
 use Rattle.link.specs.Edges.{resolveFrom, resolveD, places, successors}
@@ -67,13 +67,13 @@ successors-below bs = below-each bs bs
 
 -- How many blocks. --------------------------------------------------------------------------------------------------
 
-blocks-from : (ps : List Part) (here : ℕ) (b : Block) → length (blocksFrom here b ps) ≡ length (namesIn ps) + 1
+blocks-from : (ps : List Shape) (here : ℕ) (b : Block) → length (blocksFrom here b ps) ≡ length (namesIn ps) + 1
 unfolding blocksFrom namesIn
 blocks-from [] here b = refl
 blocks-from (name l ∷ ps) here b = omega (arith, blocks-from ps (here + 1) (fresh (l ∷ []) (here + 1)))
 blocks-from (operation w goes ∷ ps) here b = blocks-from ps (here + 1) (grown b w goes)
 
-blocks-after : (ps : List Part) (here : ℕ) (ls : List ℕ) → length (blocksAfter here ls ps) ≤ length (namesIn ps) + 1
+blocks-after : (ps : List Shape) (here : ℕ) (ls : List ℕ) → length (blocksAfter here ls ps) ≤ length (namesIn ps) + 1
 unfolding blocksAfter namesIn
 blocks-after [] here ls = omega arith
 blocks-after (name l ∷ ps) here ls = omega (arith, blocks-after ps (here + 1) (ls ++ (l ∷ [])))
@@ -81,21 +81,21 @@ blocks-after (operation w goes ∷ ps) here ls =
     omega (arith, blocks-from (operation w goes ∷ ps) here (fresh ls here))
 
 -- A function has at most one block more than labels.
-pub few-blocks : (ps : List Part) → length (blocksOf ps) ≤ length (namesIn ps) + 1
+pub few-blocks : (ps : List Shape) → length (blocksOf ps) ≤ length (namesIn ps) + 1
 few-blocks ps = blocks-after ps 0 []
 
 -- A function of at most 255 labels has at most 256 blocks.
-pub at-most-256 : (ps : List Part) → length (namesIn ps) ≤ 255 → length (blocksOf ps) ≤ 256
+pub at-most-256 : (ps : List Shape) → length (namesIn ps) ≤ 255 → length (blocksOf ps) ≤ 256
 at-most-256 ps h = omega (arith, few-blocks ps)
 
-some-from : (ps : List Part) (here : ℕ) (ls : List ℕ) → 1 ≤ length (blocksAfter here ls ps)
+some-from : (ps : List Shape) (here : ℕ) (ls : List ℕ) → 1 ≤ length (blocksAfter here ls ps)
 unfolding blocksAfter
 some-from [] here ls = omega arith
 some-from (name l ∷ ps) here ls = some-from ps (here + 1) (ls ++ (l ∷ []))
 some-from (operation w goes ∷ ps) here ls = omega (arith, blocks-from (operation w goes ∷ ps) here (fresh ls here))
 
 -- Any function has a block.
-pub at-least-1 : (ps : List Part) → 1 ≤ length (blocksOf ps)
+pub at-least-1 : (ps : List Shape) → 1 ≤ length (blocksOf ps)
 at-least-1 ps = some-from ps 0 []
 
 -- Where every label is resolved. ------------------------------------------------------------------------------------
@@ -156,7 +156,7 @@ abbrev Fresh : Bool → Block → Type 0
 Fresh true b = b .operations ≡ 0
 Fresh false b = 0 < b .operations
 
-counted-from : (ps : List Part) (here : ℕ) (b : Block) (t : Bool) → Fresh t b → NonEmpty (blocksFrom here b ps)
+counted-from : (ps : List Shape) (here : ℕ) (b : Block) (t : Bool) → Fresh t b → NonEmpty (blocksFrom here b ps)
     → length (blocksFrom here b ps) ≡ filled t ps + pick t 0 1
 unfolding blocksFrom filled pick
 counted-from [] here b true f n = absurd (omega (arith, n .0))
@@ -172,7 +172,7 @@ counted-from (operation w goes ∷ ps) here b false f n =
     let ih = counted-from ps (here + 1) (grown b w goes) false (omega arith) n in
     omega (arith, ih)
 
-counted-after : (ps : List Part) (here : ℕ) (ls : List ℕ) → NonEmpty (blocksAfter here ls ps)
+counted-after : (ps : List Shape) (here : ℕ) (ls : List ℕ) → NonEmpty (blocksAfter here ls ps)
     → length (blocksAfter here ls ps) ≡ filled true ps
 unfolding blocksAfter filled pick
 counted-after [] here ls n = absurd (omega (arith, n .0))
@@ -180,12 +180,12 @@ counted-after (name l ∷ ps) here ls n = counted-after ps (here + 1) (ls ++ (l 
 counted-after (operation w goes ∷ ps) here ls n =
     counted-filled (operation w goes ∷ ps) here (fresh ls here) refl n
   where
-    counted-filled : (ps : List Part) (here : ℕ) (b : Block) → Fresh true b → NonEmpty (blocksFrom here b ps)
+    counted-filled : (ps : List Shape) (here : ℕ) (b : Block) → Fresh true b → NonEmpty (blocksFrom here b ps)
         → length (blocksFrom here b ps) ≡ filled true ps
     counted-filled ps here b f n = omega (arith, counted-from ps here b true f n)
 
 -- There are as many blocks as runs of operations.
-pub blocks-counted : (named : ℕ) (ps : List Part) → resolveD named (blocksOf ps) ≡ fine
+pub blocks-counted : (named : ℕ) (ps : List Shape) → resolveD named (blocksOf ps) ≡ fine
     → length (blocksOf ps) ≡ filled true ps
 blocks-counted named ps h = counted-after ps 0 [] (blocks-filled named (blocksOf ps) h)
 
@@ -197,14 +197,14 @@ abbrev pub Parted : ℕ → ℕ → List Block → Type 0
 Parted start end [] = start ≡ end + 1
 Parted start end (b ∷ bs) = (b .first ≡ start) × Parted (b .first + b .operations + 1) end bs
 
-parted : (start end here : ℕ) (labels : List ℕ) (ps : List Part) (bs : List Block) → Blocked labels here ps bs
+parted : (start end here : ℕ) (labels : List ℕ) (ps : List Shape) (bs : List Block) → Blocked labels here ps bs
     → start ≡ here → end ≡ here + length ps → Parted start end bs
 parted start end here labels ps bs (final h) s e = (omega (arith, h .begins), omega (arith, h .begins, h .counted))
 parted start end here labels ps bs (followed {l = l} {ops = ops} {ps = qs} h q) s e =
     let all = length-append ops (name l ∷ qs) in
     (omega (arith, h .begins), parted _ end _ _ qs _ q (omega (arith, h .begins, h .counted)) (omega arith))
 
-leading-are : (labels : List ℕ) (rest : List Part) → leading rest ≡ 0
+leading-are : (labels : List ℕ) (rest : List Shape) → leading rest ≡ 0
     → (leading (map name labels ++ rest) ≡ length labels)
     × (length (map name labels ++ rest) ≡ length labels + length rest)
 unfolding leading
@@ -214,7 +214,7 @@ leading-are (l ∷ ls) rest h =
     (omega (arith, more .0), omega (arith, more .1))
 
 -- The first block begins behind the leading labels, each later one behind its label, and the last ends with the items.
-pub blocks-partition : (ps : List Part) → Parted (leading ps) (length ps) (blocksOf ps)
+pub blocks-partition : (ps : List Shape) → Parted (leading ps) (length ps) (blocksOf ps)
 blocks-partition ps =
     let p = blocks-are ps in
     let n = rw (← p .whole) at (leading-are (p .labels) (p .rest) (p .all-leading)) in

@@ -8,7 +8,7 @@ use native.Mathlib.Nat.{add-zero}
 use lib.ListN.{length, take}
 use lib.Seq.{sets, length-take-le}
 use Rattle.graph.specs.Records.{recorded}
-use Rattle.body.specs.Shapes.{Part, namesIn}
+use Rattle.body.specs.Shapes.{Shape, namesIn}
 use Rattle.link.specs.Blocks.{Block, blocksOf}
 use Rattle.link.specs.Edges.{Resolved, fine, refused, resolveD, successors}
 use Rattle.parser.specs.declared.Refusal.{Refusal}
@@ -30,7 +30,7 @@ numbered-done : (bs : List Block) (x : Resolved) (n : ℕ) → N.Done n ≡ numb
 numbered-done bs fine n h = (refl, cc)
 numbered-done bs (refused e) n h = let z : _≡_ {A = ℕ} 0 1 = cc in absurd (omega arith)
 
-pub link-refused : (ps : List Part) (named : ℕ) (e : Refusal)
+pub link-refused : (ps : List Shape) (named : ℕ) (e : Refusal)
     → N.Refused e ≡ numberedBy (blocksOf ps) (resolveD named (blocksOf ps)) → L.Refused e ≡ linkD named ps
 unfolding linkD
 link-refused ps named e h = rw (numbered-refused (blocksOf ps) (resolveD named (blocksOf ps)) e h)
@@ -40,7 +40,7 @@ module _ (items : List ℕ) (first count named base used : ℕ) (cells₀ cells 
     (closed : cells
     ≡ putClosed (blocksOf (partsAt items first count)) first cells₀ base (blocksOf (partsAt items first count)))
     (few : base + filled true (partsAt items first count) ≤ 1024) (room : 8192 ≤ length cells₀) (low : used ≤ base * 2) where
-  abbrev ps : List Part
+  abbrev ps : List Shape
   ps = partsAt items first count
 
   abbrev all : List Block

@@ -6,17 +6,17 @@ use mathlib.Core.Path.{_≡_, refl, ap}
 use mathlib.Core.List.{List, [], _∷_, _++_, map, append-nil, append-assoc}
 use native.Mathlib.Omega.{arith}
 use lib.ListN.{length, length-append}
-use Rattle.body.specs.Shapes.{Part, name, operation, namesIn}
+use Rattle.body.specs.Shapes.{Shape, name, operation, namesIn}
 use Rattle.link.specs.Blocks.{Block, fresh, grown, blocksFrom, blocksAfter, blocksOf}
 use Rattle.link.specs.Table.{leading}
 
 -- A block's token, and the labels that it goes to, are those of the last of its operations, if it has one.
-pub data Ends (b : Block) : List Part → Type 0 where
+pub data Ends (b : Block) : List Shape → Type 0 where
   empty : b .token ≡ 0 → b .goes ≡ [] → Ends b []
-  ending : (front : List Part) → Ends b (front ++ (operation (b .token) (b .goes) ∷ []))
+  ending : (front : List Shape) → Ends b (front ++ (operation (b .token) (b .goes) ∷ []))
 
 -- Block b has these labels and these operations, the first of them at index `at`.
-pub record Holds (labels : List ℕ) (at : ℕ) (ops : List Part) (b : Block) : Type 0 where
+pub record Holds (labels : List ℕ) (at : ℕ) (ops : List Shape) (b : Block) : Type 0 where
   pub named : b .labels ≡ labels
   pub begins : b .first ≡ at
   pub counted : b .operations ≡ length ops
@@ -25,16 +25,16 @@ pub record Holds (labels : List ℕ) (at : ℕ) (ops : List Part) (b : Block) : 
 
 -- The parts from index `at` on: the operations of a block that has these labels; then, for each later block, its one
 -- label and its operations.
-pub data Blocked : List ℕ → ℕ → List Part → List Block → Type 0 where
-  final : {labels : List ℕ} {at : ℕ} {ops : List Part} {b : Block} → Holds labels at ops b
+pub data Blocked : List ℕ → ℕ → List Shape → List Block → Type 0 where
+  final : {labels : List ℕ} {at : ℕ} {ops : List Shape} {b : Block} → Holds labels at ops b
       → Blocked labels at ops (b ∷ [])
-  followed : {labels : List ℕ} {at l : ℕ} {ops ps : List Part} {b : Block} {bs : List Block} → Holds labels at ops b
+  followed : {labels : List ℕ} {at l : ℕ} {ops ps : List Shape} {b : Block} {bs : List Block} → Holds labels at ops b
       → Blocked (l ∷ []) (at + length ops + 1) ps bs → Blocked labels at (ops ++ (name l ∷ ps)) (b ∷ bs)
 
 -- All parts: block 0's labels, which are the leading ones up to the first operation, then the rest.
-pub record Partition (ps : List Part) (bs : List Block) : Type 0 where
+pub record Partition (ps : List Shape) (bs : List Block) : Type 0 where
   pub labels : List ℕ
-  pub rest : List Part
+  pub rest : List Shape
   pub whole : ps ≡ map name labels ++ rest
   pub all-leading : leading rest ≡ 0
   pub blocked : Blocked labels (length labels) rest bs
@@ -46,14 +46,14 @@ unfolding namesIn
 holds-none labels at here e =
     record { named = refl; begins = e; counted = refl; no-label = refl; ends = empty refl refl }
 
-no-label-more : (ops : List Part) (w : ℕ) (goes : List ℕ) → namesIn ops ≡ []
+no-label-more : (ops : List Shape) (w : ℕ) (goes : List ℕ) → namesIn ops ≡ []
     → namesIn (ops ++ (operation w goes ∷ [])) ≡ []
 unfolding namesIn
 no-label-more [] w goes h = refl
 no-label-more (name l ∷ ops) w goes h = absurd (let z : _≡_ {A = ℕ} 0 1 = cc in omega arith)
 no-label-more (operation v g ∷ ops) w goes h = no-label-more ops w goes h
 
-holds-more : (labels : List ℕ) (at : ℕ) (ops : List Part) (b : Block) (w : ℕ) (goes : List ℕ) → Holds labels at ops b
+holds-more : (labels : List ℕ) (at : ℕ) (ops : List Shape) (b : Block) (w : ℕ) (goes : List ℕ) → Holds labels at ops b
     → Holds labels at (ops ++ (operation w goes ∷ [])) (grown b w goes)
 holds-more labels at ops b w goes h =
     record {
@@ -64,7 +64,7 @@ holds-more labels at ops b w goes h =
       ends = ending ops;
     }
 
-blocked-from : (ps ops : List Part) (labels : List ℕ) (at here : ℕ) (b : Block) → Holds labels at ops b
+blocked-from : (ps ops : List Shape) (labels : List ℕ) (at here : ℕ) (b : Block) → Holds labels at ops b
     → here ≡ at + length ops → Blocked labels at (ops ++ ps) (blocksFrom here b ps)
 unfolding blocksFrom
 blocked-from [] ops labels at here b h e = rw (append-nil ops) (final h)
@@ -77,12 +77,12 @@ blocked-from (operation w goes ∷ ps) ops labels at here b h e =
     (blocked-from ps (ops ++ o) labels at (here + 1) (grown b w goes) (holds-more labels at ops b w goes h)
     (omega (arith, length-append ops o)))
 
-name-moves : (labels : List ℕ) (l : ℕ) (ps : List Part)
+name-moves : (labels : List ℕ) (l : ℕ) (ps : List Shape)
     → map name labels ++ (name l ∷ ps) ≡ map name (labels ++ (l ∷ [])) ++ ps
 name-moves [] l ps = refl
 name-moves (k ∷ labels) l ps = ap (λ qs. name k ∷ qs) (name-moves labels l ps)
 
-partition-after : (ps : List Part) (labels : List ℕ) (here : ℕ) → here ≡ length labels
+partition-after : (ps : List Shape) (labels : List ℕ) (here : ℕ) → here ≡ length labels
     → Partition (map name labels ++ ps) (blocksAfter here labels ps)
 unfolding blocksAfter leading
 partition-after [] labels here e =
@@ -108,5 +108,5 @@ partition-after (operation w goes ∷ ps) labels here e =
     }
 
 -- Blocks partition the parts.
-pub blocks-are : (ps : List Part) → Partition ps (blocksOf ps)
+pub blocks-are : (ps : List Shape) → Partition ps (blocksOf ps)
 blocks-are ps = partition-after ps [] 0 refl

@@ -9,7 +9,7 @@ use lib.Dec.{eqb}
 use lib.ListN.{length, getD}
 use Rattle.utils.specs.Bytes.{pick}
 use Rattle.parser.specs.Labels.{has}
-use Rattle.body.specs.Shapes.{Part, name, operation, namesIn}
+use Rattle.body.specs.Shapes.{Shape, name, operation, namesIn}
 use Rattle.link.specs.Blocks.{Block, fresh, grown, blocksFrom, blocksAfter, blocksOf}
 use Rattle.link.specs.Edges.{Place, at, nowhere, placeOf, thenPlace, missing, places, Resolved, refused, resolveLabels}
 use Rattle.body.specs.Records.{goesBy, goesOf}
@@ -53,7 +53,7 @@ has-last (x ∷ ls) m l = rw (has-last ls m l) (by (eqb x l))
     by true = refl
     by false = refl
 
-place-from : (l before : ℕ) (ps : List Part) (here : ℕ) (b : Block) (k i : ℕ) → k + before ≡ i
+place-from : (l before : ℕ) (ps : List Shape) (here : ℕ) (b : Block) (k i : ℕ) → k + before ≡ i
     → placeOf (blocksFrom here b ps) l k ≡ pick (has (b .labels) l) (at k) (labelPlace before i (namesIn ps) l)
 unfolding placeOf blocksFrom labelPlace namesIn has
 place-from l before [] here b k i h = refl
@@ -62,7 +62,7 @@ place-from l before (name m ∷ ps) here b k i h =
     rw (ih, later-block before i k h, one-label (eqb m l) (at (k + 1)) (labelPlace before (i + 1) (namesIn ps) l))
 place-from l before (operation w goes ∷ ps) here b k i h = place-from l before ps (here + 1) (grown b w goes) k i h
 
-place-after : (l before : ℕ) (ps : List Part) (here : ℕ) (ls : List ℕ) (i : ℕ) → before ≡ i + leading ps
+place-after : (l before : ℕ) (ps : List Shape) (here : ℕ) (ls : List ℕ) (i : ℕ) → before ≡ i + leading ps
     → placeOf (blocksAfter here ls ps) l 0 ≡ pick (has ls l) (at 0) (labelPlace before i (namesIn ps) l)
 unfolding placeOf blocksAfter labelPlace namesIn leading
 place-after l before [] here ls i h = refl
@@ -74,11 +74,11 @@ place-after l before (operation w goes ∷ ps) here ls i h =
     place-from l before (operation w goes ∷ ps) here (fresh ls here) 0 i (omega arith)
 
 -- The block that has a label among its own is the one that the label's number tells.
-pub place-of-label : (ps : List Part) (l : ℕ) → placeOf (blocksOf ps) l 0 ≡ labelPlace (leading ps) 0 (namesIn ps) l
+pub place-of-label : (ps : List Shape) (l : ℕ) → placeOf (blocksOf ps) l 0 ≡ labelPlace (leading ps) 0 (namesIn ps) l
 unfolding has pick
 place-of-label ps l = place-after l (leading ps) ps 0 [] 0 (omega arith)
 
-pub same-place : (ps : List Part) (before : ℕ) (names : List ℕ) → before ≡ leading ps → names ≡ namesIn ps → (l : ℕ)
+pub same-place : (ps : List Shape) (before : ℕ) (names : List ℕ) → before ≡ leading ps → names ≡ namesIn ps → (l : ℕ)
     → placeOf (blocksOf ps) l 0 ≡ labelPlace before 0 names l
 same-place ps before names e f l = rw (e, f) (place-of-label ps l)
 

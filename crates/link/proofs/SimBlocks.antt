@@ -10,15 +10,15 @@ use Rattle.utils.specs.Bytes.{pick}
 use Rattle.parser.specs.Step.{refusal}
 use Rattle.body.specs.Body.{Item}
 use Rattle.body.specs.Body.{closedItems}
-use Rattle.body.specs.Shapes.{Part, partsOf}
+use Rattle.body.specs.Shapes.{Shape, shapesOf}
 use Rattle.link.specs.Blocks.{Block, fresh, grown, blocksFrom, blocksAfter, blocksOf}
 use Rattle.link.specs.Edges.{Place, placeOf, thenPlace, Resolved, resolveLabels, resolveFrom, resolveD}
 use Rattle.link.specs.Edges.{places, successors, predecessors, isDead}
 use Rattle.parser.specs.Moved.{Move, SimE, Each, SimNumber}
-use Rattle.body.specs.Moved.{SimItem, SimPart}
+use Rattle.body.specs.Moved.{SimItem, SimShape}
 use Rattle.link.specs.Moved.{SimBlock, SimResolved}
 use Rattle.parser.proofs.Sim.{hasS}
-use Rattle.body.proofs.SimItems.{closedItemsS, partsS}
+use Rattle.body.proofs.SimItems.{closedItemsS, shapesS}
 
 -- Blocks. -------------------------------------------------------------------------------------------------------------
 
@@ -47,29 +47,29 @@ grownS w q r l =
       goes = r;
     }
 
-pub blocksFromS : {m : Move} {n : ℕ} (at : ℕ) {b b′ : Block} {ps ps′ : List Part} → SimBlock m n b b′
-    → Each (SimPart m n) ps ps′
+pub blocksFromS : {m : Move} {n : ℕ} (at : ℕ) {b b′ : Block} {ps ps′ : List Shape} → SimBlock m n b b′
+    → Each (SimShape m n) ps ps′
     → Each (SimBlock m n) (blocksFrom at b ps) (blocksFrom at b′ ps′)
 unfolding blocksFrom
 blocksFromS at q Each.none = Each.more q Each.none
-blocksFromS at q (Each.more (SimPart.name l) r) =
+blocksFromS at q (Each.more (SimShape.name l) r) =
     Each.more q (blocksFromS (at + 1) (freshS (at + 1) (Each.more l Each.none)) r)
-blocksFromS at q (Each.more (SimPart.operation w goes h) r) = blocksFromS (at + 1) (grownS w q goes h) r
+blocksFromS at q (Each.more (SimShape.operation w goes h) r) = blocksFromS (at + 1) (grownS w q goes h) r
 
 appendS : {m : Move} {xs xs′ : List ℕ} {l l′ : ℕ} → Each (SimNumber m) xs xs′ → SimNumber m l l′
     → Each (SimNumber m) (xs ++ (l ∷ [])) (xs′ ++ (l′ ∷ []))
 appendS Each.none q = Each.more q Each.none
 appendS (Each.more p r) q = Each.more p (appendS r q)
 
-pub blocksAfterS : {m : Move} {n : ℕ} (at : ℕ) {ls ls′ : List ℕ} {ps ps′ : List Part} → Each (SimNumber m) ls ls′
-    → Each (SimPart m n) ps ps′ → Each (SimBlock m n) (blocksAfter at ls ps) (blocksAfter at ls′ ps′)
+pub blocksAfterS : {m : Move} {n : ℕ} (at : ℕ) {ls ls′ : List ℕ} {ps ps′ : List Shape} → Each (SimNumber m) ls ls′
+    → Each (SimShape m n) ps ps′ → Each (SimBlock m n) (blocksAfter at ls ps) (blocksAfter at ls′ ps′)
 unfolding blocksAfter
 blocksAfterS at q Each.none = Each.more (freshS at q) Each.none
-blocksAfterS at q (Each.more (SimPart.name l) r) = blocksAfterS (at + 1) (appendS q l) r
-blocksAfterS at q (Each.more (SimPart.operation w goes h) r) =
-    blocksFromS at (freshS at q) (Each.more (SimPart.operation w goes h) r)
+blocksAfterS at q (Each.more (SimShape.name l) r) = blocksAfterS (at + 1) (appendS q l) r
+blocksAfterS at q (Each.more (SimShape.operation w goes h) r) =
+    blocksFromS at (freshS at q) (Each.more (SimShape.operation w goes h) r)
 
-pub blocksS : {m : Move} {n : ℕ} {ps ps′ : List Part} → Each (SimPart m n) ps ps′
+pub blocksS : {m : Move} {n : ℕ} {ps ps′ : List Shape} → Each (SimShape m n) ps ps′
     → Each (SimBlock m n) (blocksOf ps) (blocksOf ps′)
 blocksS r = blocksAfterS 0 Each.none r
 
@@ -150,5 +150,5 @@ deadS j s = ap (λ (tss : List (List ℕ)). isDead j tss) (edgesS s)
 
 -- the blocks of a body, from its items
 pub bodyBlocksS : {m : Move} {n : ℕ} (void : Bool) {is is′ : List Item} → Each (SimItem m n) is is′
-    → Each (SimBlock m n) (blocksOf (partsOf (closedItems void is))) (blocksOf (partsOf (closedItems void is′)))
-bodyBlocksS void r = blocksS (partsS (closedItemsS void r))
+    → Each (SimBlock m n) (blocksOf (shapesOf (closedItems void is))) (blocksOf (shapesOf (closedItems void is′)))
+bodyBlocksS void r = blocksS (shapesS (closedItemsS void r))

@@ -9,7 +9,7 @@ use lib.ListN.{length, getD}
 use lib.Seq.{sets}
 use Rattle.graph.specs.Records.{blockRecord, cellsOf}
 use Rattle.graph.specs.declared.BlockRecord.{BlockRecord}
-use Rattle.body.specs.Shapes.{Part}
+use Rattle.body.specs.Shapes.{Shape}
 use Rattle.link.specs.Blocks.{Block, blocksOf}
 use Rattle.link.specs.Edges.{Resolved, fine, refused, resolveD, successors, predecessors, isDead}
 use Rattle.link.specs.declared.Linked.{Linked}
@@ -44,18 +44,18 @@ abbrev pub linkedBy : List Block → Resolved → Linked
 linkedBy bs fine = L.Done (length bs) (length (predecessorCells 0 (successors bs bs) bs))
 linkedBy bs (refused e) = L.Refused e
 
-unfoldable pub linkD : ℕ → List Part → Linked
+unfoldable pub linkD : ℕ → List Shape → Linked
 linkD name ps = linkedBy (blocksOf ps) (resolveD name (blocksOf ps))
 
 -- The records stand from the record `base` on, the predecessors from `used` on. A refusal says nothing of them.
-pub record Linking (ps : List Part) (first base used : ℕ) (blocks₀ blocks predecessors₀ preds : List ℕ) : Type 0 where
+pub record Linking (ps : List Shape) (first base used : ℕ) (blocks₀ blocks predecessors₀ preds : List ℕ) : Type 0 where
   pub blocks-are : blocks ≡ sets blocks₀ (base * 8)
       (blockCells first used 0 (successors (blocksOf ps) (blocksOf ps)) (successors (blocksOf ps) (blocksOf ps))
       (blocksOf ps))
   pub predecessors-are : preds ≡ sets predecessors₀ used
       (predecessorCells 0 (successors (blocksOf ps) (blocksOf ps)) (blocksOf ps))
 
-abbrev pub LinkHeld : (ps : List Part) (first base used : ℕ) (blocks₀ blocks predecessors₀ preds : List ℕ) → Linked
+abbrev pub LinkHeld : (ps : List Shape) (first base used : ℕ) (blocks₀ blocks predecessors₀ preds : List ℕ) → Linked
     → Type 0
 LinkHeld ps first base used blocks₀ blocks predecessors₀ preds (L.Done n m) =
     Linking ps first base used blocks₀ blocks predecessors₀ preds

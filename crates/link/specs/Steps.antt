@@ -10,7 +10,7 @@ use Rattle.utils.specs.Bytes.{pick}
 use Rattle.graph.specs.Records.{blockRecord, cellsOf, blockAt}
 use Rattle.graph.specs.declared.BlockId.{BlockId}
 use Rattle.graph.specs.declared.BlockRecord.{BlockRecord}
-use Rattle.body.specs.Shapes.{Part, name, operation, namesIn}
+use Rattle.body.specs.Shapes.{Shape, name, operation, namesIn}
 use Rattle.link.specs.Blocks.{Block}
 use Rattle.link.specs.Edges.{Place, at, nowhere, missing, places, Resolved, fine, refused, predecessors}
 use Rattle.parser.specs.declared.Refusal.{Refusal}
@@ -93,7 +93,7 @@ goesD before names r = leadsBy before names (r .kind) (r .token) (r .last)
 -- Blocks. -----------------------------------------------------------------------------------------------------------
 
 -- how many operations stand before the next label
-unfoldable pub run : List Part → ℕ
+unfoldable pub run : List Shape → ℕ
 run [] = 0
 run (name l ∷ ps) = 0
 run (operation w goes ∷ ps) = run ps + 1

@@ -5,11 +5,11 @@ use Prim.Native.Nat.{ℕ, _+_, _-_}
 use mathlib.Core.List.{List, [], _∷_}
 use lib.Dec.{ltb, eqb}
 use Rattle.utils.specs.Bytes.{pick}
-use Rattle.body.specs.Shapes.{Part, name, operation}
+use Rattle.body.specs.Shapes.{Shape, name, operation}
 use Rattle.link.specs.Edges.{Place, at, nowhere}
 
 -- how many labels stand before the first operation
-unfoldable pub leading : List Part → ℕ
+unfoldable pub leading : List Shape → ℕ
 leading [] = 0
 leading (name l ∷ ps) = leading ps + 1
 leading (operation w goes ∷ ps) = 0

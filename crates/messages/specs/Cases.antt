@@ -1,5 +1,5 @@
 -- What no text shows of the messages, computed: the words for types that no refusal names, and that every word and sign
--- is shown as the lexer reads it. (Messages of texts are replayed, byte for byte, by crates/checks.)
+-- is shown as the lexer reads it. (Messages of texts are replayed, byte for byte, by crates/replay_check.)
 use Prim.Native.Nat.{ℕ}
 use mathlib.Core.Path.{_≡_, refl}
 use mathlib.Core.List.{List, [], _∷_}

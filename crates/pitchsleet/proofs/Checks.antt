@@ -11,7 +11,7 @@ use lib.Seq.{sets, sets-eq}
 use Rattle.utils.specs.Bytes.{pick, padTo}
 use Rattle.utils.proofs.Runs.{sets-append}
 use Rattle.functions.specs.Answer.{Slices, slices}
-use Rattle.typing.specs.Outcome.{asLong}
+use Rattle.unit.specs.Outcome.{asLong}
 use Rattle.checker.specs.Check.{Checking, checkOf}
 use Rattle.checker.specs.Promise.{padded, sized, sizedUnit as sizedFive}
 use Rattle.checker.specs.Promise as cells

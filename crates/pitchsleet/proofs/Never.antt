@@ -17,7 +17,7 @@ use Rattle.lexer.specs.Sound.{Sound}
 use Rattle.lexer.proofs.Sound.{read-sound}
 use Rattle.lexer.proofs.Cells.{length-tokens-cells, length-names-cells}
 use Rattle.functions.specs.Columns.{retAt, typeAt, countAt, blockCountAt, placeAt, lengthAt, lineAt, formalTypeAt}
-use Rattle.checker.specs.Check.{Checking, refusal, checkOf}
+use Rattle.checker.specs.Check.{Checking, checkRefusal, checkOf}
 use Rattle.headers.specs.Ranges.{RowInRange, TableInRange}
 use Rattle.checker.specs.Numbers.{Accepts}
 use Rattle.checker.specs.declared.CheckAnswer.{CheckAnswer}
@@ -182,7 +182,8 @@ table-cut k x t n =
 -- an answer that isn't 30 has passed the gate
 module _ (o₀ m₀ : List ℕ) (x : Checking) (r : CheckAnswer) (o m : List ℕ) where
   passed-by : (a b : Bool)
-      → Gives (pick a (export (refusal 30 0 0) o₀ m₀) (pick b (export (refusal 30 0 0) o₀ m₀) (exported o₀ m₀ x))) r o m
+      → Gives (pick a (export (checkRefusal 30 0 0) o₀ m₀) (pick b (export (checkRefusal 30 0 0) o₀ m₀)
+      (exported o₀ m₀ x))) r o m
       → (r .number ≡ 30 → ⊥) → (r ≡ x .answer) × (o ≡ padTo (length o₀) (bytesOf x))
   unfolding pick
   passed-by true b g k = absurd (k (ap (λ (a : CheckAnswer). a .number) (g .answer)))

@@ -5,7 +5,7 @@ use mathlib.Core.List.{List, [], _∷_, _++_}
 use lib.Dec.{ltb}
 use lib.ListN.{length}
 use Rattle.utils.specs.Bytes.{pick, padTo}
-use Rattle.lexer.specs.Read.{Reading, refusal, readOf}
+use Rattle.lexer.specs.Read.{Reading, readRefusal, readOf}
 use Rattle.lexer.specs.declared.ReadAnswer.{ReadAnswer}
 
 -- a cell as four bytes, the lowest first
@@ -37,7 +37,7 @@ exported o m x = export (x .answer) (padTo (length o) (bytesOf x)) (padTo (lengt
 -- than its size, and then nothing is written.
 unfoldable pub exportDef : List ℕ → List ℕ → List ℕ → Export
 exportDef text o m =
-    let short = export (refusal 30 0 0) o m in
+    let short = export (readRefusal 30 0 0) o m in
     pick (ltb (length o) 73728) short (pick (ltb (length m) 512) short (exported o m (readOf text)))
 
 -- THE PROMISE, by parts with names.

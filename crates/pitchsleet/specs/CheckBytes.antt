@@ -6,7 +6,7 @@ use lib.Dec.{ltb}
 use lib.ListN.{length}
 use Rattle.utils.specs.Bytes.{pick, padTo}
 use Rattle.functions.specs.Answer.{Slices}
-use Rattle.checker.specs.Check.{Checking, refusal, checkOf}
+use Rattle.checker.specs.Check.{Checking, checkRefusal, checkOf}
 use Rattle.checker.specs.declared.CheckAnswer.{CheckAnswer}
 use Rattle.pitchsleet.specs.Bytes.{le32s}
 
@@ -49,7 +49,7 @@ exported o m x = export (x .answer) (padTo (length o) (bytesOf x)) (padTo (lengt
 -- when one of them is shorter than its size, and then nothing is written.
 abbrev pub gated : List ℕ → List ℕ → Checking → Export
 gated o m x =
-    let short = export (refusal 30 0 0) o m in
+    let short = export (checkRefusal 30 0 0) o m in
     pick (ltb (length o) 252228) short (pick (ltb (length m) 512) short (exported o m x))
 
 unfoldable pub exportDef : List ℕ → List ℕ → List ℕ → Export

@@ -4,7 +4,7 @@ ghost use Prim.Native.Nat.{ℕ, _≤_};
 ghost use lib.ListN.{length};
 ghost use Rattle.utils.specs.Bytes.{padTo};
 ghost use Rattle.functions.specs.Answer.{slices};
-ghost use Rattle.checker.specs.Check.{checkOf, refusal};
+ghost use Rattle.checker.specs.Check.{checkOf, checkRefusal};
 ghost use Rattle.pitchsleet.specs.CheckBytes.{cellBytes, Sizes, export, exported};
 use checker::CheckAnswer;
 
@@ -81,7 +81,7 @@ pub fn check_out(
 }
 
 pub fn short() -> CheckAnswer
-    ensures { λ r. ⌜ r ≡ refusal 30 0 0 ⌝ }
+    ensures { λ r. ⌜ r ≡ checkRefusal 30 0 0 ⌝ }
 {
     CheckAnswer {
         number: 30,

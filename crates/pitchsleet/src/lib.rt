@@ -6,7 +6,7 @@ ghost use mathlib.Core.Path.{_≡_};
 ghost use Prim.Native.Nat.{ℕ, _+_, _-_, _*_, _<_, _≤_};
 ghost use lib.ListN.{length, replicate};
 ghost use lib.Seq.{sets};
-ghost use Rattle.lexer.specs.Read.{readOf, refusal};
+ghost use Rattle.lexer.specs.Read.{readOf, readRefusal};
 ghost use Rattle.pitchsleet.specs.Bytes.{le32, le32s, export, exported, Exports};
 ghost use Rattle.pitchsleet.specs.CheckBytes as checks;
 ghost use Rattle.pitchsleet.specs.RecheckBytes as again;
@@ -52,7 +52,7 @@ fn clear_from(out: &mut [u8], from: usize)
 }
 
 fn short() -> ReadAnswer
-    ensures { λ r. ⌜ r ≡ refusal 30 0 0 ⌝ }
+    ensures { λ r. ⌜ r ≡ readRefusal 30 0 0 ⌝ }
 {
     ReadAnswer {
         number: 30,

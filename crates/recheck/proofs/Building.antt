@@ -27,15 +27,15 @@ use Rattle.functions.proofs.Standing.{row-first, row-items}
 use Rattle.sema.specs.Symbols.{Typed}
 use Rattle.sema.specs.Typing.{Global}
 use Rattle.sema.specs.Globals.{globalsIn}
-use Rattle.sema.specs.Blocks.{rowD}
+use Rattle.sema.specs.Blocks.{typeRowD}
 use Rattle.sema.specs.Program.{functionTyped}
 use Rattle.sema.specs.declared.Checked.{Checked}
 use Rattle.sema.specs.declared.Checked.the-variants as K
 use Rattle.sema.proofs.Stored.{row-typed}
 use Rattle.elaborate.specs.Types.{calleeOf, typedItems, typedCalls, typedItemsCells, typedArgumentsCells}
 use Rattle.elaborate.proofs.Lists.{items-typed, calls-typed, length-typed-items, length-typed-arguments}
-use Rattle.typing.specs.Outcome.{untyped, none, allItems, allArguments, asLong, cleared, Counted}
-use Rattle.typing.specs.Rows.{Done, done, thenRow, typedRows, RowsFit, HeldBy, RowsHeld}
+use Rattle.unit.specs.Outcome.{untyped, none, allItems, allArguments, asLong, cleared, Counted}
+use Rattle.unit.specs.Rows.{Done, done, thenRow, typedRows, RowsFit, HeldBy, RowsHeld}
 use Rattle.headers.specs.Table.{isTable}
 use Rattle.headers.specs.Spelled.{rowName, globalsSpelled, calleesSpelled, Named}
 use Rattle.headers.specs.Kept.{keeps}
@@ -96,7 +96,7 @@ module _ (ts : List Tok) (names rows : List ℕ) (count place : ℕ) (g : Functi
     abbrev one : Typed
     one = functionTyped ts globals g untyped
 
-    typed : rowD ts rows count items args blocks place untyped ≡ one
+    typed : typeRowD ts rows count items args blocks place untyped ≡ one
     typed =
         row-typed ts names (counts place 0 0 0 0) g rows items args blocks count globals untyped more zi za zb
         globals-are stands items-stand args-stand blocks-stand fits

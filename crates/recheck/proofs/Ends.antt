@@ -17,8 +17,8 @@ use Rattle.functions.specs.Columns.{typeAt, lineAt}
 use Rattle.functions.specs.Answer.{Slices, countsFrom}
 use Rattle.functions.specs.declared.Counts.{Counts}
 use Rattle.functions.specs.declared.ProgramRead.the-variants as U
-use Rattle.typing.specs.Outcome.{none, asLong, cleared}
-use Rattle.checker.specs.Check.{Checking, accepted, refusal}
+use Rattle.unit.specs.Outcome.{none, asLong, cleared}
+use Rattle.checker.specs.Check.{Checking, accepted, checkRefusal}
 use Rattle.checker.specs.Promise.{checking, padded, Lexed, Refuses}
 use Rattle.checker.specs.declared.CheckAnswer.{CheckAnswer}
 use Rattle.checker.proofs.Lexed.{no-message, is-done, used-names, read-names, unpadded, first-tokens, first-names}
@@ -112,7 +112,7 @@ named-now {line} {new} {r = r} v =
     subst (λ (l : List ℕ). Named new l (r .names)) (sym (used-names v ∙ read-names v ∙ sym (unpadded (namesCells (d .ns)))))
     (subst (Named new (padTo 0 (namesCells (d .ns)))) (sym (d .counted-names)) (accepted-named new line 0 (d .ts) (d .ns) (d .sound)))
 
--- a refusal by the cells in use is one by the reading
+-- a checkRefusal by the cells in use is one by the reading
 pub as-read : {line : ℕ} {new m t n : List ℕ} {r : ReadAnswer} (v : Lexed line new r m t n) {e : Refusal} {m₀ t₀ n₀ : List ℕ}
     {res : CheckAnswer} {m′ t′ n′ : List ℕ}
     → Refuses new (take (r .names * 2) n) (tokensOf (take (r .tokens * 4) t)) e m₀ t₀ n₀ res m′ t′ n′
@@ -165,7 +165,7 @@ module _ (line : ℕ) (new t₀ n₀ m₀ : List ℕ) (r : ReadAnswer) (t n m : 
 
   pub not-lexed : (old table : List ℕ) (number : ℕ) → isTable old table number ≡ true → line ≡ getD table (lineAt number) 0
       → (r .number ≡ 0 → ⊥) → (u u′ : Slices) → u′ ≡ cleared u
-      → checking (refusal (r .number) (r .line) (r .place)) m t n u′ ≡ padded m₀ t₀ n₀ u (recheckOf old table number new)
+      → checking (checkRefusal (r .number) (r .line) (r .place)) m t n u′ ≡ padded m₀ t₀ n₀ u (recheckOf old table number new)
   unfolding recheckOf pick
   not-lexed old table number good same z u u′ e =
       let z′ : readFrom line new .answer .number ≡ 0 → ⊥ = λ q. z (ap (λ (a : ReadAnswer). a .number) answer-is ∙ q) in

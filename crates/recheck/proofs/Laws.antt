@@ -14,8 +14,8 @@ use Rattle.lexer.specs.Read.{readOf}
 use Rattle.lexer.proofs.Sound.{read-sound}
 use Rattle.functions.specs.Answer.{Slices}
 use Rattle.functions.proofs.Laid.{functions-counted}
-use Rattle.typing.specs.Outcome.{none}
-use Rattle.checker.specs.Check.{Checking, refusal, checkOf}
+use Rattle.unit.specs.Outcome.{none}
+use Rattle.checker.specs.Check.{Checking, checkRefusal, checkOf}
 use Rattle.checker.specs.Promise.{checking, padded, sized, sizedUnit, allSized, checkDef, Checks}
 use Rattle.checker.specs.Numbers.{Accepts, Numbered}
 use Rattle.checker.specs.declared.CheckAnswer.{CheckAnswer}
@@ -48,7 +48,7 @@ module _ (old table : List ℕ) (number : ℕ) (new : List ℕ) where
   -- A SLICE SHORTER THAN ITS SIZE: 30, and every slice as it was
   pub short-unwritten : (m₀ t₀ n₀ : List ℕ) (u₀ : Slices) {r : CheckAnswer} {m t n : List ℕ} {u : Slices}
       → allSized m₀ t₀ n₀ u₀ ≡ false → Rechecks old table number new m₀ t₀ n₀ u₀ r m t n u
-      → checking r m t n u ≡ checking (refusal 30 0 0) m₀ t₀ n₀ u₀
+      → checking r m t n u ≡ checking (checkRefusal 30 0 0) m₀ t₀ n₀ u₀
   short-unwritten m₀ t₀ n₀ u₀ s a = as-whole a ∙ gate-gives-thirty old table number new m₀ t₀ n₀ u₀ s
 
 -- The table of an accepted check. ------------------------------------------------------------------------------------

@@ -30,7 +30,7 @@ use Rattle.functions.specs.Columns.{typeAt, lineAt}
 use Rattle.functions.specs.Answer.{Slices}
 use Rattle.sema.specs.Symbols.{Typed}
 use Rattle.sema.specs.Typing.{Global}
-use Rattle.typing.specs.Outcome.{untyped}
+use Rattle.unit.specs.Outcome.{untyped}
 use Rattle.checker.specs.Check as check
 use Rattle.checker.specs.Check.{Checking}
 use Rattle.checker.specs.Promise.{checking, allSized}

@@ -14,7 +14,7 @@ use Rattle.functions.specs.Answer.{Slices, countsFrom, functionRead, FunctionHe
 use Rattle.functions.specs.declared.Counts.{Counts}
 use Rattle.functions.specs.declared.FunctionRead.the-variants as F
 use Rattle.functions.specs.declared.ProgramRead.the-variants as U
-use Rattle.typing.specs.Outcome.{none}
+use Rattle.unit.specs.Outcome.{none}
 use Rattle.recheck.specs.Recheck.{aloneD}
 use Rattle.recheck.specs.Alone.{aloneRead}
 

@@ -28,7 +28,7 @@ use Rattle.sema.specs.Typing.{global}
 use Rattle.sema.specs.Globals.{rowGlobal, globalsIn}
 use Rattle.sema.specs.declared.FoundRow.the-variants as W
 use Rattle.elaborate.specs.Types.{calleeOf}
-use Rattle.typing.specs.Rows.{RowsFit}
+use Rattle.unit.specs.Rows.{RowsFit}
 use Rattle.headers.specs.Spelled.{rowName, nameSpelled, globalsSpelled, calleesSpelled, Named}
 use Rattle.headers.specs.Kept.{keeps}
 use Rattle.recheck.specs.Recheck.{aloneD, retyped}

@@ -10,7 +10,7 @@ use Rattle.functions.specs.Columns.{rowAt, typeAt}
 use Rattle.functions.specs.Answer.{Slices, countsFrom}
 use Rattle.functions.specs.declared.ProgramRead.{ProgramRead}
 use Rattle.functions.specs.declared.ProgramRead.the-variants as U
-use Rattle.typing.specs.Outcome.{none, asLong}
+use Rattle.unit.specs.Outcome.{none, asLong}
 use Rattle.recheck.specs.Recheck.{Verdict, refuses, accepts, verdictSlices}
 use Rattle.headers.specs.Brought.{cellsFrom, brought, broughtFrom, headersBrought}
 use Rattle.headers.specs.declared.Placed.{Placed}

@@ -18,7 +18,7 @@ use Rattle.functions.specs.Rows.{typesAt}
 use Rattle.functions.specs.Laid.{rowsCells, allBlocks, allPredecessors}
 use Rattle.elaborate.specs.Types.{calleeIn, isCall, typedLast, typedRecord, typedItemsCells, typedVariables}
 use Rattle.elaborate.specs.Types.{typedArgumentsCells}
-use Rattle.typing.specs.Outcome.{unitD, tablesOf, allItems, allArguments}
+use Rattle.unit.specs.Outcome.{unitD, tablesOf, allItems, allArguments}
 use Rattle.checker.specs.Check.{Checking, checkOf}
 use Rattle.headers.specs.Table.{between, formalsFit, nameFits, typeFits, rowFits, rowsFit, isTable}
 use Rattle.headers.specs.Spelled.{rowName, rowSpelled}

@@ -22,7 +22,7 @@ use Rattle.sema.specs.Typing.{Global}
 use Rattle.sema.specs.Program.{functionTyped}
 use Rattle.sema.specs.declared.Checked.{Checked}
 use Rattle.sema.specs.declared.Checked.the-variants as K
-use Rattle.typing.specs.Outcome.{untyped, none, slicesOf}
+use Rattle.unit.specs.Outcome.{untyped, none, slicesOf}
 use Rattle.checker.specs.Check.{Checking, accepted, refusing, refusedAt}
 use Rattle.headers.specs.Table.{isTable}
 use Rattle.headers.specs.Kept.{isWhole, keeps}

@@ -7,7 +7,7 @@ ghost use Rattle.lexer.specs.Decoded.{tokensOf};
 ghost use Rattle.body.specs.Room.{Within};
 ghost use Rattle.functions.specs.Columns.{typeAt};
 ghost use Rattle.functions.specs.Answer.{Long, slices, FunctionHeld};
-ghost use Rattle.typing.specs.Outcome.{none, cleared, asLong, Counted};
+ghost use Rattle.unit.specs.Outcome.{none, cleared, asLong, Counted};
 ghost use Rattle.headers.specs.Table.{isTable};
 ghost use Rattle.headers.specs.Spelled.{Named, calleesSpelled};
 ghost use Rattle.recheck.specs.Recheck.{aloneD, verdictD, verdictSlices};
@@ -20,8 +20,8 @@ use headers::Placed;
 use headers::bring;
 use headers::kept;
 use sema::Checked;
-use typing::clear;
-use typing::types;
+use unit::clear;
+use unit::types;
 use utils::cell_at;
 
 // One function from the first token on, and nothing behind it.

@@ -18,7 +18,7 @@ use headers::kept;
 use headers::table;
 use lexer::ReadAnswer;
 use pieces::Location;
-use typing::clear;
+use unit::clear;
 use utils::cell_at;
 
 // Document 01's numbers.

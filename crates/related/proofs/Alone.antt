@@ -37,7 +37,7 @@ use Rattle.sema.specs.Program.{globalsOf, functionTyped}
 use Rattle.sema.specs.Symbols.{Typed}
 use Rattle.sema.specs.declared.Checked.{Checked}
 use Rattle.sema.specs.declared.Checked.the-variants as K
-use Rattle.typing.specs.Outcome.{refused, afterTyping, unitD, untyped}
+use Rattle.unit.specs.Outcome.{refused, afterTyping, unitD, untyped}
 use Rattle.recheck.specs.Recheck.{refuses, afterTyping as asTyped, typedAs, aloneD, functionAlone}
 use Rattle.recheck.specs.Recheck.{retyped}
 use Rattle.related.specs.Tables.{SameGlobals, SimChecked, SimTyped, SameHead}

@@ -24,10 +24,10 @@ use Rattle.functions.specs.Functions.{functionsD, programD}
 use Rattle.functions.specs.Moved.{SimKnown, SimFunction, SimProgram}
 use Rattle.functions.proofs.SimFunctions.{formalTypesS, functionsS}
 use Rattle.sema.specs.Typing.{Global}
-use Rattle.sema.specs.Program.{globalsOf, programD as typedD}
+use Rattle.sema.specs.Program.{globalsOf, typeProgramD as typedD}
 use Rattle.sema.specs.declared.Checked.{Checked}
 use Rattle.sema.specs.declared.Checked.the-variants as K
-use Rattle.typing.specs.Outcome.{checked, refused, afterTyping, afterParsing, unitD, untyped}
+use Rattle.unit.specs.Outcome.{checked, refused, afterTyping, afterParsing, unitD, untyped}
 use Rattle.related.specs.Tables.{Tables, SameGlobals, SameHead, All}
 use Rattle.related.specs.Runs.{Place, start, behindOne, behindAll, functionHere, functionsHere, allThen}
 use Rattle.related.specs.Edited.{Fits, Edited, Replaced, EditedBehind, EditedRead}

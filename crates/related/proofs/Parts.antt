@@ -9,7 +9,7 @@ use Rattle.sema.specs.Typing.{Global}
 use Rattle.sema.specs.Program.{functionTyped}
 use Rattle.sema.specs.declared.Checked.{Checked}
 use Rattle.sema.specs.declared.Checked.the-variants as K
-use Rattle.typing.specs.Outcome.{untyped}
+use Rattle.unit.specs.Outcome.{untyped}
 use Rattle.recheck.specs.Recheck.{refuses, accepts, afterTyping, typedAs, aloneD, functionAlone}
 
 -- it is read, its typing is fine, and leaves this table

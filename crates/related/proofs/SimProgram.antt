@@ -16,14 +16,14 @@ use Rattle.link.specs.Moved.{SimBlock}
 use Rattle.parser.specs.declared.Variable.{Variable}
 use Rattle.parser.proofs.Sim.{eqbS}
 use Rattle.body.proofs.SimBody.{number-of, token-moved, token-below, terminator-kept}
-use Rattle.body.proofs.SimItems.{countS, partsS}
+use Rattle.body.proofs.SimItems.{countS, shapesS}
 use Rattle.link.proofs.SimBlocks.{blocksS, edgesS}
 use Rattle.functions.specs.Functions.{Function, blocksIn}
 use Rattle.functions.specs.Moved.{SimFunction}
 use Rattle.functions.proofs.SimFunctions.{formalTypesS}
 use Rattle.sema.specs.Typing.{Global}
-use Rattle.sema.specs.Blocks.{itemsD, endD, blockD, formalsD, blocksD, typeFunctionD}
-use Rattle.sema.specs.Program.{globalsOf, numbered, orderedBlocks, programD, functionTyped}
+use Rattle.sema.specs.Blocks.{typeItemsD, typeEndD, typeBlockD, enterFormalsD, typeBlocksD, typeFunctionD}
+use Rattle.sema.specs.Program.{globalsOf, numbered, orderedBlocks, typeProgramD, functionTyped}
 use Rattle.related.specs.Tables.{Tables, SimTyped, SameGlobals, SameHead, Apart}
 use Rattle.related.proofs.SimTyping.{onS, pickS, thenTypedS, enterS, plainStopS, analyzeS}
 
@@ -50,8 +50,8 @@ each-map f (Each.more {x} {x′} q r) = Each.more (f x x′ q) (each-map f r)
 
 -- 21, with the last item's token
 pub endS : {m : Move} {n : ℕ} {t t′ : List ℕ} {is is′ : List Item} → Tables m t t′ → Each (SimItem m n) is is′
-    → SimTyped m n (endD t is) (endD t′ is′)
-unfolding endD
+    → SimTyped m n (typeEndD t is) (typeEndD t′ is′)
+unfolding typeEndD
 endS q Each.none = onS q
 endS {m} q (Each.more i Each.none) =
     rw (terminator-kept i, token-moved i) (pickS m _ _ _ _ _ (onS q) (plainStopS _ (token-below i) q 21))
@@ -60,26 +60,26 @@ endS q (Each.more i (Each.more j r)) = endS q (Each.more j r)
 module _ {m : Move} {n : ℕ} {ts ts′ : List Tok} (s : Sim m n ts ts′) {globals globals′ : ℕ → Global}
     (f : SameGlobals m globals globals′) (ret : ℕ) where
   pub itemsS : {t t′ : List ℕ} {is is′ : List Item} → Tables m t t′ → Each (SimItem m n) is is′
-      → SimTyped m n (itemsD ts globals ret t is) (itemsD ts′ globals′ ret t′ is′)
-  unfolding itemsD
+      → SimTyped m n (typeItemsD ts globals ret t is) (typeItemsD ts′ globals′ ret t′ is′)
+  unfolding typeItemsD
   itemsS q Each.none = onS q
   itemsS q (Each.more i r) = thenTypedS m _ _ _ _ (analyzeS s q ret f i) (λ u u′ p. itemsS p r)
 
   pub blockS : {t t′ : List ℕ} {is is′ : List Item} → Tables m t t′ → Each (SimItem m n) is is′
-      → SimTyped m n (blockD ts globals ret t is) (blockD ts′ globals′ ret t′ is′)
-  unfolding blockD
+      → SimTyped m n (typeBlockD ts globals ret t is) (typeBlockD ts′ globals′ ret t′ is′)
+  unfolding typeBlockD
   blockS q r = thenTypedS m _ _ _ _ (itemsS q r) (λ u u′ p. endS p r)
 
   pub blocksS′ : {t t′ : List ℕ} {bs bs′ : List (List Item)} → Tables m t t′ → Each (Each (SimItem m n)) bs bs′
-      → SimTyped m n (blocksD ts globals ret t bs) (blocksD ts′ globals′ ret t′ bs′)
-  unfolding blocksD
+      → SimTyped m n (typeBlocksD ts globals ret t bs) (typeBlocksD ts′ globals′ ret t′ bs′)
+  unfolding typeBlocksD
   blocksS′ q Each.none = onS q
   blocksS′ q (Each.more b r) = thenTypedS m _ _ _ _ (blockS q b) (λ u u′ p. blocksS′ p r)
 
 pub formalsS : {m : Move} {n : ℕ} {t t′ : List ℕ} (token : ℕ) {vs vs′ : List Variable} → token < n → Tables m t t′
     → Each (SimV m) vs vs′
-    → SimTyped m n (formalsD t (m .by + token) vs) (formalsD t′ token vs′)
-unfolding formalsD
+    → SimTyped m n (enterFormalsD t (m .by + token) vs) (enterFormalsD t′ token vs′)
+unfolding enterFormalsD
 formalsS token l q Each.none = onS q
 formalsS {m} token l q (Each.more (SimV.of v type) r) =
     thenTypedS m _ _ _ _ (enterS token l q (typeCell type) v) (λ u u′ p. formalsS token l p r)
@@ -125,7 +125,7 @@ orderS {bs = bs} {bs′} s =
 pub orderedBlocksS : {m : Move} {n : ℕ} {is is′ : List Item} → Each (SimItem m n) is is′
     → Each (Each (SimItem m n)) (orderedBlocks is) (orderedBlocks is′)
 orderedBlocksS {m} {n} {is} {is′} r =
-    let s : Each (SimBlock m n) (blocksIn is) (blocksIn is′) = blocksS (partsS r) in
+    let s : Each (SimBlock m n) (blocksIn is) (blocksIn is′) = blocksS (shapesS r) in
     rw (orderS s) (numberedS _ r s)
 
 -- All functions. -----------------------------------------------------------------------------------------------------
@@ -170,8 +170,8 @@ functionTypedS {f′ = f′} s g q p =
 pub programS : {m : Move} {n : ℕ} {ts ts′ : List Tok} {all all′ : List Function} {blank blank′ : List ℕ}
     {fs fs′ : List Function} → Sim m n ts ts′ → Each (SimFunction m n) all all′ → Tables m blank blank′
     → Each (SimFunction m n) fs fs′
-    → SimTyped m n (programD ts all fs blank) (programD ts′ all′ fs′ blank′)
-unfolding programD
+    → SimTyped m n (typeProgramD ts all fs blank) (typeProgramD ts′ all′ fs′ blank′)
+unfolding typeProgramD
 programS s a q Each.none = onS q
 programS {m} s a q (Each.more f r) =
     thenTypedS m _ _ _ _ (functionTypedS s (globalsS a) q f) (λ u u′ p. programS s a q r)

@@ -21,8 +21,10 @@ use Rattle.parser.specs.declared.Variable.{Variable}
 use Rattle.parser.specs.declared.Operation.{Operation}
 use Rattle.body.proofs.SimItems.{countS}
 use Rattle.sema.specs.Symbols.{Typed, on, stop, thenEnd, thenTyped, enterD, thenLook, thenSame}
-use Rattle.sema.specs.Typing.{thenThree, operandsD, binaryD, operandD, unaryD, constD, retValueD, retD, Global}
-use Rattle.sema.specs.Typing.{presentD, typesOf, sameAll, argumentsD, thenGlobal, callD, callIntoD, plainD, analyzeD}
+use Rattle.sema.specs.Typing.{thenThree, operandsD, typeBinaryD, operandD, typeUnaryD, typeConstD, typeRetValueD}
+use Rattle.sema.specs.Typing.{typeRetD, Global}
+use Rattle.sema.specs.Typing.{presentD, typesOf, sameAll, typeArgumentsD, thenGlobal, typeCallD, typeCallIntoD}
+use Rattle.sema.specs.Typing.{typePlainD, typeItemD}
 use Rattle.related.specs.Tables.{Tables, SimChecked, SimTyped, SameGlobals}
 
 -- Steps. -------------------------------------------------------------------------------------------------------------
@@ -118,34 +120,34 @@ module _ {m : Move} {n : ℕ} (token : ℕ) (l : token < n) where
 
   module _ {t t′ : List ℕ} (q : Tables m t t′) where
     pub binaryS : (kind type : ℕ) {r r′ x x′ y y′ : Identifier} → SimName m r r′ → SimName m x x′ → SimName m y y′
-        → SimTyped m n (binaryD t kind (m .by + token) r type x y) (binaryD t′ kind token r′ type x′ y′)
-    unfolding binaryD
+        → SimTyped m n (typeBinaryD t kind (m .by + token) r type x y) (typeBinaryD t′ kind token r′ type x′ y′)
+    unfolding typeBinaryD
     binaryS kind type r x y =
         thenLookS q _ _ x (λ left.
         thenLookS q _ _ y (λ right.
         thenTypedS m _ _ _ _ (enterS q type r) (λ u u′ p. operandsS p kind type left right)))
 
     pub unaryS : (kind type : ℕ) {r r′ x x′ : Identifier} → SimName m r r′ → SimName m x x′
-        → SimTyped m n (unaryD t kind (m .by + token) r type x) (unaryD t′ kind token r′ type x′)
-    unfolding unaryD
+        → SimTyped m n (typeUnaryD t kind (m .by + token) r type x) (typeUnaryD t′ kind token r′ type x′)
+    unfolding typeUnaryD
     unaryS kind type r x =
         thenLookS q _ _ x (λ operand.
         thenTypedS m _ _ _ _ (enterS q type r) (λ u u′ p. operandS p kind type operand))
 
     pub constS : (kind type : ℕ) {r r′ : Identifier} → SimName m r r′
-        → SimTyped m n (constD t kind (m .by + token) r type) (constD t′ kind token r′ type)
-    unfolding constD
+        → SimTyped m n (typeConstD t kind (m .by + token) r type) (typeConstD t′ kind token r′ type)
+    unfolding typeConstD
     constS kind type r = thenSameS q _ type (enterS q type r)
 
     pub retValueS : (ret : ℕ) {x x′ : Identifier} → SimName m x x′
-        → SimTyped m n (retValueD t ret (m .by + token) x) (retValueD t′ ret token x′)
-    unfolding retValueD
+        → SimTyped m n (typeRetValueD t ret (m .by + token) x) (typeRetValueD t′ ret token x′)
+    unfolding typeRetValueD
     retValueS ret x =
         thenLookS q _ _ x (λ found.
         pickS m _ _ _ _ _ (plainStopS q 18) (thenSameS q found ret (onS q)))
 
-    pub retS : (ret : ℕ) → SimTyped m n (retD t ret (m .by + token)) (retD t′ ret token)
-    unfolding retD
+    pub retS : (ret : ℕ) → SimTyped m n (typeRetD t ret (m .by + token)) (typeRetD t′ ret token)
+    unfolding typeRetD
     retS ret = pickS m _ _ _ _ _ (onS q) (plainStopS q 19)
 
     -- Calls. ----------------------------------------------------------------------------------------------------------
@@ -170,8 +172,8 @@ module _ {m : Move} {n : ℕ} (token : ℕ) (l : token < n) where
   module _ {t t′ : List ℕ} (q : Tables m t t′) where
     -- 20
     pub argumentsS : (formals : List ℕ) {xs xs′ : List Variable} → Each (SimV m) xs xs′
-        → SimTyped m n (argumentsD t (m .by + token) formals xs) (argumentsD t′ token formals xs′)
-    unfolding argumentsD
+        → SimTyped m n (typeArgumentsD t (m .by + token) formals xs) (typeArgumentsD t′ token formals xs′)
+    unfolding typeArgumentsD
     argumentsS formals {xs} {xs′} r =
         rw (countS r)
         (pickS m _ _ _ _ _
@@ -188,16 +190,16 @@ module _ {m : Move} {n : ℕ} (token : ℕ) (l : token < n) where
 
   module _ {t t′ : List ℕ} (q : Tables m t t′) where
     pub callS : (g : Global) {x x′ : Identifier} {xs xs′ : List Variable} → SimName m x x′
-        → Each (SimV m) xs xs′ → SimTyped m n (callD t g (m .by + token) x xs) (callD t′ g token x′ xs′)
-    unfolding callD
+        → Each (SimV m) xs xs′ → SimTyped m n (typeCallD t g (m .by + token) x xs) (typeCallD t′ g token x′ xs′)
+    unfolding typeCallD
     callS g x r =
         thenGlobalS q g _ _ x (λ ret formals.
         pickS m _ _ _ _ _ (argumentsS q formals r) (plainStopS q 19))
 
     pub callIntoS : (g : Global) (type : ℕ) {v v′ x x′ : Identifier} {xs xs′ : List Variable} → SimName m v v′
         → SimName m x x′ → Each (SimV m) xs xs′
-        → SimTyped m n (callIntoD t g (m .by + token) v type x xs) (callIntoD t′ g token v′ type x′ xs′)
-    unfolding callIntoD
+        → SimTyped m n (typeCallIntoD t g (m .by + token) v type x xs) (typeCallIntoD t′ g token v′ type x′ xs′)
+    unfolding typeCallIntoD
     callIntoS g type v x r =
         thenGlobalS q g _ _ x (λ ret formals.
         pickS m _ _ _ _ _ (plainStopS q 18)
@@ -212,8 +214,9 @@ pub kind-same : {m : Move} {n : ℕ} {ts ts′ : List Tok} → Sim m n ts ts′ 
 kind-same s i h = ap (λ (t : TokenAt). t .kind) (s .same i h)
 
 module _ {m : Move} {n : ℕ} {ts ts′ : List Tok} (s : Sim m n ts ts′) {t t′ : List ℕ} (q : Tables m t t′) where
-  pub plainS : (ret : ℕ) {o o′ : Operation} → SimO m n o o′ → SimTyped m n (plainD ts ret t o) (plainD ts′ ret t′ o′)
-  unfolding plainD
+  pub plainS : (ret : ℕ) {o o′ : Operation} → SimO m n o o′ → SimTyped m n (typePlainD ts ret t o)
+      (typePlainD ts′ ret t′ o′)
+  unfolding typePlainD
   plainS ret (SimO.binary w (SimV.of v type) x y h) = rw (kind-same s w h) (binaryS w h q _ _ v x y)
   plainS ret (SimO.unary w (SimV.of v type) x h) = rw (kind-same s w h) (unaryS w h q _ _ v x)
   plainS ret (SimO.const w (SimV.of v type) h) = rw (kind-same s w h) (constS w h q _ _ v)
@@ -226,8 +229,8 @@ module _ {m : Move} {n : ℕ} {ts ts′ : List Tok} (s : Sim m n ts ts′) {t t�
 
   -- an item by its form
   pub analyzeS : {globals globals′ : ℕ → Global} (ret : ℕ) {i i′ : Item} → SameGlobals m globals globals′
-      → SimItem m n i i′ → SimTyped m n (analyzeD ts globals ret t i) (analyzeD ts′ globals′ ret t′ i′)
-  unfolding analyzeD
+      → SimItem m n i i′ → SimTyped m n (typeItemD ts globals ret t i) (typeItemD ts′ globals′ ret t′ i′)
+  unfolding typeItemD
   analyzeS ret f (SimItem.label w x h) = onS q
   analyzeS ret f (SimItem.plain o) = plainS ret o
   analyzeS ret f (SimItem.call w (SimName.renamed x g) xs h) =

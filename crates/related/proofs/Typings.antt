@@ -9,7 +9,7 @@ use Rattle.functions.specs.Functions.{Function}
 use Rattle.functions.specs.Moved.{SimFunction}
 use Rattle.sema.specs.Symbols.{Typed, thenEnd, thenTyped}
 use Rattle.sema.specs.Typing.{Global}
-use Rattle.sema.specs.Program.{globalsOf, programD, functionTyped}
+use Rattle.sema.specs.Program.{globalsOf, typeProgramD, functionTyped}
 use Rattle.sema.specs.declared.Checked.{Checked}
 use Rattle.sema.specs.declared.Checked.the-variants as K
 use Rattle.related.specs.Tables.{All, SimChecked, SimTyped, Tables, SameGlobals}
@@ -39,30 +39,30 @@ module _ (ts : List Tok) (all : List Function) (blank : List ℕ) where
   abbrev pub FineIn : Function → Type 0
   FineIn f = functionTyped ts (globalsOf all) f blank .end ≡ K.Fine
 
-  pub each-fine : (fs : List Function) → programD ts all fs blank .end ≡ K.Fine → All FineIn fs
-  unfolding programD thenTyped
+  pub each-fine : (fs : List Function) → typeProgramD ts all fs blank .end ≡ K.Fine → All FineIn fs
+  unfolding typeProgramD thenTyped
   each-fine [] e = All.none
   each-fine (f ∷ fs) e =
       let this = functionTyped ts (globalsOf all) f blank in
-      let both = fine-end (this .end) (programD ts all fs blank) this refl e in
+      let both = fine-end (this .end) (typeProgramD ts all fs blank) this refl e in
       All.more (both .0) (each-fine fs (both .1))
 
-  pub all-fine : {fs : List Function} → All FineIn fs → programD ts all fs blank .end ≡ K.Fine
-  unfolding programD thenTyped
+  pub all-fine : {fs : List Function} → All FineIn fs → typeProgramD ts all fs blank .end ≡ K.Fine
+  unfolding typeProgramD thenTyped
   all-fine All.none = refl
   all-fine (All.more {x = f} {xs = fs} q r) =
       let this = functionTyped ts (globalsOf all) f blank in
-      second-decides (this .end) (programD ts all fs blank) this q ∙ all-fine r
+      second-decides (this .end) (typeProgramD ts all fs blank) this q ∙ all-fine r
 
   pub one-decides : {before behind : List Function} (f : Function) → All FineIn before → All FineIn behind
-      → programD ts all (before ++ (f ∷ behind)) blank .end ≡ functionTyped ts (globalsOf all) f blank .end
-  unfolding programD thenTyped
+      → typeProgramD ts all (before ++ (f ∷ behind)) blank .end ≡ functionTyped ts (globalsOf all) f blank .end
+  unfolding typeProgramD thenTyped
   one-decides {behind = behind} f All.none r =
       let this = functionTyped ts (globalsOf all) f blank in
-      first-decides (this .end) (programD ts all behind blank) this refl (all-fine r)
+      first-decides (this .end) (typeProgramD ts all behind blank) this refl (all-fine r)
   one-decides {behind = behind} f (All.more {x = g} {xs = gs} q p) r =
       let this = functionTyped ts (globalsOf all) g blank in
-      second-decides (this .end) (programD ts all (gs ++ (f ∷ behind)) blank) this q ∙ one-decides f p r
+      second-decides (this .end) (typeProgramD ts all (gs ++ (f ∷ behind)) blank) this q ∙ one-decides f p r
 
 -- Related typings are both fine. -------------------------------------------------------------------------------------
 

@@ -13,7 +13,7 @@ use Rattle.parser.specs.Moved.{Move, Sim, SimName, SimNumber, SimV, Each}
 use Rattle.link.specs.Moved.{SimBlock}
 use Rattle.parser.specs.declared.Variable.{Variable}
 use Rattle.body.proofs.SimBody.{number-of}
-use Rattle.body.proofs.SimItems.{countS, partsS}
+use Rattle.body.proofs.SimItems.{countS, shapesS}
 use Rattle.link.proofs.SimBlocks.{blocksS, edgesS}
 use Rattle.link.specs.Cells.{blockCells, predecessorCells}
 use Rattle.functions.specs.Functions.{Function, blocksIn}
@@ -24,7 +24,7 @@ use Rattle.functions.specs.declared.Counts.{Counts}
 use Rattle.sema.specs.Symbols.{Typed}
 use Rattle.sema.specs.Typing.{Global}
 use Rattle.elaborate.specs.Types.{typedItemsCells}
-use Rattle.typing.specs.Outcome.{untyped, none}
+use Rattle.unit.specs.Outcome.{untyped, none}
 use Rattle.related.specs.Tables.{Tables, SimTyped, SameGlobals}
 use Rattle.related.specs.Records.{SimItemCells, SimArgumentCells, SameCallees}
 use Rattle.related.specs.Written.{writtenOf, SimRow, SimBlockCells, SimWritten, SameLengths}
@@ -95,7 +95,7 @@ module _ {m : Move} {n : ℕ} {ts ts′ : List Tok} (s : Sim m n ts ts′) {name
       row-of {m = m} (q .token) last (ap (λ (t : TokenAt). t .place) there) (name-long (number-of (q .head .name)))
       (ap (λ (t : TokenAt). t .line .0) there) (ap typeCell (q .head .ret)) (q .head .type) first (countS (q .items))
       base
-      (countS (blocksS (partsS (q .items)))) (countS (q .head .formals)) (number-of (q .head .name))
+      (countS (blocksS (shapesS (q .items)))) (countS (q .head .formals)) (number-of (q .head .name))
       (formalCellsS (q .head .formals))
 
   -- THE SIMULATION of all that check writes of a function
@@ -105,7 +105,7 @@ module _ {m : Move} {n : ℕ} {ts ts′ : List Tok} (s : Sim m n ts ts′) {name
       → SimWritten m c (writtenOf ts names globals callees c f) (writtenOf ts′ names′ globals′ callees′ none f′)
   writtenS {f = f} {f′} c g k t q =
       let table = tableS (functionTypedS s g t q) in
-      let bs : Each (SimBlock m n) (blocksIn (f .items)) (blocksIn (f′ .items)) = blocksS (partsS (q .items)) in
+      let bs : Each (SimBlock m n) (blocksIn (f .items)) (blocksIn (f′ .items)) = blocksS (shapesS (q .items)) in
       let first : c .arguments ≡ c .arguments + 0 = omega arith in
       let used : c .predecessors ≡ c .predecessors + 0 = omega arith in
       record {

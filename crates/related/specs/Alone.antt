@@ -19,7 +19,7 @@ use Rattle.functions.specs.Known.{formalTypes}
 use Rattle.functions.specs.Functions.{Function}
 use Rattle.functions.specs.Moved.{SimFunction}
 use Rattle.sema.specs.Typing.{Global, absent, global}
-use Rattle.typing.specs.Outcome.{checked, refused, unitD}
+use Rattle.unit.specs.Outcome.{checked, refused, unitD}
 use Rattle.recheck.specs.Recheck.{Verdict, refuses, accepts, functionAlone, retyped}
 use Rattle.related.specs.Tables.{SameHead}
 use Rattle.related.specs.Entry.{UpToEntry}

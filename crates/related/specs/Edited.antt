@@ -10,7 +10,7 @@ use Rattle.parser.specs.declared.Refusal.{Refusal}
 use Rattle.functions.specs.Functions.{Function, function, noFunction}
 use Rattle.functions.specs.Moved.{SimFunction}
 use Rattle.sema.specs.Program.{globalsOf, functionTyped}
-use Rattle.typing.specs.Outcome.{checked, refused, afterTyping, unitD, untyped}
+use Rattle.unit.specs.Outcome.{checked, refused, afterTyping, unitD, untyped}
 use Rattle.related.specs.Tables.{SameHead, Apart}
 use Rattle.related.specs.Runs.{start, behindAll, functionHere}
 

@@ -10,7 +10,7 @@ use Rattle.functions.specs.Functions.{Function}
 use Rattle.functions.specs.declared.Counts.{Counts}
 use Rattle.sema.specs.Program.{globalsOf}
 use Rattle.elaborate.specs.Types.{calleeIn}
-use Rattle.typing.specs.Outcome.{none}
+use Rattle.unit.specs.Outcome.{none}
 use Rattle.related.specs.Edited.{Edited}
 use Rattle.related.specs.Alone.{Alone, globalSpelt, AcceptedAs}
 use Rattle.related.specs.Written.{Written, writtenOf, SimWritten, SameLengths}

@@ -15,10 +15,10 @@ use Rattle.functions.specs.declared.Counts.{Counts}
 use Rattle.sema.specs.Typing.{Global}
 use Rattle.sema.specs.Program.{functionTyped}
 use Rattle.elaborate.specs.Types.{typedItemsCells, typedArgumentsCells}
-use Rattle.typing.specs.Outcome.{untyped}
+use Rattle.unit.specs.Outcome.{untyped}
 use Rattle.related.specs.Records.{SimItemCells, SimArgumentCells}
 
--- the function's part of each of the five slices (`unitSlices`, crates/typing/specs/Outcome.antt)
+-- the function's part of each of the five slices (`unitSlices`, crates/unit/specs/Outcome.antt)
 pub record Written : Type 0 where
   pub row : List ℕ
   pub items : List ℕ

@@ -60,14 +60,16 @@ item-back (callInto w v g xs) used args h = rw (h, type-back (v .ty))
 -- Cells that stand from an index on. --------------------------------------------------------------------------------------
 
 module _ {a : ℕ} {more : List ℕ} where
-  pub cell-back : (k : ℕ) (cells : List ℕ) → drop k cells ≡ a ∷ more → (getD cells k 0 ≡ a) × (drop (k + 1) cells ≡ more)
+  pub cell-back : (k : ℕ) (cells : List ℕ) → drop k cells ≡ a ∷ more → (getD cells k 0 ≡ a)
+      × (drop (k + 1) cells ≡ more)
   cell-back zero [] h = absurd (let z : _≡_ {A = ℕ} 0 1 = cc in omega arith)
   cell-back zero (x ∷ xs) h = (cc, cc)
   cell-back (suc k) [] h = absurd (let z : _≡_ {A = ℕ} 0 1 = cc in omega arith)
   cell-back (suc k) (x ∷ xs) h = let m : suc k + 1 ≡ suc (k + 1) = omega arith in rw m (cell-back k xs h)
 
 -- the run of variables, and what stands behind it
-pub variables-back : (vs : List Variable) (cells : List ℕ) (at : ℕ) (rest : List ℕ) → drop (at * 2) cells ≡ variablesCells vs ++ rest
+pub variables-back : (vs : List Variable) (cells : List ℕ) (at : ℕ) (rest : List ℕ) → drop (at * 2) cells
+    ≡ variablesCells vs ++ rest
     → (variablesAt cells at (length vs) ≡ vs) × (drop ((at + length vs) * 2) cells ≡ rest)
 unfolding variablesAt variablesCells
 variables-back [] cells at rest h = (refl, rw add-zero h)
@@ -107,10 +109,16 @@ items-back (i ∷ is) items args first used rest more h g =
     (h ∙ append-assoc (recordCells (recordOf used i)) (itemsCells (used + length xs) is) rest) in
     let v = variables-back xs args used (argumentsCells is ++ more)
     (g ∙ append-assoc (variablesCells xs) (argumentsCells is) more) in
-    rw (r .0, item-back i used args (v .0), items-back is items args (first + 1) (used + length xs) rest more (r .1) (v .1))
+    rw (
+      r .0,
+      item-back i used args (v .0),
+      items-back is items args (first + 1) (used + length xs) rest more (r .1)
+          (v .1),
+    )
 
 -- some of them, as a block's record says: m items from the k-th on
-items-after : (k : ℕ) (items args : List ℕ) (first n : ℕ) → drop k (itemsAt items args first n) ≡ itemsAt items args (first + k) (n - k)
+items-after : (k : ℕ) (items args : List ℕ) (first n : ℕ) → drop k (itemsAt items args first n) ≡ itemsAt items args
+    (first + k) (n - k)
 unfolding itemsAt
 items-after zero items args first n = rw (add-zero, sub-zero)
 items-after (suc k) items args first zero = let m : zero - suc k ≡ 0 = omega arith in rw m
@@ -119,7 +127,8 @@ items-after (suc k) items args first (suc n) =
     let l : suc n - suc k ≡ n - k = omega arith in
     rw (m, l) (items-after k items args (first + 1) n)
 
-items-before : (m : ℕ) (items args : List ℕ) (first n : ℕ) → m ≤ n → take m (itemsAt items args first n) ≡ itemsAt items args first m
+items-before : (m : ℕ) (items args : List ℕ) (first n : ℕ) → m ≤ n → take m (itemsAt items args first n) ≡ itemsAt
+    items args first m
 unfolding itemsAt
 items-before zero items args first n h = refl
 items-before (suc m) items args first zero h = absurd (omega arith)
@@ -133,7 +142,8 @@ block-back is items args first k m e h =
     ∙ ap (take m) (sym (items-after k items args first (length is)) ∙ ap (drop k) e)
 
 -- the formals of a row
-pub formals-back : (vs : List Variable) (rows : List ℕ) (at : ℕ) (rest : List ℕ) → drop at rows ≡ variablesCells vs ++ rest
+pub formals-back : (vs : List Variable) (rows : List ℕ) (at : ℕ) (rest : List ℕ) → drop at rows ≡ variablesCells vs
+    ++ rest
     → formalsFrom rows at (length vs) ≡ vs
 unfolding formalsFrom variablesCells
 formals-back [] rows at rest h = refl

@@ -17,7 +17,7 @@ use Rattle.lexer.specs.Decoded.{Tok}
 use Rattle.parser.specs.Runs.{typeCell}
 use Rattle.body.specs.Body.{Item}
 use Rattle.link.specs.Blocks.{Block, fresh}
-use Rattle.body.specs.Shapes.{partsOf}
+use Rattle.body.specs.Shapes.{shapesOf}
 use Rattle.link.specs.Edges.{successors}
 use Rattle.parser.specs.declared.Variable.{Variable}
 use Rattle.body.specs.Records.{itemsCells, argumentsCells}
@@ -35,7 +35,7 @@ use Rattle.functions.proofs.Standing.{cell-there, rest-there, row-token, row-re
 use Rattle.functions.proofs.Standing.{row-at-most}
 use Rattle.sema.specs.Typing.{Global}
 use Rattle.sema.specs.Globals.{globalsIn}
-use Rattle.sema.specs.Blocks.{typeFunctionD, formalsIn, blocksAt, inOrder, rowD}
+use Rattle.sema.specs.Blocks.{typeFunctionD, formalsIn, blocksAt, inOrder, typeRowD}
 use Rattle.sema.specs.Program.{numbered, orderedBlocks}
 use Rattle.sema.proofs.Back.{items-back, block-back, formals-back}
 
@@ -104,15 +104,15 @@ parted-inside (b ∷ bs) start end zero p h =
 parted-inside (b ∷ bs) start end (suc v) p h =
     parted-inside bs (b .first + b .operations + 1) end v (p .1) (omega arith)
 
-length-parts : (is : List Item) → length (partsOf is) ≡ length is
-unfolding partsOf
+length-parts : (is : List Item) → length (shapesOf is) ≡ length is
+unfolding shapesOf
 length-parts [] = refl
 length-parts (i ∷ is) = ap suc (length-parts is)
 
 block-inside : (is : List Item) (v : ℕ) → v < length (blocksIn is)
     → getD (blocksIn is) v noBlock .first + getD (blocksIn is) v noBlock .operations ≤ length is
 block-inside is v h =
-    let ps = partsOf is in
+    let ps = shapesOf is in
     omega (arith, parted-inside (blocksIn is) (leading ps) (length ps) v (blocks-partition ps) h, length-parts is)
 
 -- The block order. --------------------------------------------------------------------------------------------------
@@ -181,7 +181,7 @@ module _ (ts : List Tok) (names : List ℕ) (n : Counts) (f : Function) (rows it
       → drop (n .blocks * 8) blocks
       ≡ blockCells (n .items) (n .predecessors) 0 (edgesIn (f .items)) (edgesIn (f .items)) (blocksIn (f .items)) ++ r4
       → Fits n f
-      → rowD ts rows total items args blocks (n .functions) t
+      → typeRowD ts rows total items args blocks (n .functions) t
       ≡ typeFunctionD ts g (typeCell (f .head .ret)) (f .token) (f .head .formals) (orderedBlocks (f .items))
       (padTo (length t) [])
   row-typed globals row records arguments links fits =

@@ -21,11 +21,13 @@ use Rattle.parser.specs.declared.Operation.{Operation}
 use Rattle.parser.specs.declared.Operation.the-variants as O
 use Rattle.functions.specs.Functions.{Function}
 use Rattle.sema.specs.Symbols.{Typed, on, stop, thenEnd, thenTyped, facts, noName, enterD, thenLook, thenSame}
-use Rattle.sema.specs.Typing.{int, bool, void, thenThree, operandsD, binaryD, operandD, unaryD, constD}
-use Rattle.sema.specs.Typing.{retValueD, retD, Global, absent, global, presentD, typesOf, sameAll, argumentsD}
-use Rattle.sema.specs.Typing.{thenGlobal, callD, callIntoD, plainD, analyzeD}
-use Rattle.sema.specs.Blocks.{itemsD, endD, blockD, formalsD, blocksD, typeFunctionD}
-use Rattle.sema.specs.Program.{globalsOf, orderedBlocks, programD}
+use Rattle.sema.specs.Typing.{int, bool, void, thenThree, operandsD, typeBinaryD, operandD, typeUnaryD}
+use Rattle.sema.specs.Typing.{typeConstD}
+use Rattle.sema.specs.Typing.{typeRetValueD, typeRetD, Global, absent, global, presentD, typesOf, sameAll}
+use Rattle.sema.specs.Typing.{typeArgumentsD}
+use Rattle.sema.specs.Typing.{thenGlobal, typeCallD, typeCallIntoD, typePlainD, typeItemD}
+use Rattle.sema.specs.Blocks.{typeItemsD, typeEndD, typeBlockD, enterFormalsD, typeBlocksD, typeFunctionD}
+use Rattle.sema.specs.Program.{globalsOf, orderedBlocks, typeProgramD}
 use Rattle.sema.specs.Visits.{looksOf, operationLooks, looks, lookedIn, visit, itemsVisits, blocksVisits}
 use Rattle.sema.specs.Visits.{functionVisits, itemsLooks, blocksLooks, Keeps, AllFound, ItemsFound, BlocksFound}
 use Rattle.sema.specs.Visits.{typedFunction, Final, EachFinal}
@@ -123,16 +125,16 @@ all-keep t token (f ∷ fs) (w ∷ ws) =
     same-keeps t t token f w (sameAll t token fs ws) (keeps-same t) (all-keep t token fs ws)
 
 arguments-keep : (t : List ℕ) (token : ℕ) (formals : List ℕ) (xs : List Variable)
-    → Keeps t (argumentsD t token formals xs .table)
-unfolding argumentsD
+    → Keeps t (typeArgumentsD t token formals xs .table)
+unfolding typeArgumentsD
 arguments-keep t token formals xs =
     pick-keeps t (eqb (length formals) (length xs)) _ _
     (then-keeps t (presentD t token xs) (λ t₁. sameAll t₁ token (typesOf t₁ xs) formals) (present-keeps t token xs)
     (λ t₁. all-keep t₁ token (typesOf t₁ xs) formals))
     (keeps-same t)
 
-plain-keeps : (ts : List Tok) (ret : ℕ) (t : List ℕ) (o : Operation) → Keeps t (plainD ts ret t o .table)
-unfolding plainD binaryD unaryD constD retValueD retD
+plain-keeps : (ts : List Tok) (ret : ℕ) (t : List ℕ) (o : Operation) → Keeps t (typePlainD ts ret t o .table)
+unfolding typePlainD typeBinaryD typeUnaryD typeConstD typeRetValueD typeRetD
 plain-keeps ts ret t (O.BinaryOp w v x y) =
     look-keeps t w x _ (λ left.
     look-keeps t w y _ (λ right.
@@ -161,64 +163,65 @@ plain-keeps ts ret t (O.Print w x) = keeps-same t
 plain-keeps ts ret t (O.Nop w) = keeps-same t
 
 call-keeps : (t : List ℕ) (g : Global) (token : ℕ) (callee : Identifier) (xs : List Variable)
-    → Keeps t (callD t g token callee xs .table)
-unfolding callD thenGlobal
+    → Keeps t (typeCallD t g token callee xs .table)
+unfolding typeCallD thenGlobal
 call-keeps t absent token callee xs = keeps-same t
 call-keeps t (global ret formals) token callee xs =
-    pick-keeps t (eqb ret void) (argumentsD t token formals xs) (stop t (refusal 19 token 0))
+    pick-keeps t (eqb ret void) (typeArgumentsD t token formals xs) (stop t (refusal 19 token 0))
     (arguments-keep t token formals xs) (keeps-same t)
 
 call-into-keeps : (t : List ℕ) (g : Global) (token : ℕ) (result : Identifier) (type : ℕ) (callee : Identifier)
-    (xs : List Variable) → Keeps t (callIntoD t g token result type callee xs .table)
-unfolding callIntoD thenGlobal
+    (xs : List Variable) → Keeps t (typeCallIntoD t g token result type callee xs .table)
+unfolding typeCallIntoD thenGlobal
 call-into-keeps t absent token result type callee xs = keeps-same t
 call-into-keeps t (global ret formals) token result type callee xs =
     pick-keeps t (eqb ret void) (stop t (refusal 18 token 0)) _ (keeps-same t)
     (same-keeps t t token type ret _ (keeps-same t)
-    (then-keeps t (enterD t token result type) (λ t₁. argumentsD t₁ token formals xs) (enter-keeps t token result type)
+    (then-keeps t (enterD t token result type) (λ t₁. typeArgumentsD t₁ token formals xs) (enter-keeps t token result
+    type)
     (λ t₁. arguments-keep t₁ token formals xs)))
 
 -- Items, blocks, functions. -----------------------------------------------------------------------------------------
 
 module _ (ts : List Tok) (globals : ℕ → Global) (ret : ℕ) where
-  pub analyze-keeps : (t : List ℕ) (i : Item) → Keeps t (analyzeD ts globals ret t i .table)
-  unfolding analyzeD
+  pub analyze-keeps : (t : List ℕ) (i : Item) → Keeps t (typeItemD ts globals ret t i .table)
+  unfolding typeItemD
   analyze-keeps t (label w l) = keeps-same t
   analyze-keeps t (plain o) = plain-keeps ts ret t o
   analyze-keeps t (call w g xs) = call-keeps t (globals (g .0)) w g xs
   analyze-keeps t (callInto w v g xs) = call-into-keeps t (globals (g .0)) w (v .id) (typeCell (v .ty)) g xs
 
-  pub items-keep : (is : List Item) (t : List ℕ) → Keeps t (itemsD ts globals ret t is .table)
-  unfolding itemsD
+  pub items-keep : (is : List Item) (t : List ℕ) → Keeps t (typeItemsD ts globals ret t is .table)
+  unfolding typeItemsD
   items-keep [] t = keeps-same t
   items-keep (i ∷ is) t =
-      then-keeps t (analyzeD ts globals ret t i) (λ t₁. itemsD ts globals ret t₁ is) (analyze-keeps t i)
+      then-keeps t (typeItemD ts globals ret t i) (λ t₁. typeItemsD ts globals ret t₁ is) (analyze-keeps t i)
       (λ t₁. items-keep is t₁)
 
-  end-keeps : (is : List Item) (t : List ℕ) → Keeps t (endD t is .table)
-  unfolding endD
+  end-keeps : (is : List Item) (t : List ℕ) → Keeps t (typeEndD t is .table)
+  unfolding typeEndD
   end-keeps [] t = keeps-same t
   end-keeps (i ∷ []) t =
       pick-keeps t (isTerminator i) (on t) (stop t (refusal 21 (itemToken i) 0)) (keeps-same t) (keeps-same t)
   end-keeps (i ∷ j ∷ is) t = end-keeps (j ∷ is) t
 
-  pub block-keeps : (is : List Item) (t : List ℕ) → Keeps t (blockD ts globals ret t is .table)
-  unfolding blockD
+  pub block-keeps : (is : List Item) (t : List ℕ) → Keeps t (typeBlockD ts globals ret t is .table)
+  unfolding typeBlockD
   block-keeps is t =
-      then-keeps t (itemsD ts globals ret t is) (λ t₁. endD t₁ is) (items-keep is t) (λ t₁. end-keeps is t₁)
+      then-keeps t (typeItemsD ts globals ret t is) (λ t₁. typeEndD t₁ is) (items-keep is t) (λ t₁. end-keeps is t₁)
 
-  pub blocks-keep : (bs : List (List Item)) (t : List ℕ) → Keeps t (blocksD ts globals ret t bs .table)
-  unfolding blocksD
+  pub blocks-keep : (bs : List (List Item)) (t : List ℕ) → Keeps t (typeBlocksD ts globals ret t bs .table)
+  unfolding typeBlocksD
   blocks-keep [] t = keeps-same t
   blocks-keep (b ∷ bs) t =
-      then-keeps t (blockD ts globals ret t b) (λ t₁. blocksD ts globals ret t₁ bs) (block-keeps b t)
+      then-keeps t (typeBlockD ts globals ret t b) (λ t₁. typeBlocksD ts globals ret t₁ bs) (block-keeps b t)
       (λ t₁. blocks-keep bs t₁)
 
-  pub formals-keep : (token : ℕ) (vs : List Variable) (t : List ℕ) → Keeps t (formalsD t token vs .table)
-  unfolding formalsD
+  pub formals-keep : (token : ℕ) (vs : List Variable) (t : List ℕ) → Keeps t (enterFormalsD t token vs .table)
+  unfolding enterFormalsD
   formals-keep token [] t = keeps-same t
   formals-keep token (v ∷ vs) t =
-      then-keeps t (enterD t token (v .id) (typeCell (v .ty))) (λ t₁. formalsD t₁ token vs)
+      then-keeps t (enterD t token (v .id) (typeCell (v .ty))) (λ t₁. enterFormalsD t₁ token vs)
       (enter-keeps t token (v .id) (typeCell (v .ty))) (λ t₁. formals-keep token vs t₁)
 
   -- A NAME'S TYPE NEVER CHANGES once it is entered
@@ -226,7 +229,8 @@ module _ (ts : List Tok) (globals : ℕ → Global) (ret : ℕ) where
       → Keeps t (typeFunctionD ts globals ret token formals blocks t .table)
   unfolding typeFunctionD
   kept token formals blocks t =
-      then-keeps t (formalsD t token formals) (λ t₁. blocksD ts globals ret t₁ blocks) (formals-keep token formals t)
+      then-keeps t (enterFormalsD t token formals) (λ t₁. typeBlocksD ts globals ret t₁ blocks)
+      (formals-keep token formals t)
       (λ t₁. blocks-keep blocks t₁)
 
 -- What a fine end says. ---------------------------------------------------------------------------------------------
@@ -284,8 +288,8 @@ present-found t token (x ∷ xs) h =
     (p .0, present-found t token xs (p .1))
 
 arguments-found : (t : List ℕ) (token : ℕ) (formals : List ℕ) (xs : List Variable)
-    → argumentsD t token formals xs .end ≡ K.Fine → AllFound (looksOf t xs)
-unfolding argumentsD
+    → typeArgumentsD t token formals xs .end ≡ K.Fine → AllFound (looksOf t xs)
+unfolding typeArgumentsD
 arguments-found t token formals xs h =
     let u : Typed = thenTyped (presentD t token xs) (λ t₁. sameAll t₁ token (typesOf t₁ xs) formals) in
     let e : Refusal = facts 20 token (length formals) (length xs) noName in
@@ -294,9 +298,9 @@ arguments-found t token formals xs h =
     present-found t token xs
     (fine-then (presentD t token xs) (λ t₁. sameAll t₁ token (typesOf t₁ xs) formals) p .0)
 
-plain-found : (ts : List Tok) (ret : ℕ) (t : List ℕ) (o : Operation) → plainD ts ret t o .end ≡ K.Fine
+plain-found : (ts : List Tok) (ret : ℕ) (t : List ℕ) (o : Operation) → typePlainD ts ret t o .end ≡ K.Fine
     → AllFound (operationLooks t o)
-unfolding plainD binaryD unaryD retValueD
+unfolding typePlainD typeBinaryD typeUnaryD typeRetValueD
 plain-found ts ret t (O.BinaryOp w v x y) h =
     let p = fine-look t w x _ h in
     let q = fine-look t w y _ (p .1) in
@@ -311,33 +315,33 @@ plain-found ts ret t (O.Print w x) h = tt
 plain-found ts ret t (O.Nop w) h = tt
 
 call-found : (t : List ℕ) (g : Global) (token : ℕ) (callee : Identifier) (xs : List Variable)
-    → callD t g token callee xs .end ≡ K.Fine → AllFound (looksOf t xs)
-unfolding callD thenGlobal
+    → typeCallD t g token callee xs .end ≡ K.Fine → AllFound (looksOf t xs)
+unfolding typeCallD thenGlobal
 call-found t absent token callee xs h = absurd (refused-fine h)
 call-found t (global ret formals) token callee xs h =
-    let u : Typed = argumentsD t token formals xs in
+    let u : Typed = typeArgumentsD t token formals xs in
     let e : Refusal = refusal 19 token 0 in
     arguments-found t token formals xs
     (end-of (pick (eqb ret void) u (stop t e)) u (fine-first (eqb ret void) u t e h) h)
 
 -- a call with a result: arguments in the table with the result
 call-into-found : (t : List ℕ) (g : Global) (token : ℕ) (result : Identifier) (type : ℕ) (callee : Identifier)
-    (xs : List Variable) → callIntoD t g token result type callee xs .end ≡ K.Fine
+    (xs : List Variable) → typeCallIntoD t g token result type callee xs .end ≡ K.Fine
     → AllFound (looksOf (enterD t token result type .table) xs)
-    × Keeps (enterD t token result type .table) (callIntoD t g token result type callee xs .table)
-unfolding callIntoD thenGlobal
+    × Keeps (enterD t token result type .table) (typeCallIntoD t g token result type callee xs .table)
+unfolding typeCallIntoD thenGlobal
 call-into-found t absent token result type callee xs h = absurd (refused-fine h)
 call-into-found t (global ret formals) token result type callee xs h =
     let t₁ : List ℕ = enterD t token result type .table in
-    let last : Typed = argumentsD t₁ token formals xs in
-    let then : Typed = thenTyped (enterD t token result type) (λ t₁. argumentsD t₁ token formals xs) in
+    let last : Typed = typeArgumentsD t₁ token formals xs in
+    let then : Typed = thenTyped (enterD t token result type) (λ t₁. typeArgumentsD t₁ token formals xs) in
     let same : Typed = thenSame t token type ret then in
     let e : Refusal = refusal 18 token 0 in
     let all : Typed = pick (eqb ret void) (stop t e) same in
     let p : all ≡ same = fine-second (eqb ret void) same t e h .1 in
     let q : same ≡ then = fine-same t token type ret then (end-of all same p h) in
     let r : then ≡ last =
-    fine-then (enterD t token result type) (λ t₁. argumentsD t₁ token formals xs)
+    fine-then (enterD t token result type) (λ t₁. typeArgumentsD t₁ token formals xs)
     (end-of all then (p ∙ q) h) .1 in
     let is : last ≡ all = sym (p ∙ q ∙ r) in (
       arguments-found t₁ token formals xs (end-of all last (sym is) h),
@@ -373,26 +377,26 @@ looks-same t t′ (callInto w v g xs) k h = looks-of-same t t′ xs k h
 
 module _ (ts : List Tok) (globals : ℕ → Global) (ret : ℕ) where
   -- one item, at its visit
-  pub analyze-found : (t : List ℕ) (i : Item) → analyzeD ts globals ret t i .end ≡ K.Fine
-      → AllFound (visit t i) × Keeps (lookedIn t i) (analyzeD ts globals ret t i .table)
-  unfolding analyzeD looks lookedIn
+  pub analyze-found : (t : List ℕ) (i : Item) → typeItemD ts globals ret t i .end ≡ K.Fine
+      → AllFound (visit t i) × Keeps (lookedIn t i) (typeItemD ts globals ret t i .table)
+  unfolding typeItemD looks lookedIn
   analyze-found t (label w l) h = (tt, keeps-same t)
   analyze-found t (plain o) h = (plain-found ts ret t o h, plain-keeps ts ret t o)
   analyze-found t (call w g xs) h = (call-found t (globals (g .0)) w g xs h, call-keeps t (globals (g .0)) w g xs)
   analyze-found t (callInto w v g xs) h =
       call-into-found t (globals (g .0)) w (v .id) (typeCell (v .ty)) g xs h
 
-  items-final : (is : List Item) (t last : List ℕ) → itemsD ts globals ret t is .end ≡ K.Fine
-      → Keeps (itemsD ts globals ret t is .table) last
+  items-final : (is : List Item) (t last : List ℕ) → typeItemsD ts globals ret t is .end ≡ K.Fine
+      → Keeps (typeItemsD ts globals ret t is .table) last
       → (itemsVisits ts globals ret t is ≡ itemsLooks last is) × ItemsFound (itemsVisits ts globals ret t is)
-  unfolding itemsD itemsVisits itemsLooks
+  unfolding typeItemsD itemsVisits itemsLooks
   items-final [] t last h k = (refl, tt)
   items-final (i ∷ is) t last h k =
-      let this : Typed = analyzeD ts globals ret t i in
+      let this : Typed = typeItemD ts globals ret t i in
       let t₁ : List ℕ = this .table in
-      let rest : Typed = itemsD ts globals ret t₁ is in
-      let all : Typed = thenTyped this (λ t₁. itemsD ts globals ret t₁ is) in
-      let p = fine-then this (λ t₁. itemsD ts globals ret t₁ is) h in
+      let rest : Typed = typeItemsD ts globals ret t₁ is in
+      let all : Typed = thenTyped this (λ t₁. typeItemsD ts globals ret t₁ is) in
+      let p = fine-then this (λ t₁. typeItemsD ts globals ret t₁ is) h in
       let k₁ : Keeps (rest .table) last = subst (λ (u : Typed). Keeps (u .table) last) (p .1) k in
       let a = analyze-found t i (p .0) in
       let more = items-final is t₁ last (end-of all rest (p .1) h) k₁ in
@@ -400,20 +404,20 @@ module _ (ts : List Tok) (globals : ℕ → Global) (ret : ℕ) where
       keeps-on (lookedIn t i) t₁ last (a .1) (keeps-on t₁ (rest .table) last (items-keep ts globals ret is t₁) k₁) in
       (rw (looks-same (lookedIn t i) last i far (a .0), more .0), (a .0, more .1))
 
-  blocks-final : (bs : List (List Item)) (t last : List ℕ) → blocksD ts globals ret t bs .end ≡ K.Fine
-      → Keeps (blocksD ts globals ret t bs .table) last
+  blocks-final : (bs : List (List Item)) (t last : List ℕ) → typeBlocksD ts globals ret t bs .end ≡ K.Fine
+      → Keeps (typeBlocksD ts globals ret t bs .table) last
       → (blocksVisits ts globals ret t bs ≡ blocksLooks last bs) × BlocksFound (blocksVisits ts globals ret t bs)
-  unfolding blockD blocksD blocksVisits blocksLooks
+  unfolding typeBlockD typeBlocksD blocksVisits blocksLooks
   blocks-final [] t last h k = (refl, tt)
   blocks-final (b ∷ bs) t last h k =
-      let items : Typed = itemsD ts globals ret t b in
-      let this : Typed = blockD ts globals ret t b in
+      let items : Typed = typeItemsD ts globals ret t b in
+      let this : Typed = typeBlockD ts globals ret t b in
       let t₁ : List ℕ = this .table in
-      let rest : Typed = blocksD ts globals ret t₁ bs in
-      let all : Typed = thenTyped this (λ t₁. blocksD ts globals ret t₁ bs) in
-      let p = fine-then this (λ t₁. blocksD ts globals ret t₁ bs) h in
+      let rest : Typed = typeBlocksD ts globals ret t₁ bs in
+      let all : Typed = thenTyped this (λ t₁. typeBlocksD ts globals ret t₁ bs) in
+      let p = fine-then this (λ t₁. typeBlocksD ts globals ret t₁ bs) h in
       let k₁ : Keeps (rest .table) last = subst (λ (u : Typed). Keeps (u .table) last) (p .1) k in
-      let q = fine-then items (λ t₁. endD t₁ b) (p .0) in
+      let q = fine-then items (λ t₁. typeEndD t₁ b) (p .0) in
       let ended : Keeps (items .table) t₁ =
       subst (λ (u : Typed). Keeps (items .table) (u .table)) (sym (q .1)) (end-keeps ts globals ret b (items .table)) in
       let far : Keeps (items .table) last =
@@ -431,10 +435,10 @@ module _ (ts : List Tok) (globals : ℕ → Global) (ret : ℕ) where
       × BlocksFound (functionVisits ts globals ret token formals blocks t)
   unfolding typeFunctionD
   final-types token formals blocks t h =
-      let this : Typed = formalsD t token formals in
-      let rest : Typed = blocksD ts globals ret (this .table) blocks in
-      let all : Typed = thenTyped this (λ t₁. blocksD ts globals ret t₁ blocks) in
-      let p = fine-then this (λ t₁. blocksD ts globals ret t₁ blocks) h in
+      let this : Typed = enterFormalsD t token formals in
+      let rest : Typed = typeBlocksD ts globals ret (this .table) blocks in
+      let all : Typed = thenTyped this (λ t₁. typeBlocksD ts globals ret t₁ blocks) in
+      let p = fine-then this (λ t₁. typeBlocksD ts globals ret t₁ blocks) h in
       let k : Keeps (rest .table) (all .table) =
       subst (λ (u : Typed). Keeps (rest .table) (u .table)) (sym (p .1)) (keeps-same (rest .table)) in
       blocks-final blocks (this .table) (all .table) (end-of all rest (p .1) h) k
@@ -450,13 +454,14 @@ function-final ts all blank f h =
     record { fine = h; found = p .1; same = p .0 }
 
 -- each function of a text whose functions are typed
-pub program-final : (ts : List Tok) (all fs : List Function) (blank : List ℕ) → programD ts all fs blank .end ≡ K.Fine
+pub program-final : (ts : List Tok) (all fs : List Function) (blank : List ℕ) → typeProgramD ts all fs blank .end
+    ≡ K.Fine
     → EachFinal ts all blank fs
-unfolding programD
+unfolding typeProgramD
 program-final ts all [] blank h = tt
 program-final ts all (f ∷ fs) blank h =
     let this : Typed = typedFunction ts all blank f in
-    let rest : Typed = programD ts all fs blank in
-    let p = fine-then this (λ t. programD ts all fs blank) h in
-    let next : rest .end ≡ K.Fine = end-of (thenTyped this (λ t. programD ts all fs blank)) rest (p .1) h in
+    let rest : Typed = typeProgramD ts all fs blank in
+    let p = fine-then this (λ t. typeProgramD ts all fs blank) h in
+    let next : rest .end ≡ K.Fine = end-of (thenTyped this (λ t. typeProgramD ts all fs blank)) rest (p .1) h in
     (function-final ts all blank f (p .0), program-final ts all fs blank next)

@@ -4,7 +4,7 @@ use mathlib.Core.List.{List, [], _∷_}
 use lib.ListN.{length, getD}
 use Rattle.utils.specs.Bytes.{pick, padTo}
 use Rattle.graph.specs.Walk.{blockOrder}
-use Rattle.graph.specs.Records.{blockAt, recorded, blocksIn}
+use Rattle.graph.specs.Records.{blockAt, recorded, atMost256}
 use Rattle.lexer.specs.Decoded.{Tok}
 use Rattle.parser.specs.Step.{refusal}
 use Rattle.parser.specs.Runs.{typeCell}
@@ -14,7 +14,7 @@ use Rattle.body.specs.Records.{named}
 use Rattle.functions.specs.Columns.{rowAt, retAt, firstBlockAt, blockCountAt, countAt, formalsAt}
 use Rattle.functions.specs.Rows.{atMost16}
 use Rattle.sema.specs.Symbols.{Typed, on, stop, thenTyped, enterD}
-use Rattle.sema.specs.Typing.{Global, analyzeD}
+use Rattle.sema.specs.Typing.{Global, typeItemD}
 use Rattle.sema.specs.Items.{typed, itemAt}
 use Rattle.sema.specs.Globals.{globalsIn}
 
@@ -24,37 +24,38 @@ itemsAt items args first zero = []
 itemsAt items args first (suc count) = itemAt items args first ∷ itemsAt items args (first + 1) count
 
 -- one after the other, up to the first refusal
-unfoldable pub itemsD : List Tok → (ℕ → Global) → ℕ → List ℕ → List Item → Typed
-itemsD ts globals ret t [] = on t
-itemsD ts globals ret t (i ∷ is) =
-    thenTyped (analyzeD ts globals ret t i) (λ t1. itemsD ts globals ret t1 is)
+unfoldable pub typeItemsD : List Tok → (ℕ → Global) → ℕ → List ℕ → List Item → Typed
+typeItemsD ts globals ret t [] = on t
+typeItemsD ts globals ret t (i ∷ is) =
+    thenTyped (typeItemD ts globals ret t i) (λ t1. typeItemsD ts globals ret t1 is)
 
 -- "A block without terminator: void function gets a `ret` with its last operation's token; otherwise 21." The `ret`s
 -- stand among the items already (crates/parser/specs/Body.antt, closedItems).
-unfoldable pub endD : List ℕ → List Item → Typed
-endD t [] = on t
-endD t (i ∷ []) = pick (isTerminator i) (on t) (stop t (refusal 21 (itemToken i) 0))
-endD t (i ∷ j ∷ is) = endD t (j ∷ is)
+unfoldable pub typeEndD : List ℕ → List Item → Typed
+typeEndD t [] = on t
+typeEndD t (i ∷ []) = pick (isTerminator i) (on t) (stop t (refusal 21 (itemToken i) 0))
+typeEndD t (i ∷ j ∷ is) = typeEndD t (j ∷ is)
 
-unfoldable pub blockD : List Tok → (ℕ → Global) → ℕ → List ℕ → List Item → Typed
-blockD ts globals ret t is = thenTyped (itemsD ts globals ret t is) (λ t1. endD t1 is)
+unfoldable pub typeBlockD : List Tok → (ℕ → Global) → ℕ → List ℕ → List Item → Typed
+typeBlockD ts globals ret t is = thenTyped (typeItemsD ts globals ret t is) (λ t1. typeEndD t1 is)
 
 -- Functions. ---------------------------------------------------------------------------------------------------------
 
 -- "Formals are entered first." Their token is the function's name.
-unfoldable pub formalsD : List ℕ → ℕ → List Variable → Typed
-formalsD t token [] = on t
-formalsD t token (v ∷ vs) = thenTyped (enterD t token (v .id) (typeCell (v .ty))) (λ t1. formalsD t1 token vs)
+unfoldable pub enterFormalsD : List ℕ → ℕ → List Variable → Typed
+enterFormalsD t token [] = on t
+enterFormalsD t token (v ∷ vs) = thenTyped (enterD t token (v .id) (typeCell (v .ty))) (λ t1. enterFormalsD t1 token vs)
 
 -- one block after the other, up to the first refusal
-unfoldable pub blocksD : List Tok → (ℕ → Global) → ℕ → List ℕ → List (List Item) → Typed
-blocksD ts globals ret t [] = on t
-blocksD ts globals ret t (b ∷ bs) = thenTyped (blockD ts globals ret t b) (λ t1. blocksD ts globals ret t1 bs)
+unfoldable pub typeBlocksD : List Tok → (ℕ → Global) → ℕ → List ℕ → List (List Item) → Typed
+typeBlocksD ts globals ret t [] = on t
+typeBlocksD ts globals ret t (b ∷ bs) = thenTyped (typeBlockD ts globals ret t b) (λ t1. typeBlocksD ts globals ret t1
+    bs)
 
 -- a function: its result type, its name's token, its formals, and its blocks in the order in which they are typed
 unfoldable pub typeFunctionD : List Tok → (ℕ → Global) → ℕ → ℕ → List Variable → List (List Item) → List ℕ → Typed
 typeFunctionD ts globals ret token formals blocks t =
-    thenTyped (formalsD t token formals) (λ t1. blocksD ts globals ret t1 blocks)
+    thenTyped (enterFormalsD t token formals) (λ t1. typeBlocksD ts globals ret t1 blocks)
 
 -- What the cells hold. -----------------------------------------------------------------------------------------------
 
@@ -79,10 +80,10 @@ blocksAt items args blocks first (v ∷ vs) =
 -- the blocks of a function in the walk's order
 abbrev pub inOrder : List ℕ → List ℕ → List ℕ → ℕ → ℕ → List (List Item)
 inOrder items args blocks first count =
-    blocksAt items args blocks first (blockOrder (recorded blocks first) (blocksIn count))
+    blocksAt items args blocks first (blockOrder (recorded blocks first) (atMost256 count))
 
 -- The function of row i, among n, in a table that is cleared first.
-abbrev pub rowD : List Tok → List ℕ → ℕ → List ℕ → List ℕ → List ℕ → ℕ → List ℕ → Typed
-rowD ts rows n items args blocks i t =
+abbrev pub typeRowD : List Tok → List ℕ → ℕ → List ℕ → List ℕ → List ℕ → ℕ → List ℕ → Typed
+typeRowD ts rows n items args blocks i t =
     typeFunctionD ts (globalsIn rows n) (getD rows (retAt i) 0) (getD rows (rowAt i) 0) (formalsIn rows i)
     (inOrder items args blocks (getD rows (firstBlockAt i) 0) (getD rows (blockCountAt i) 0)) (padTo (length t) [])

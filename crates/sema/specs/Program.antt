@@ -43,7 +43,7 @@ functionTyped ts globals f t =
     typeFunctionD ts globals (typeCell (f .head .ret)) (f .token) (f .head .formals) (orderedBlocks (f .items)) t
 
 -- "Functions are taken in text order": these, of all. "One table of names per function": each begins with `blank`.
-unfoldable pub programD : List Tok → List Function → List Function → List ℕ → Typed
-programD ts all [] blank = on blank
-programD ts all (f ∷ fs) blank =
-    thenTyped (functionTyped ts (globalsOf all) f blank) (λ t. programD ts all fs blank)
+unfoldable pub typeProgramD : List Tok → List Function → List Function → List ℕ → Typed
+typeProgramD ts all [] blank = on blank
+typeProgramD ts all (f ∷ fs) blank =
+    thenTyped (functionTyped ts (globalsOf all) f blank) (λ t. typeProgramD ts all fs blank)

@@ -44,8 +44,8 @@ operandsD t kind token result left right =
     (thenThree t token result left right bool bool)))
 
 -- Binary: left, right looked up; result entered; then compared.
-unfoldable pub binaryD : List ℕ → ℕ → ℕ → Identifier → ℕ → Identifier → Identifier → Typed
-binaryD t kind token result type x y =
+unfoldable pub typeBinaryD : List ℕ → ℕ → ℕ → Identifier → ℕ → Identifier → Identifier → Typed
+typeBinaryD t kind token result type x y =
     thenLook t token x (λ left.
     thenLook t token y (λ right.
     thenTyped (enterD t token result type) (λ t1. operandsD t1 kind token type left right)))
@@ -57,24 +57,24 @@ operandD t kind token type operand =
     (thenSame t token type bool (thenSame t token operand bool (on t)))
 
 -- Unary: operand looked up; result entered; then compared.
-unfoldable pub unaryD : List ℕ → ℕ → ℕ → Identifier → ℕ → Identifier → Typed
-unaryD t kind token result type x =
+unfoldable pub typeUnaryD : List ℕ → ℕ → ℕ → Identifier → ℕ → Identifier → Typed
+typeUnaryD t kind token result type x =
     thenLook t token x (λ operand.
     thenTyped (enterD t token result type) (λ t1. operandD t1 kind token type operand))
 
 -- `const`: type against result, then entered.
-unfoldable pub constD : List ℕ → ℕ → ℕ → Identifier → ℕ → Typed
-constD t kind token result type =
+unfoldable pub typeConstD : List ℕ → ℕ → ℕ → Identifier → ℕ → Typed
+typeConstD t kind token result type =
     thenSame t token (pick (eqb kind T.integer) int bool) type (enterD t token result type)
 
 -- `ret x`: x looked up, void 18, type. `ret`: 19.
-unfoldable pub retValueD : List ℕ → ℕ → ℕ → Identifier → Typed
-retValueD t ret token x =
+unfoldable pub typeRetValueD : List ℕ → ℕ → ℕ → Identifier → Typed
+typeRetValueD t ret token x =
     thenLook t token x (λ found.
     pick (eqb ret void) (stop t (refusal 18 token 0)) (thenSame t token found ret (on t)))
 
-unfoldable pub retD : List ℕ → ℕ → ℕ → Typed
-retD t ret token = pick (eqb ret void) (on t) (stop t (refusal 19 token 0))
+unfoldable pub typeRetD : List ℕ → ℕ → ℕ → Typed
+typeRetD t ret token = pick (eqb ret void) (on t) (stop t (refusal 19 token 0))
 
 -- Calls. ------------------------------------------------------------------------------------------------------------
 
@@ -99,8 +99,8 @@ sameAll t token (f ∷ fs) [] = on t
 sameAll t token (f ∷ fs) (w ∷ ws) = let more = sameAll t token fs ws in thenSame t token f w more
 
 -- count 20; then arguments looked up; then compared
-unfoldable pub argumentsD : List ℕ → ℕ → List ℕ → List Variable → Typed
-argumentsD t token formals xs =
+unfoldable pub typeArgumentsD : List ℕ → ℕ → List ℕ → List Variable → Typed
+typeArgumentsD t token formals xs =
     pick (eqb (length formals) (length xs))
     (thenTyped (presentD t token xs) (λ t1. sameAll t1 token (typesOf t1 xs) formals))
     (stop t (facts 20 token (length formals) (length xs) noName))
@@ -111,36 +111,36 @@ thenGlobal t token callee absent k = stop t (facts 16 token 0 0 callee)
 thenGlobal t token callee (global ret formals) k = k ret formals
 
 -- `call` without a result: callee looked up; non-void 19; then the arguments.
-unfoldable pub callD : List ℕ → Global → ℕ → Identifier → List Variable → Typed
-callD t g token callee xs =
+unfoldable pub typeCallD : List ℕ → Global → ℕ → Identifier → List Variable → Typed
+typeCallD t g token callee xs =
     thenGlobal t token callee g (λ ret formals.
-    pick (eqb ret void) (argumentsD t token formals xs) (stop t (refusal 19 token 0)))
+    pick (eqb ret void) (typeArgumentsD t token formals xs) (stop t (refusal 19 token 0)))
 
 -- `call` with a result: callee looked up; void callee 18, type 17, result entered; then the arguments. So the result is
 -- entered before the arguments are looked up.
-unfoldable pub callIntoD : List ℕ → Global → ℕ → Identifier → ℕ → Identifier → List Variable → Typed
-callIntoD t g token result type callee xs =
+unfoldable pub typeCallIntoD : List ℕ → Global → ℕ → Identifier → ℕ → Identifier → List Variable → Typed
+typeCallIntoD t g token result type callee xs =
     thenGlobal t token callee g (λ ret formals.
     pick (eqb ret void) (stop t (refusal 18 token 0))
     (thenSame t token type ret
-    (thenTyped (enterD t token result type) (λ t1. argumentsD t1 token formals xs))))
+    (thenTyped (enterD t token result type) (λ t1. typeArgumentsD t1 token formals xs))))
 
 -- An operation that calls nothing, by its form. `ret` is the result type of the function it stands in. `print` operands
 -- and `br` conditions are never looked up.
-unfoldable pub plainD : List Tok → ℕ → List ℕ → Operation → Typed
-plainD ts ret t (O.BinaryOp w v x y) = binaryD t (tokenAt ts w .kind) w (v .id) (typeCell (v .ty)) x y
-plainD ts ret t (O.UnaryOp w v x) = unaryD t (tokenAt ts w .kind) w (v .id) (typeCell (v .ty)) x
-plainD ts ret t (O.Const w v) = constD t (tokenAt ts w .kind) w (v .id) (typeCell (v .ty))
-plainD ts ret t (O.Jump w l) = on t
-plainD ts ret t (O.Branch w x l m) = on t
-plainD ts ret t (O.Ret w) = retD t ret w
-plainD ts ret t (O.RetValue w x) = retValueD t ret w x
-plainD ts ret t (O.Print w x) = on t
-plainD ts ret t (O.Nop w) = on t
+unfoldable pub typePlainD : List Tok → ℕ → List ℕ → Operation → Typed
+typePlainD ts ret t (O.BinaryOp w v x y) = typeBinaryD t (tokenAt ts w .kind) w (v .id) (typeCell (v .ty)) x y
+typePlainD ts ret t (O.UnaryOp w v x) = typeUnaryD t (tokenAt ts w .kind) w (v .id) (typeCell (v .ty)) x
+typePlainD ts ret t (O.Const w v) = typeConstD t (tokenAt ts w .kind) w (v .id) (typeCell (v .ty))
+typePlainD ts ret t (O.Jump w l) = on t
+typePlainD ts ret t (O.Branch w x l m) = on t
+typePlainD ts ret t (O.Ret w) = typeRetD t ret w
+typePlainD ts ret t (O.RetValue w x) = typeRetValueD t ret w x
+typePlainD ts ret t (O.Print w x) = on t
+typePlainD ts ret t (O.Nop w) = on t
 
 -- An item by its form; `globals` gives the functions by name.
-unfoldable pub analyzeD : List Tok → (ℕ → Global) → ℕ → List ℕ → Item → Typed
-analyzeD ts globals ret t (label w l) = on t
-analyzeD ts globals ret t (plain o) = plainD ts ret t o
-analyzeD ts globals ret t (call w g xs) = callD t (globals (g .0)) w g xs
-analyzeD ts globals ret t (callInto w v g xs) = callIntoD t (globals (g .0)) w (v .id) (typeCell (v .ty)) g xs
+unfoldable pub typeItemD : List Tok → (ℕ → Global) → ℕ → List ℕ → Item → Typed
+typeItemD ts globals ret t (label w l) = on t
+typeItemD ts globals ret t (plain o) = typePlainD ts ret t o
+typeItemD ts globals ret t (call w g xs) = typeCallD t (globals (g .0)) w g xs
+typeItemD ts globals ret t (callInto w v g xs) = typeCallIntoD t (globals (g .0)) w (v .id) (typeCell (v .ty)) g xs

@@ -13,8 +13,8 @@ use Rattle.parser.specs.declared.Operation.{Operation}
 use Rattle.parser.specs.declared.Operation.the-variants as O
 use Rattle.functions.specs.Functions.{Function}
 use Rattle.sema.specs.Symbols.{Typed, enterD}
-use Rattle.sema.specs.Typing.{Global, analyzeD}
-use Rattle.sema.specs.Blocks.{blockD, formalsD, typeFunctionD}
+use Rattle.sema.specs.Typing.{Global, typeItemD}
+use Rattle.sema.specs.Blocks.{typeBlockD, enterFormalsD, typeFunctionD}
 use Rattle.sema.specs.Program.{globalsOf, orderedBlocks}
 use Rattle.sema.specs.declared.Checked.the-variants as K
 
@@ -63,17 +63,17 @@ visit t i = looks (lookedIn t i) i
 -- The visits of a block's items, of blocks in the order in which they are typed, of a function.
 unfoldable pub itemsVisits : List Tok → (ℕ → Global) → ℕ → List ℕ → List Item → List (List Look)
 itemsVisits ts globals ret t [] = []
-itemsVisits ts globals ret t (i ∷ is) = visit t i ∷ itemsVisits ts globals ret (analyzeD ts globals ret t i .table) is
+itemsVisits ts globals ret t (i ∷ is) = visit t i ∷ itemsVisits ts globals ret (typeItemD ts globals ret t i .table) is
 
 unfoldable pub blocksVisits : List Tok → (ℕ → Global) → ℕ → List ℕ → List (List Item) → List (List (List Look))
 blocksVisits ts globals ret t [] = []
 blocksVisits ts globals ret t (b ∷ bs) =
-    itemsVisits ts globals ret t b ∷ blocksVisits ts globals ret (blockD ts globals ret t b .table) bs
+    itemsVisits ts globals ret t b ∷ blocksVisits ts globals ret (typeBlockD ts globals ret t b .table) bs
 
 abbrev pub functionVisits : List Tok → (ℕ → Global) → ℕ → ℕ → List Variable → List (List Item) → List ℕ
     → List (List (List Look))
 functionVisits ts globals ret token formals blocks t =
-    blocksVisits ts globals ret (formalsD t token formals .table) blocks
+    blocksVisits ts globals ret (enterFormalsD t token formals .table) blocks
 
 -- What one table has for all of them.
 unfoldable pub itemsLooks : List ℕ → List Item → List (List Look)

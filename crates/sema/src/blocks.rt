@@ -5,10 +5,10 @@ ghost use Prim.Native.Nat.{ℕ, _+_, _*_, _≤_, _<_};
 ghost use lib.ListN.{length};
 ghost use Rattle.lexer.specs.Decoded.{tokensOf};
 ghost use Rattle.sema.specs.Symbols.{typed};
-ghost use Rattle.sema.specs.Typing.{plainD, analyzeD};
+ghost use Rattle.sema.specs.Typing.{typePlainD, typeItemD};
 ghost use Rattle.sema.specs.Items.{operationOf, itemOf, itemAt};
 ghost use Rattle.sema.specs.Globals.{globalsIn};
-ghost use Rattle.sema.specs.Blocks.{itemsAt, endD, blockD};
+ghost use Rattle.sema.specs.Blocks.{itemsAt, typeEndD, typeBlockD};
 use crate::Checked;
 use crate::calls;
 use crate::operations;
@@ -29,7 +29,7 @@ fn analyze_plain(
     x: Identifier,
 ) -> Checked
     ensures { λ s. ⌜ typed (now (table .exit)) s
-        ≡ plainD (tokensOf (now (tokens .entry))) ret (now (table .entry)) (operationOf r x) ⌝ }
+        ≡ typePlainD (tokensOf (now (tokens .entry))) ret (now (table .entry)) (operationOf r x) ⌝ }
 {
     let kind = r.kind;
     let w = r.token as usize;
@@ -59,7 +59,7 @@ fn analyze_record(
 ) -> Checked
     requires { ⌜ (n ≤ 64) × (2881 ≤ length (now rows)) ⌝ }
     ensures { λ s. ⌜ typed (now (table .exit)) s
-        ≡ analyzeD (tokensOf (now (tokens .entry))) (globalsIn (now (rows .entry)) n) ret (now (table .entry))
+        ≡ typeItemD (tokensOf (now (tokens .entry))) (globalsIn (now (rows .entry)) n) ret (now (table .entry))
         (itemOf r (now (arguments .entry))) ⌝ }
 {
     let w = r.token as usize;
@@ -103,7 +103,7 @@ pub fn analyze_op(
 ) -> Checked
     requires { ⌜ (n ≤ 64) × (2881 ≤ length (now rows)) × (i ≤ 8589934592) ⌝ }
     ensures { λ s. ⌜ typed (now (table .exit)) s
-        ≡ analyzeD (tokensOf (now (tokens .entry))) (globalsIn (now (rows .entry)) n) ret (now (table .entry))
+        ≡ typeItemD (tokensOf (now (tokens .entry))) (globalsIn (now (rows .entry)) n) ret (now (table .entry))
         (itemAt (now (items .entry)) (now (arguments .entry)) i) ⌝ }
 {
     let r = record_at(items, i);
@@ -112,7 +112,7 @@ pub fn analyze_op(
 
 // The kinds from 9 to 12 end a block.
 fn expect_terminator(items: &[u32], first: u32, count: u32) -> Checked
-    ensures { λ s. ⌜ ((t args : List ℕ) → typed t s ≡ endD t (itemsAt (now (items .entry)) args first count)) ⌝ }
+    ensures { λ s. ⌜ ((t args : List ℕ) → typed t s ≡ typeEndD t (itemsAt (now (items .entry)) args first count)) ⌝ }
 {
     if count == 0 {
         return Checked::Fine;
@@ -143,7 +143,7 @@ pub fn analyze_block(
 ) -> Checked
     requires { ⌜ (n ≤ 64) × (2881 ≤ length (now rows)) ⌝ }
     ensures { λ s. ⌜ typed (now (table .exit)) s
-        ≡ blockD (tokensOf (now (tokens .entry))) (globalsIn (now (rows .entry)) n) ret (now (table .entry))
+        ≡ typeBlockD (tokensOf (now (tokens .entry))) (globalsIn (now (rows .entry)) n) ret (now (table .entry))
         (itemsAt (now (items .entry)) (now (arguments .entry)) first count) ⌝ }
 {
     let mut at = first as usize;

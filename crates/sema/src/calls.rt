@@ -5,7 +5,7 @@ ghost use lib.ListN.{length, getD};
 ghost use Rattle.functions.specs.Columns.{retAt, countAt, formalsAt};
 ghost use Rattle.functions.specs.Rows.{atMost16, typesAt};
 ghost use Rattle.sema.specs.Symbols.{typed, thenTyped, enterD};
-ghost use Rattle.sema.specs.Typing.{presentD, typesOf, sameAll, argumentsD, callD, callIntoD};
+ghost use Rattle.sema.specs.Typing.{presentD, typesOf, sameAll, typeArgumentsD, typeCallD, typeCallIntoD};
 ghost use Rattle.body.specs.Records.{named};
 ghost use Rattle.sema.specs.Items.{variablesAt};
 ghost use Rattle.sema.specs.Globals.{rowFrom, globalsIn};
@@ -114,7 +114,7 @@ fn analyze_arguments(
     count: u32,
 ) -> Checked
     requires { ⌜ (i < 64) × (2881 ≤ length (now rows)) ⌝ }
-    ensures { λ r. ⌜ typed (now (table .entry)) r ≡ argumentsD (now (table .entry)) token
+    ensures { λ r. ⌜ typed (now (table .entry)) r ≡ typeArgumentsD (now (table .entry)) token
         (typesAt (now (rows .entry)) (formalsAt i) (atMost16 (getD (now (rows .entry)) (countAt i) 0)))
         (variablesAt (now (arguments .entry)) first count) ⌝ }
 {
@@ -159,7 +159,7 @@ pub fn analyze_call(
 ) -> Checked
     requires { ⌜ (n ≤ 64) × (2881 ≤ length (now rows)) ⌝ }
     ensures { λ r. ⌜ typed (now (table .entry)) r
-        ≡ callD (now (table .entry)) (globalsIn (now (rows .entry)) n (callee .0)) token callee
+        ≡ typeCallD (now (table .entry)) (globalsIn (now (rows .entry)) n (callee .0)) token callee
         (variablesAt (now (arguments .entry)) first count) ⌝ }
 {
     match find_function(rows, n, callee) {
@@ -187,7 +187,7 @@ fn enter_result(
 ) -> Checked
     requires { ⌜ (i < 64) × (2881 ≤ length (now rows)) ⌝ }
     ensures { λ r. ⌜ typed (now (table .exit)) r ≡ thenTyped (enterD (now (table .entry)) token result ty)
-        (λ t. argumentsD t token
+        (λ t. typeArgumentsD t token
         (typesAt (now (rows .entry)) (formalsAt i) (atMost16 (getD (now (rows .entry)) (countAt i) 0)))
         (variablesAt (now (arguments .entry)) first count)) ⌝ }
 {
@@ -211,7 +211,7 @@ pub fn analyze_call_into(
 ) -> Checked
     requires { ⌜ (n ≤ 64) × (2881 ≤ length (now rows)) ⌝ }
     ensures { λ r. ⌜ typed (now (table .exit)) r
-        ≡ callIntoD (now (table .entry)) (globalsIn (now (rows .entry)) n (callee .0)) token result ty callee
+        ≡ typeCallIntoD (now (table .entry)) (globalsIn (now (rows .entry)) n (callee .0)) token result ty callee
         (variablesAt (now (arguments .entry)) first count) ⌝ }
 {
     match find_function(rows, n, callee) {

@@ -7,8 +7,8 @@ ghost use Rattle.functions.specs.Columns.{rowAt, retAt, firstBlockAt, blockCoun
 ghost use Rattle.graph.specs.Worklist.{remaining};
 ghost use Rattle.sema.specs.Symbols.{typed};
 ghost use Rattle.sema.specs.Globals.{globalsIn};
-ghost use Rattle.sema.specs.Blocks.{formalsFrom, formalsIn, formalsD};
-ghost use Rattle.sema.specs.Blocks.{blockD, blocksD, blockItems, blocksAt, inOrder, rowD};
+ghost use Rattle.sema.specs.Blocks.{formalsFrom, formalsIn, enterFormalsD};
+ghost use Rattle.sema.specs.Blocks.{typeBlockD, typeBlocksD, blockItems, blocksAt, inOrder, typeRowD};
 use crate::Checked;
 use crate::blocks;
 use crate::calls;
@@ -23,7 +23,7 @@ use pieces::Identifier;
 fn enter_formals(table: &mut [u32], token: u32, rows: &[u32], first: usize, count: u32) -> Checked
     requires { ⌜ first + count * 2 ≤ length (now rows) ⌝ }
     ensures { λ r. ⌜ typed (now (table .exit)) r
-        ≡ formalsD (now (table .entry)) token (formalsFrom (now (rows .entry)) first count) ⌝ }
+        ≡ enterFormalsD (now (table .entry)) token (formalsFrom (now (rows .entry)) first count) ⌝ }
 {
     let w = token as usize;
     let mut at = first;
@@ -46,7 +46,7 @@ fn enter_formals(table: &mut [u32], token: u32, rows: &[u32], first: usize, coun
 fn enter_row(table: &mut [u32], rows: &[u32], row: usize) -> Checked
     requires { ⌜ (row < 64) × (2881 ≤ length (now rows)) ⌝ }
     ensures { λ r. ⌜ typed (now (table .exit)) r
-        ≡ formalsD (now (table .entry)) (getD (now (rows .entry)) (rowAt row) 0) (formalsIn (now (rows .entry)) row) ⌝ }
+        ≡ enterFormalsD (now (table .entry)) (getD (now (rows .entry)) (rowAt row) 0) (formalsIn (now (rows .entry)) row) ⌝ }
 {
     let at = row * columns::ROW;
     let token = rows[columns::TOKEN + at];
@@ -68,7 +68,7 @@ fn analyze_recorded(
 ) -> Checked
     requires { ⌜ (n ≤ 64) × (2881 ≤ length (now rows)) × (k ≤ 8589934592) ⌝ }
     ensures { λ r. ⌜ typed (now (table .exit)) r
-        ≡ blockD (tokensOf (now (tokens .entry))) (globalsIn (now (rows .entry)) n) ret (now (table .entry))
+        ≡ typeBlockD (tokensOf (now (tokens .entry))) (globalsIn (now (rows .entry)) n) ret (now (table .entry))
         (blockItems (now (items .entry)) (now (arguments .entry)) (now (blocks .entry)) k) ⌝ }
 {
     let b = block_at(blocks, k);
@@ -101,7 +101,7 @@ fn analyze_remaining(
 ) -> Checked
     requires { ⌜ (n ≤ 64) × (2881 ≤ length (now rows)) × (length (now order) ≡ 256) × (work .blocks ≤ 256) ⌝ }
     ensures { λ r. ⌜ typed (now (table .exit)) r
-        ≡ blocksD (tokensOf (now (tokens .entry))) (globalsIn (now (rows .entry)) n) ret (now (table .entry))
+        ≡ typeBlocksD (tokensOf (now (tokens .entry))) (globalsIn (now (rows .entry)) n) ret (now (table .entry))
         (blocksAt (now (items .entry)) (now (arguments .entry)) (now (blocks .entry)) first
         (remaining (now (order .entry)) work)) ⌝ }
 {
@@ -138,7 +138,7 @@ fn analyze_blocks(
 ) -> Checked
     requires { ⌜ (n ≤ 64) × (row < 64) × (2881 ≤ length (now rows)) ⌝ }
     ensures { λ r. ⌜ typed (now (table .exit)) r
-        ≡ blocksD (tokensOf (now (tokens .entry))) (globalsIn (now (rows .entry)) n)
+        ≡ typeBlocksD (tokensOf (now (tokens .entry))) (globalsIn (now (rows .entry)) n)
         (getD (now (rows .entry)) (retAt row) 0) (now (table .entry))
         (inOrder (now (items .entry)) (now (arguments .entry)) (now (blocks .entry))
         (getD (now (rows .entry)) (firstBlockAt row) 0) (getD (now (rows .entry)) (blockCountAt row) 0)) ⌝ }
@@ -176,7 +176,7 @@ pub fn analyze(
 ) -> Checked
     requires { ⌜ (n ≤ 64) × (row < 64) × (2881 ≤ length (now rows)) ⌝ }
     ensures { λ r. ⌜ typed (now (table .exit)) r
-        ≡ rowD (tokensOf (now (tokens .entry))) (now (rows .entry)) n (now (items .entry)) (now (arguments .entry))
+        ≡ typeRowD (tokensOf (now (tokens .entry))) (now (rows .entry)) n (now (items .entry)) (now (arguments .entry))
         (now (blocks .entry)) row (now (table .entry)) ⌝ }
 {
     utils::clear(table);

@@ -5,7 +5,8 @@ ghost use Prim.Native.Nat.{ℕ};
 ghost use lib.Dec.{eqb};
 ghost use Rattle.utils.specs.Bytes.{pick};
 ghost use Rattle.sema.specs.Symbols.{typed};
-ghost use Rattle.sema.specs.Typing.{thenThree, operandsD, binaryD, operandD, unaryD, constD, retD, retValueD};
+ghost use Rattle.sema.specs.Typing.{thenThree, operandsD, typeBinaryD, operandD, typeUnaryD, typeConstD};
+ghost use Rattle.sema.specs.Typing.{typeRetD, typeRetValueD};
 use crate::Checked;
 use crate::symbols;
 use pieces::Identifier;
@@ -59,7 +60,7 @@ pub fn analyze_bin_op(
     lhs: Identifier,
     rhs: Identifier,
 ) -> Checked
-    ensures { λ r. ⌜ typed (now (table .exit)) r ≡ binaryD (now (table .entry)) kind token result ty lhs rhs ⌝ }
+    ensures { λ r. ⌜ typed (now (table .exit)) r ≡ typeBinaryD (now (table .entry)) kind token result ty lhs rhs ⌝ }
 {
     let left = symbols::get(table, lhs);
     if left == 0 {
@@ -96,7 +97,7 @@ pub fn analyze_unary_op(
     ty: u32,
     operand: Identifier,
 ) -> Checked
-    ensures { λ r. ⌜ typed (now (table .exit)) r ≡ unaryD (now (table .entry)) kind token result ty operand ⌝ }
+    ensures { λ r. ⌜ typed (now (table .exit)) r ≡ typeUnaryD (now (table .entry)) kind token result ty operand ⌝ }
 {
     let found = symbols::get(table, operand);
     if found == 0 {
@@ -125,7 +126,7 @@ pub fn analyze_const(
     result: Identifier,
     ty: u32,
 ) -> Checked
-    ensures { λ r. ⌜ typed (now (table .exit)) r ≡ constD (now (table .entry)) kind token result ty ⌝ }
+    ensures { λ r. ⌜ typed (now (table .exit)) r ≡ typeConstD (now (table .entry)) kind token result ty ⌝ }
 {
     match symbols::expect_type(token, constant_type(kind), ty) {
         Checked::Refused(e) => Checked::Refused(e),
@@ -134,7 +135,7 @@ pub fn analyze_const(
 }
 
 pub fn analyze_ret(ret: u32, token: usize) -> Checked
-    ensures { λ r. ⌜ ((t : List ℕ) → typed t r ≡ retD t ret token) ⌝ }
+    ensures { λ r. ⌜ ((t : List ℕ) → typed t r ≡ typeRetD t ret token) ⌝ }
 {
     if ret == 3 {
         return Checked::Fine;
@@ -143,7 +144,7 @@ pub fn analyze_ret(ret: u32, token: usize) -> Checked
 }
 
 pub fn analyze_ret_value(table: &[u32], ret: u32, token: usize, x: Identifier) -> Checked
-    ensures { λ r. ⌜ typed (now (table .entry)) r ≡ retValueD (now (table .entry)) ret token x ⌝ }
+    ensures { λ r. ⌜ typed (now (table .entry)) r ≡ typeRetValueD (now (table .entry)) ret token x ⌝ }
 {
     let found = symbols::get(table, x);
     if found == 0 {

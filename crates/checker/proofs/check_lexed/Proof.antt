@@ -8,7 +8,7 @@ use borrow.Author.Needs.{needs}
 use Rattle.lexer.specs.Decoded.{tokensOf}
 use Rattle.body.specs.Room.{Within}
 use Rattle.functions.specs.Answer.{slices}
-use Rattle.typing.specs.Outcome.{Counted}
+use Rattle.unit.specs.Outcome.{Counted}
 use Rattle.checker.proofs.Ends.{ends-accepted, ends-refused}
 use Rattle.checker.proofs.Lexed.{tokens-few, names-few, used-tokens, used-names, within, short-first}
 use Rattle.checker.proofs.check_lexed.Statement.{statement}

@@ -9,7 +9,7 @@ use borrow.Author.Tests.{not-true, not-false}
 use Rattle.lexer.specs.Decoded.{tokensOf}
 use Rattle.body.specs.Room.{Within}
 use Rattle.functions.specs.Answer.{slices}
-use Rattle.typing.specs.Outcome.{Counted}
+use Rattle.unit.specs.Outcome.{Counted}
 use Rattle.checker.specs.Promise.{padded}
 use Rattle.checker.proofs.Lexed.{tokens-few, names-few, used-tokens, used-names, within, short-first}
 use Rattle.recheck.specs.Recheck.{refusedWith}

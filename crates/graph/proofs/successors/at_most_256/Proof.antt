@@ -1,18 +1,18 @@
--- `at_most_256` tests what `blocksIn` tests.
+-- `at_most_256` tests what `atMost256` tests.
 use borrow.Author.Tests.{lt-ltb, le-ltb}
 use native.Mathlib.Omega.{arith}
 use mathlib.Core.Path.{refl}
 use Rattle.utils.specs.Bytes.{pick}
-use Rattle.graph.specs.Records.{blocksIn}
+use Rattle.graph.specs.Records.{atMost256}
 use Rattle.graph.proofs.successors.at_most_256.Statement.{statement}
 use Rattle.graph.proofs.successors.at_most_256.Tie as tie
 
 returns : tie.Need-returns
-unfolding blocksIn pick
+unfolding atMost256 pick
 returns c = rw (lt-ltb _ _ (c .if1 .taken)) (refl, omega arith)
 
 returns-2 : tie.Need-returns-2
-unfolding blocksIn pick
+unfolding atMost256 pick
 returns-2 c = rw (le-ltb _ _ (c .if1 .left)) (refl, omega arith)
 
 pub at-most-256-spec : {M : Type 1} → statement M

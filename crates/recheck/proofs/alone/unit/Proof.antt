@@ -7,8 +7,8 @@ use denote.Ref.{now}
 use Rattle.lexer.specs.Decoded.{tokensOf}
 use Rattle.functions.specs.Columns.{typeAt}
 use Rattle.functions.specs.Answer.{slices}
-use Rattle.typing.specs.Outcome.{Counted}
-use Rattle.typing.proofs.Building.{zero-now}
+use Rattle.unit.specs.Outcome.{Counted}
+use Rattle.unit.proofs.Building.{zero-now}
 use Rattle.headers.specs.Spelled.{calleesSpelled}
 use Rattle.recheck.specs.Recheck.{verdictD}
 use Rattle.recheck.proofs.Building.{unit-done, unit-refused}

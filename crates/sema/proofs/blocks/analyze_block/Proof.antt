@@ -1,6 +1,6 @@
 use Rattle.lexer.specs.Decoded.{tokensOf}
 use Rattle.sema.specs.Globals.{globalsIn}
-use Rattle.sema.specs.Blocks.{itemsAt, itemsD}
+use Rattle.sema.specs.Blocks.{itemsAt, typeItemsD}
 use Rattle.sema.proofs.Threads.{items-refused, items-fine, items-ended}
 use borrow.Author.Needs.{needs}
 use native.Mathlib.Omega.{arith}
@@ -14,8 +14,8 @@ use Rattle.sema.proofs.blocks.analyze_block.Tie as tie
 abbrev Inv-loop : tie.InvT-loop
 Inv-loop tokens rows n ret table₀ items arguments first count at₀ left₀ table at left =
     (at + left ≡ first + count) × (length table ≡ length table₀)
-    × (itemsD (tokensOf tokens) (globalsIn rows n) ret table (itemsAt items arguments at left)
-    ≡ itemsD (tokensOf tokens) (globalsIn rows n) ret table₀ (itemsAt items arguments first count))
+    × (typeItemsD (tokensOf tokens) (globalsIn rows n) ret table (itemsAt items arguments at left)
+    ≡ typeItemsD (tokensOf tokens) (globalsIn rows n) ret table₀ (itemsAt items arguments first count))
 
 abbrev μ-loop : tie.MeasureT-loop
 μ-loop tokens rows n ret table₀ items arguments first count at₀ left₀ table at left = left

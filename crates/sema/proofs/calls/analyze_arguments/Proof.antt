@@ -1,6 +1,6 @@
 use Rattle.sema.proofs.Turns.{length-types, length-variables}
 use Rattle.sema.proofs.Steps.{typed-refused, typed-fine}
-use Rattle.sema.specs.Typing.{argumentsD}
+use Rattle.sema.specs.Typing.{typeArgumentsD}
 use Rattle.utils.specs.Bytes.{pick}
 use borrow.Author.Tests.{eq-eqb, ne-eqb}
 use mathlib.Core.Path.{_∙_}
@@ -9,7 +9,7 @@ use Rattle.sema.proofs.calls.analyze_arguments.Statement.{statement}
 use Rattle.sema.proofs.calls.analyze_arguments.Tie as tie
 
 returns : tie.Need-returns
-unfolding argumentsD pick
+unfolding typeArgumentsD pick
 returns c =
     let at-most-16 = c .before .before .at-most-16 in
     let if1 = c .before .if1 in
@@ -17,7 +17,7 @@ returns c =
     rw (← at-most-16 .ensures .0, length-types _ _ _, length-variables _ _ _, ne-eqb _ _ (if1 .taken), refuse .ensures)
 
 returns-2 : tie.Need-returns-2
-unfolding argumentsD pick
+unfolding typeArgumentsD pick
 returns-2 c =
     let at-most-16 = c .before .before .before .before .before .at-most-16 in
     let if1 = c .before .before .before .before .if1 in
@@ -26,7 +26,7 @@ returns-2 c =
     rw (← at-most-16 .ensures .0, length-types _ _ _, length-variables _ _ _, eq-eqb _ _ (if1 .left)) (typed-refused _ _ _ (look-arguments .ensures) (e .given .1))
 
 returns-3 : tie.Need-returns-3
-unfolding argumentsD pick
+unfolding typeArgumentsD pick
 returns-3 c =
     let at-most-16 = c .before .before .before .before .before .at-most-16 in
     let if1 = c .before .before .before .before .if1 in

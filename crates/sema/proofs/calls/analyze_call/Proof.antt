@@ -1,5 +1,5 @@
 use Rattle.sema.proofs.Turns.{found-below}
-use Rattle.sema.specs.Typing.{callD, thenGlobal}
+use Rattle.sema.specs.Typing.{typeCallD, thenGlobal}
 use Rattle.utils.specs.Bytes.{pick}
 use borrow.Author.Tests.{eq-eqb, ne-eqb}
 use native.Mathlib.Omega.{arith}
@@ -19,7 +19,7 @@ result-type-requires c κs =
     (omega (arith, below, pre .0), pre .1)
 
 returns : tie.Need-returns
-unfolding callD thenGlobal pick
+unfolding typeCallD thenGlobal pick
 returns c =
     let find-function = c .before .before .before .before .before .before .find-function in
     let i = c .before .before .before .before .i in
@@ -38,7 +38,7 @@ analyze-arguments-requires c κs =
     (omega (arith, below, pre .0), pre .1)
 
 returns-2 : tie.Need-returns-2
-unfolding callD thenGlobal pick
+unfolding typeCallD thenGlobal pick
 returns-2 c =
     let find-function = c .before .before .before .find-function in
     let enum-told = c .before .enum-told in
@@ -46,7 +46,7 @@ returns-2 c =
     rw (← find-function .ensures, enum-told .given .1, refuse .ensures)
 
 returns-3 : tie.Need-returns-3
-unfolding callD thenGlobal pick
+unfolding typeCallD thenGlobal pick
 returns-3 c =
     let find-function = c .before .before .before .before .before .before .find-function in
     let i = c .before .before .before .before .i in

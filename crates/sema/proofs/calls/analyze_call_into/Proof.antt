@@ -1,6 +1,6 @@
 use Rattle.sema.proofs.Turns.{found-below}
 use Rattle.sema.proofs.Steps.{same-refused, same-fine}
-use Rattle.sema.specs.Typing.{callIntoD, thenGlobal}
+use Rattle.sema.specs.Typing.{typeCallIntoD, thenGlobal}
 use Rattle.utils.specs.Bytes.{pick}
 use borrow.Author.Tests.{eq-eqb, ne-eqb}
 use native.Mathlib.Omega.{arith}
@@ -20,7 +20,7 @@ result-type-requires c κs =
     (omega (arith, below, pre .0), pre .1)
 
 returns : tie.Need-returns
-unfolding callIntoD thenGlobal pick
+unfolding typeCallIntoD thenGlobal pick
 returns c =
     let find-function = c .before .before .before .before .before .before .find-function in
     let i = c .before .before .before .before .i in
@@ -39,7 +39,7 @@ enter-result-requires c κs =
     (omega (arith, below, pre .0), pre .1)
 
 returns-2 : tie.Need-returns-2
-unfolding callIntoD thenGlobal pick
+unfolding typeCallIntoD thenGlobal pick
 returns-2 c =
     let find-function = c .before .before .before .find-function in
     let enum-told = c .before .enum-told in
@@ -47,7 +47,7 @@ returns-2 c =
     rw (← find-function .ensures, enum-told .given .1, refuse .ensures)
 
 returns-3 : tie.Need-returns-3
-unfolding callIntoD thenGlobal pick
+unfolding typeCallIntoD thenGlobal pick
 returns-3 c =
     let find-function = c .before .before .before .before .before .before .before .before .before .find-function in
     let i = c .before .before .before .before .before .before .before .i in
@@ -58,7 +58,7 @@ returns-3 c =
     rw (← find-function .ensures, i .given .1, ← result-type .ensures, ne-eqb _ _ (if1 .left)) (same-refused _ _ _ _ _ (expect-type .ensures) (e .given .1))
 
 returns-4 : tie.Need-returns-4
-unfolding callIntoD thenGlobal pick
+unfolding typeCallIntoD thenGlobal pick
 returns-4 c =
     let find-function = c .before .before .before .before .before .before .before .before .before .before .before .before .find-function in
     let i = c .before .before .before .before .before .before .before .before .before .before .i in

@@ -3,7 +3,7 @@ use Rattle.lexer.specs.Decoded.{tokensOf}
 use Rattle.graph.proofs.Callers.{blocks-most}
 use Rattle.sema.specs.Globals.{globalsIn}
 use Rattle.functions.specs.Columns.{firstBlockAt, blockCountAt}
-use Rattle.sema.specs.Blocks.{blocksAt, blocksD}
+use Rattle.sema.specs.Blocks.{blocksAt, typeBlocksD}
 use Rattle.sema.proofs.Threads.{all-remaining}
 use Prim.Native.Nat.{ℕ}
 use mathlib.Core.Path.{refl, ap, _∙_}
@@ -32,7 +32,7 @@ returns c =
     let count = getD rows (blockCountAt (a .row)) 0 in
     let all = all-remaining blocks first count _ _ _ (new .ensures .0) (new .ensures .1) refl in
     rw (← result-type .ensures) (analyze-remaining .ensures
-    ∙ ap (λ (vs : List ℕ). blocksD (tokensOf (now (a .tokens))) (globalsIn rows (a .n)) (result-type .result) (now (a .table))
+    ∙ ap (λ (vs : List ℕ). typeBlocksD (tokensOf (now (a .tokens))) (globalsIn rows (a .n)) (result-type .result) (now (a .table))
     (blocksAt (now (a .items)) (now (a .arguments)) blocks first vs)) all)
 
 pub analyze-blocks-spec : {M : Type 1} → statement M

@@ -1,7 +1,7 @@
 use Rattle.lexer.specs.Decoded.{tokensOf}
 use Rattle.graph.specs.Worklist.{remaining}
 use Rattle.sema.specs.Globals.{globalsIn}
-use Rattle.sema.specs.Blocks.{blocksAt, blocksD}
+use Rattle.sema.specs.Blocks.{blocksAt, typeBlocksD}
 use Rattle.sema.proofs.Threads.{fewer, blocks-refused, blocks-fine, blocks-ended}
 use borrow.Author.Needs.{needs}
 use native.Mathlib.Omega.{arith}
@@ -15,8 +15,8 @@ use Rattle.sema.proofs.function.analyze_remaining.Tie as tie
 abbrev Inv-loop : tie.InvT-loop
 Inv-loop tokens rows n ret table₀ items arguments blocks first order left₀ table left =
     (left .blocks ≤ 256) × (length table ≡ length table₀)
-    × (blocksD (tokensOf tokens) (globalsIn rows n) ret table (blocksAt items arguments blocks first (remaining order left))
-    ≡ blocksD (tokensOf tokens) (globalsIn rows n) ret table₀ (blocksAt items arguments blocks first (remaining order left₀)))
+    × (typeBlocksD (tokensOf tokens) (globalsIn rows n) ret table (blocksAt items arguments blocks first (remaining order left))
+    ≡ typeBlocksD (tokensOf tokens) (globalsIn rows n) ret table₀ (blocksAt items arguments blocks first (remaining order left₀)))
 
 abbrev μ-loop : tie.MeasureT-loop
 μ-loop tokens rows n ret table₀ items arguments blocks first order left₀ table left = left .blocks - left .taken

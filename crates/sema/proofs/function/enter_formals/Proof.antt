@@ -1,4 +1,4 @@
-use Rattle.sema.specs.Blocks.{formalsFrom, formalsD}
+use Rattle.sema.specs.Blocks.{formalsFrom, enterFormalsD}
 use Rattle.sema.proofs.Threads.{formals-refused, formals-fine, formals-ended}
 use borrow.Author.Needs.{needs}
 use native.Mathlib.Omega.{arith}
@@ -12,7 +12,7 @@ use Rattle.sema.proofs.function.enter_formals.Tie as tie
 abbrev Inv-loop : tie.InvT-loop
 Inv-loop table₀ token rows first count w at₀ left₀ table at left =
     (at + left * 2 ≡ first + count * 2) × (length table ≡ length table₀)
-    × (formalsD table token (formalsFrom rows at left) ≡ formalsD table₀ token (formalsFrom rows first count))
+    × (enterFormalsD table token (formalsFrom rows at left) ≡ enterFormalsD table₀ token (formalsFrom rows first count))
 
 abbrev μ-loop : tie.MeasureT-loop
 μ-loop table₀ token rows first count w at₀ left₀ table at left = left

@@ -5,13 +5,13 @@ use mathlib.Core.List.{List}
 use denote.Ref.{now}
 use borrow.Author.Needs.{needs}
 use Rattle.sema.specs.Symbols.{Typed, enterD}
-use Rattle.sema.specs.Typing.{constD}
+use Rattle.sema.specs.Typing.{typeConstD}
 use Rattle.sema.proofs.Steps.{same-then, typed-refused, typed-fine}
 use Rattle.sema.proofs.operations.analyze_const.Statement.{statement}
 use Rattle.sema.proofs.operations.analyze_const.Tie as tie
 
 returns : tie.Need-returns
-unfolding constD
+unfolding typeConstD
 returns c =
     let a = c .before .before .before .before .before .before .args in
     let constant-type = c .before .before .before .before .constant-type in
@@ -22,7 +22,7 @@ returns c =
     (typed-refused _ _ next (expect-type .ensures (now (a .table))) (e .given .1) ∙ same-then _ _ _ _ next)
 
 returns-2 : tie.Need-returns-2
-unfolding constD
+unfolding typeConstD
 returns-2 c =
     let a = c .before .before .before .before .before .before .before .before .before .args in
     let constant-type = c .before .before .before .before .before .before .before .constant-type in

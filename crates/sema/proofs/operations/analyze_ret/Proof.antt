@@ -1,4 +1,4 @@
-use Rattle.sema.specs.Typing.{retD}
+use Rattle.sema.specs.Typing.{typeRetD}
 use Rattle.utils.specs.Bytes.{pick}
 use borrow.Author.Tests.{eq-eqb, ne-eqb}
 use borrow.Author.Needs.{needs}
@@ -6,13 +6,13 @@ use Rattle.sema.proofs.operations.analyze_ret.Statement.{statement}
 use Rattle.sema.proofs.operations.analyze_ret.Tie as tie
 
 returns : tie.Need-returns
-unfolding retD pick
+unfolding typeRetD pick
 returns c =
     let if1 = c .if1 in
     λ t. rw (eq-eqb _ _ (if1 .taken))
 
 returns-2 : tie.Need-returns-2
-unfolding retD pick
+unfolding typeRetD pick
 returns-2 c =
     let if1 = c .before .if1 in
     let refuse = c .refuse in

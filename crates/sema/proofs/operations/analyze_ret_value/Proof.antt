@@ -1,4 +1,4 @@
-use Rattle.sema.specs.Typing.{retValueD}
+use Rattle.sema.specs.Typing.{typeRetValueD}
 use Rattle.sema.specs.Symbols.{thenLook}
 use Rattle.utils.specs.Bytes.{pick}
 use borrow.Author.Tests.{eq-eqb, ne-eqb}
@@ -8,7 +8,7 @@ use Rattle.sema.proofs.operations.analyze_ret_value.Statement.{statemen
 use Rattle.sema.proofs.operations.analyze_ret_value.Tie as tie
 
 returns : tie.Need-returns
-unfolding retValueD thenLook pick
+unfolding typeRetValueD thenLook pick
 returns c =
     let get = c .before .before .get in
     let if1 = c .before .if1 in
@@ -16,7 +16,7 @@ returns c =
     rw (← get .ensures, eq-eqb _ _ (if1 .taken), refuse .ensures)
 
 returns-2 : tie.Need-returns-2
-unfolding retValueD thenLook pick
+unfolding typeRetValueD thenLook pick
 returns-2 c =
     let get = c .before .before .before .get in
     let if1 = c .before .before .if1 in
@@ -25,7 +25,7 @@ returns-2 c =
     rw (← get .ensures, ne-eqb _ _ (if1 .left), eq-eqb _ _ (if2 .taken), refuse2 .ensures)
 
 returns-3 : tie.Need-returns-3
-unfolding retValueD thenLook pick
+unfolding typeRetValueD thenLook pick
 returns-3 c =
     let a = c .before .before .before .before .before .args in
     let get = c .before .before .before .get in

@@ -1,5 +1,5 @@
 use Rattle.sema.proofs.Steps.{typed-refused, typed-fine}
-use Rattle.sema.specs.Typing.{unaryD}
+use Rattle.sema.specs.Typing.{typeUnaryD}
 use Rattle.sema.specs.Symbols.{thenLook}
 use Rattle.utils.specs.Bytes.{pick}
 use borrow.Author.Tests.{eq-eqb, ne-eqb}
@@ -9,7 +9,7 @@ use Rattle.sema.proofs.operations.analyze_unary_op.Statement.{statement
 use Rattle.sema.proofs.operations.analyze_unary_op.Tie as tie
 
 returns : tie.Need-returns
-unfolding unaryD thenLook pick
+unfolding typeUnaryD thenLook pick
 returns c =
     let get = c .before .before .get in
     let if1 = c .before .if1 in
@@ -17,7 +17,7 @@ returns c =
     rw (← get .ensures, eq-eqb _ _ (if1 .taken), refuse .ensures)
 
 returns-2 : tie.Need-returns-2
-unfolding unaryD thenLook pick
+unfolding typeUnaryD thenLook pick
 returns-2 c =
     let get = c .before .before .before .before .before .before .before .before .get in
     let if1 = c .before .before .before .before .before .before .before .if1 in
@@ -26,7 +26,7 @@ returns-2 c =
     rw (← get .ensures, ne-eqb _ _ (if1 .left)) (typed-refused _ _ _ (insert .ensures) (e .given .1))
 
 returns-3 : tie.Need-returns-3
-unfolding unaryD thenLook pick
+unfolding typeUnaryD thenLook pick
 returns-3 c =
     let get = c .before .before .before .before .before .before .before .before .get in
     let if1 = c .before .before .before .before .before .before .before .if1 in

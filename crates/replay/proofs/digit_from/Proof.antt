@@ -1,0 +1,102 @@
+-- What is left from `at` on, in a comment or not, has the same next digit as what is left from `from` on.
+use borrow.Author.Needs.{needs}
+use native.Mathlib.Omega.{arith}
+use native.Mathlib.Numerals.{add-one}
+use Prim.Native.Nat.{_-_}
+use mathlib.Core.Path.{_≡_}
+use mathlib.Core.Bool.{false}
+use lib.ListN.{length, drop, drop-of-length-le}
+use lib.Seq.{drop-cons, drop-length}
+use denote.Ref.{now}
+use Rattle.utils.specs.Bytes.{pick}
+use Rattle.replay.specs.Numbers.{toDigit}
+use Rattle.replay.proofs.digit_from.Statement.{statement}
+use Rattle.replay.proofs.digit_from.Tie as tie
+
+abbrev Inv-loop : tie.InvT-loop
+Inv-loop «data» from at₀ comment₀ at comment = toDigit comment (drop at «data») ≡ toDigit false (drop from «data»)
+
+abbrev μ-loop : tie.MeasureT-loop
+μ-loop «data» from at₀ comment₀ at comment = length «data» - at
+
+loop-holds : tie.Need-loop-holds Inv-loop μ-loop
+loop-holds c = search needs
+
+shared-slice-read-b : tie.Need-shared-slice-read-b Inv-loop μ-loop
+shared-slice-read-b c = search needs
+
+in-comment-requires : tie.Need-in-comment-requires Inv-loop μ-loop
+in-comment-requires c κs = search needs
+
+begins-number-requires : tie.Need-begins-number-requires Inv-loop μ-loop
+begins-number-requires c κs = search needs
+
+returns : tie.Need-returns Inv-loop μ-loop
+unfolding toDigit pick
+returns c =
+    let a = c .before .before .before .before .before .before .before .args in
+    let loop = c .before .before .before .before .before .loop in
+    let loop-test = c .before .before .before .before .loop-test in
+    let in-comment = c .before .before .in-comment in
+    let begins-number = c .before .begins-number in
+    let if1 = c .if1 in
+    let s = now (a .«data») in (
+      omega arith,
+      rw (
+        ← loop .inv,
+        drop-cons s (loop .at) 0 (loop-test .taken),
+        ← in-comment .ensures,
+        ← begins-number .ensures,
+        if1 .taken,
+      ),
+    )
+
+add-at : tie.Need-add-at Inv-loop μ-loop
+add-at c = search needs
+
+loop-less : tie.Need-loop-less Inv-loop μ-loop
+loop-less c = search needs
+
+loop-again : tie.Need-loop-again Inv-loop μ-loop
+unfolding toDigit pick
+loop-again c =
+    let a = c .before .before .before .before .before .before .before .args in
+    let loop = c .before .before .before .before .before .loop in
+    let loop-test = c .before .before .before .before .loop-test in
+    let in-comment = c .before .before .in-comment in
+    let begins-number = c .before .begins-number in
+    let if1 = c .if1 in
+    let s = now (a .«data») in
+    rw (
+      ← loop .inv,
+      drop-cons s (loop .at) 0 (loop-test .taken),
+      ← in-comment .ensures,
+      ← begins-number .ensures,
+      if1 .left,
+      add-one (loop .at),
+    )
+
+returns-2 : tie.Need-returns-2 Inv-loop μ-loop
+unfolding toDigit
+returns-2 c =
+    let a = c .before .before .before .args in
+    let loop = c .before .loop in
+    let loop-test = c .loop-test in
+    let s = now (a .«data») in
+    (omega arith, rw (← loop .inv, drop-of-length-le s {i = loop .at} (loop-test .left)) (drop-length s))
+
+pub digit-from-spec : {M : Type 1} → statement M
+digit-from-spec =
+    tie.close
+    (tie.spec
+    Inv-loop
+    μ-loop
+    loop-holds
+    shared-slice-read-b
+    in-comment-requires
+    begins-number-requires
+    returns
+    add-at
+    loop-less
+    loop-again
+    returns-2)

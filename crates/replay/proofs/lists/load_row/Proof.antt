@@ -1,0 +1,117 @@
+-- The cells that are left of the row, by the steps that are left, give what all of them give. The cells up to the row's end
+-- are as they were.
+use borrow.Author.Needs.{needs}
+use native.Mathlib.Omega.{arith}
+use Prim.Native.Nat.{_+_, _≤_}
+use mathlib.Core.Path.{_≡_, refl, sym, ap, _∙_}
+use mathlib.Core.Bool.{false}
+use lib.ListN.{length, take, length-set}
+use lib.Seq.{sets, slice, take-set-le}
+use denote.Ref.{now}
+use Rattle.utils.specs.Bytes.{pick}
+use Rattle.replay.specs.Lists.{Values, valuesAt, valueAt, stepped}
+use Rattle.replay.proofs.Rows.{values-more, values-none, cell-stored, row-done}
+use Rattle.replay.proofs.lists.load_row.Statement.{statement}
+use Rattle.replay.proofs.lists.load_row.Tie as tie
+
+abbrev Inv-loop : tie.InvT-loop
+Inv-loop «data» from cells₀ start width at₀ here₀ left₀ cells at here left =
+    (length cells ≡ length cells₀) × (here + left ≡ start + width) × (take (start + width) cells ≡ take (start + width) cells₀)
+    × (valuesAt false «data» left at .next ≡ valuesAt false «data» width from .next)
+    × (sets cells (here + width) (stepped (slice here (start + width) cells₀) (valuesAt false «data» left at .cells))
+    ≡ sets cells₀ (start + width) (stepped (slice start (start + width) cells₀) (valuesAt false «data» width from .cells)))
+    × (start ≤ here)
+
+abbrev μ-loop : tie.MeasureT-loop
+μ-loop «data» from cells₀ start width at₀ here₀ left₀ cells at here left = left
+
+loop-holds : tie.Need-loop-holds Inv-loop μ-loop
+loop-holds c = (refl, refl, refl, refl, refl, omega arith)
+
+number-at-requires : tie.Need-number-at-requires Inv-loop μ-loop
+number-at-requires c κs = search needs
+
+add-there : tie.Need-add-there Inv-loop μ-loop
+add-there c = search needs
+
+mul-wrapping-add-u32 : tie.Need-mul-wrapping-add-u32 Inv-loop μ-loop
+mul-wrapping-add-u32 c = search needs
+
+slice-read-wrapping-add-u32 : tie.Need-slice-read-wrapping-add-u32 Inv-loop μ-loop
+slice-read-wrapping-add-u32 c = search needs
+
+wrapping-add-u32-requires : tie.Need-wrapping-add-u32-requires Inv-loop μ-loop
+wrapping-add-u32-requires c κs = search needs
+
+mul-cells : tie.Need-mul-cells Inv-loop μ-loop
+mul-cells c = search needs
+
+slice-write-cells : tie.Need-slice-write-cells Inv-loop μ-loop
+slice-write-cells c = search needs
+
+add-here : tie.Need-add-here Inv-loop μ-loop
+add-here c = search needs
+
+sub-left : tie.Need-sub-left Inv-loop μ-loop
+sub-left c = search needs
+
+loop-less : tie.Need-loop-less Inv-loop μ-loop
+loop-less c = search needs
+
+loop-again : tie.Need-loop-again Inv-loop μ-loop
+unfolding valueAt pick
+loop-again c =
+    let a = c .before .before .before .before .before .before .before .args in
+    let loop = c .before .before .before .before .loop in
+    let loop-test = c .before .before .before .loop-test in
+    let number-at = c .before .before .number-at in
+    let wrapping-add-u32 = c .wrapping-add-u32 in
+    let s = now (a .«data») in (
+      simp length-set (loop .inv .0),
+      omega arith,
+      take-set-le (a .start + a .width) (loop .cells) (loop .here + a .width) (wrapping-add-u32 .result) (omega arith)
+          ∙ loop .inv .2,
+      sym (ap (λ (v : Values). v .next) (values-more false s (loop .left) (loop .at) (number-at .result) (loop-test .taken) (number-at .ensures)))
+          ∙ loop .inv .3,
+      cell-stored s (now (a .cells)) (loop .cells) (loop .at) (a .start) (a .width) (loop .here) (loop .left) (number-at .result)
+          (wrapping-add-u32 .result) (loop-test .taken) (loop .inv .1) (omega arith) (loop .inv .2) (number-at .ensures)
+          (wrapping-add-u32 .ensures)
+          ∙ loop .inv .4,
+      omega arith,
+    )
+
+same-length : tie.Need-same-length Inv-loop μ-loop
+same-length c = search needs
+
+returns : tie.Need-returns Inv-loop μ-loop
+returns c =
+    let a = c .before .before .before .before .args in
+    let loop = c .before .loop in
+    let loop-test = c .loop-test in
+    let none = values-none false (now (a .«data»)) (loop .left) (loop .at) (loop-test .left) in (
+      rw none at (loop .inv .3),
+      sym (row-done (now (a .cells)) (loop .cells) (valuesAt false (now (a .«data»)) (loop .left) (loop .at) .cells) (loop .here)
+          (a .start + a .width) (a .width) (omega arith))
+          ∙ loop .inv .4,
+    )
+
+pub load-row-spec : {M : Type 1} → statement M
+load-row-spec =
+    tie.close
+    (tie.spec
+    Inv-loop
+    μ-loop
+    loop-holds
+    number-at-requires
+    add-there
+    mul-wrapping-add-u32
+    slice-read-wrapping-add-u32
+    wrapping-add-u32-requires
+    mul-cells
+    slice-write-cells
+    add-here
+    sub-left
+    loop-less
+    loop-again
+    same-length
+    returns)

@@ -1,0 +1,106 @@
+// What a recheck is given beside the new text.
+use replay::lists;
+use replay::number_at;
+
+// Whether a case is one of recheck; how much of their room its old text and its header table take; the function's
+// number, and the place in the file after them.
+pub struct Given {
+    pub again: bool,
+    pub old: usize,
+    pub table: usize,
+    pub number: u32,
+    pub next: usize,
+}
+
+// A case of check, or a file that is malformed.
+fn nothing(next: usize) -> Given {
+    Given {
+        again: false,
+        old: 0,
+        table: 0,
+        number: 0,
+        next,
+    }
+}
+
+// The header table that `check` writes for a text.
+fn write_table(text: &[u8], table: &mut [u32]) {
+    let mut tokens = [0u32; 16384];
+    let mut names = [0u32; 2048];
+    let mut items = [0u32; 24576];
+    let mut arguments = [0u32; 6928];
+    let mut blocks = [0u32; 8192];
+    let mut predecessors = [0u32; 2048];
+    let mut message = [0u8; 512];
+    checker::check(
+        text,
+        &mut tokens,
+        &mut names,
+        table,
+        &mut items,
+        &mut arguments,
+        &mut blocks,
+        &mut predecessors,
+        &mut message,
+    );
+}
+
+// Changes cells of a table: the file has how many, and of each its index and its value. Answers the place after them.
+fn change(data: &[u8], from: usize, table: &mut [u32]) -> usize {
+    let changes = number_at(data, from);
+    let mut left = changes.value;
+    let mut at = changes.next;
+    while 0 < left {
+        let index = number_at(data, at);
+        let value = number_at(data, index.next);
+        let cell = index.value as usize;
+        if table.len() <= cell {
+            return data.len();
+        }
+        table[cell] = value.value;
+        at = value.next;
+        left -= 1;
+    }
+    at
+}
+
+// What a case of recheck is given.
+fn load_given(
+    data: &[u8],
+    from: usize,
+    cells: &mut [u32],
+    old: &mut [u8],
+    table: &mut [u32],
+) -> Given {
+    let text = lists::load_text(data, from, cells, old);
+    let n = text.count;
+    if old.len() < n {
+        return nothing(data.len());
+    }
+    write_table(&old[..n], table);
+    let changed = change(data, text.next, table);
+    let length = number_at(data, changed);
+    let number = number_at(data, length.next);
+    Given {
+        again: true,
+        old: n,
+        table: length.value as usize,
+        number: number.value,
+        next: number.next,
+    }
+}
+
+// What a case is given: one of check, nothing.
+pub fn given_at(
+    data: &[u8],
+    from: usize,
+    again: bool,
+    cells: &mut [u32],
+    old: &mut [u8],
+    table: &mut [u32],
+) -> Given {
+    if again {
+        return load_given(data, from, cells, old, table);
+    }
+    nothing(from)
+}

@@ -1,0 +1,328 @@
+-- From the slices that `parse` leaves to those that the whole unit leaves.
+use Prim.Native.Nat.{ℕ, _+_, _*_, _-_, _≤_}
+use mathlib.Core.Path.{_≡_, refl, sym, ap, subst, _∙_}
+use mathlib.Core.List.{List, [], _∷_, _++_}
+use native.Mathlib.Omega.{arith}
+use lib.ListN.{length, drop, replicate, length-append, length-replicate}
+use Rattle.utils.specs.Bytes.{padTo}
+use Rattle.lexer.specs.Decoded.{Tok}
+use Rattle.parser.specs.Step.{thenAt}
+use Rattle.parser.specs.declared.Refusal.{Refusal}
+use Rattle.parser.specs.declared.Consumed.{Consumed}
+use Rattle.parser.specs.declared.Consumed.the-variants as C
+use Rattle.functions.specs.Functions.{Function, programD}
+use Rattle.functions.specs.Answer.{Slices, slices, Long, countsWith, countsFrom, programRead, storedFrom, withCount, Held}
+use Rattle.functions.specs.Laid.{rowsCells, untypedItems, untypedArguments, allBlocks, allPredecessors, FitsFrom, AllFit}
+use Rattle.functions.specs.declared.Counts.{Counts}
+use Rattle.functions.specs.declared.ProgramRead.the-variants as U
+use Rattle.functions.proofs.Laid.{functions-counted, length-items, length-arguments, Inside, inside-from, none-inside, stored-laid}
+use Rattle.functions.proofs.Laid.{LaidFits, laid-fits}
+use Rattle.functions.proofs.Standing.{types-stored, items-stored}
+use Rattle.parser.specs.Runs.{typeCell}
+use Rattle.sema.specs.Symbols.{Typed}
+use Rattle.sema.specs.Blocks.{typeFunctionD}
+use Rattle.sema.specs.Program.{globalsOf, orderedBlocks, typeProgramD as typedD}
+use Rattle.sema.specs.declared.Checked.{Checked}
+use Rattle.sema.specs.declared.Checked.the-variants as K
+use Rattle.sema.proofs.Rows.{globals-stored}
+use Rattle.elaborate.specs.Types.{calleeIn, typedItemsCells, typedArgumentsCells}
+use Rattle.elaborate.proofs.Lists.{length-typed-items, length-typed-arguments}
+use Rattle.elaborate.proofs.Rows.{callees-stored}
+use Rattle.unit.specs.Outcome.{untyped, UnitOutcome, checked, refused, unitD, unitRead, unitSlices, none, asLong, cleared}
+use Rattle.unit.specs.Outcome.{tablesOf, allItems, allArguments, UnitHeld, Counted}
+use Rattle.unit.specs.Rows.{Done, typedRows, RowsFit, HeldBy, RowsHeld}
+use Rattle.unit.proofs.Typed.{Same, all-typed}
+
+-- Lengths. ----------------------------------------------------------------------------------------------------------
+
+abbrev one : List Tok → List Function → Function → Typed
+one ts all f =
+    typeFunctionD ts (globalsOf all) (typeCell (f .head .ret)) (f .token) (f .head .formals) (orderedBlocks (f .items))
+    untyped
+
+length-tables : (ts : List Tok) (all fs : List Function) (callees : ℕ → ℕ) (n : Counts)
+    → n .items * 8 + length (allItems callees n fs (tablesOf ts all fs)) ≡ countsFrom n fs .items * 8
+unfolding allItems tablesOf countsFrom
+length-tables ts all [] callees n = omega arith
+length-tables ts all (f ∷ fs) callees n =
+    omega (
+      arith,
+      length-append (typedItemsCells (one ts all f .table) callees (n .arguments) (f .items)) (allItems callees (countsWith n f) fs (tablesOf ts all fs)),
+      length-typed-items (one ts all f .table) callees (n .arguments) (f .items),
+      length-tables ts all fs callees (countsWith n f),
+    )
+
+length-typed : (ts : List Tok) (all fs : List Function) (n : Counts)
+    → n .arguments * 2 + length (allArguments fs (tablesOf ts all fs)) ≡ countsFrom n fs .arguments * 2
+unfolding allArguments tablesOf countsFrom
+length-typed ts all [] n = omega arith
+length-typed ts all (f ∷ fs) n =
+    omega (
+      arith,
+      length-append (typedArgumentsCells (one ts all f .table) (f .items)) (allArguments fs (tablesOf ts all fs)),
+      length-typed-arguments (one ts all f .table) (f .items),
+      length-typed ts all fs (countsWith n f),
+    )
+
+length-padTo : (n : ℕ) (l : List ℕ) → length l ≤ n → length (padTo n l) ≡ n
+length-padTo n l h =
+    omega (arith, length-append l (replicate (n - length l) 0), length-replicate {A = ℕ} (n - length l) 0)
+
+same-slices : {f i a b p f′ i′ a′ b′ p′ : List ℕ} → f ≡ f′ → i ≡ i′ → a ≡ a′ → b ≡ b′ → p ≡ p′
+    → slices f i a b p ≡ slices f′ i′ a′ b′ p′
+same-slices e₁ e₂ e₃ e₄ e₅ = rw (e₁, e₂, e₃, e₄, e₅)
+
+-- The functions that were parsed. -----------------------------------------------------------------------------------
+
+module _ (ts : List Tok) (names : List ℕ) (fs : List Function) (fits : FitsFrom none fs) (F I A B P : ℕ)
+    (long-f : 2881 ≤ F) (long-i : 24576 ≤ I) (long-a : 6928 ≤ A) (long-b : 8192 ≤ B) (long-p : 2048 ≤ P) where
+  abbrev rows : List ℕ
+  rows = padTo F (length fs ∷ rowsCells ts names none fs)
+
+  abbrev items : List ℕ
+  items = padTo I (untypedItems none fs)
+
+  abbrev args : List ℕ
+  args = padTo A (untypedArguments fs)
+
+  abbrev blocks : List ℕ
+  blocks = padTo B (allBlocks none fs)
+
+  inside : Inside (countsFrom none fs)
+  inside = inside-from none fs none-inside fits
+
+  abbrev zr : List ℕ
+  zr = replicate (F - length (length fs ∷ rowsCells ts names none fs)) 0
+
+  rows-stand : drop 1 rows ≡ rowsCells ts names none fs ++ zr
+  rows-stand = refl
+
+  pub functions-few : length fs ≤ 64
+  functions-few = omega (arith, inside .functions-few, functions-counted none fs)
+
+  laid : LaidFits ts names fs
+  laid = laid-fits ts names fs fits
+
+  pub ready : RowsFit rows (length fs) 0 (length fs) (length items)
+  ready =
+      record {
+        types-few = types-stored ts names rows zr fs fits rows-stand;
+        items-fit = λ i from h.
+            omega (
+              arith,
+              items-stored ts names rows zr fs fits rows-stand i (omega (arith, h)),
+              length-padTo I (untypedItems none fs) (omega (arith, laid .items-fit)),
+            );
+      }
+
+  typing : Same ts names rows fs (length fs) blocks untyped
+      (λ name. globals-stored ts names rows zr name fs fits rows-stand)
+      (λ name. callees-stored ts names rows zr name fs fits rows-stand) refl fs none [] []
+      (replicate (I - length (untypedItems none fs)) 0) (replicate (A - length (untypedArguments fs)) 0)
+      (typedRows ts rows (length fs) blocks untyped 0 (length fs) items args)
+  typing =
+      all-typed ts names rows fs (length fs) blocks untyped
+      (λ name. globals-stored ts names rows zr name fs fits rows-stand)
+      (λ name. callees-stored ts names rows zr name fs fits rows-stand) refl fs none fits [] []
+      (replicate (I - length (untypedItems none fs)) 0) (replicate (A - length (untypedArguments fs)) 0) zr
+      (replicate (B - length (allBlocks none fs)) 0) rows-stand refl refl refl
+
+  pub ends-as : typedRows ts rows (length fs) blocks untyped 0 (length fs) items args .end ≡ typedD ts fs fs untyped .end
+  ends-as = typing .ends
+
+  abbrev d : Done
+  d = typedRows ts rows (length fs) blocks untyped 0 (length fs) items args
+
+  pub typed-slices : d .end ≡ K.Fine
+      → slices rows (d .items) (d .arguments) blocks (padTo P (allPredecessors fs))
+      ≡ slices
+      (padTo F (length fs ∷ rowsCells ts names none fs))
+      (padTo I (allItems (calleeIn fs) none fs (tablesOf ts fs fs)))
+      (padTo A (allArguments fs (tablesOf ts fs fs)))
+      (padTo B (allBlocks none fs))
+      (padTo P (allPredecessors fs))
+  typed-slices e =
+      let i : length (untypedItems none fs) ≡ length (allItems (calleeIn fs) none fs (tablesOf ts fs fs)) =
+      omega (arith, length-items none fs, length-tables ts fs fs (calleeIn fs) none) in
+      let a : length (untypedArguments fs) ≡ length (allArguments fs (tablesOf ts fs fs)) =
+      omega (arith, length-arguments none fs, length-typed ts fs fs none) in
+      same-slices refl
+      (typing .items-are e
+      ∙ ap (λ (k : ℕ). allItems (calleeIn fs) none fs (tablesOf ts fs fs) ++ replicate (I - k) 0) i)
+      (typing .arguments-are e
+      ∙ ap (λ (k : ℕ). allArguments fs (tablesOf ts fs fs) ++ replicate (A - k) 0) a)
+      refl refl
+
+-- What the function that calls both knows. --------------------------------------------------------------------------
+
+-- how parsing ended
+ended-at : (e : Consumed) (m n : Counts) → U.Done n ≡ thenAt U.Refused e (λ next. U.Done m)
+    → ((next : ℕ) × (e ≡ C.At next)) × (n ≡ m)
+unfolding thenAt
+ended-at (C.At next) m n h = ((next, refl), cc)
+ended-at (C.Refused e) m n h = absurd (let z : _≡_ {A = ℕ} 0 1 = cc in omega arith)
+
+refused-at : (e : Consumed) (m : Counts) (r : Refusal) → U.Refused r ≡ thenAt U.Refused e (λ next. U.Done m) → e ≡ C.Refused r
+unfolding thenAt
+refused-at (C.At next) m r h = absurd (let z : _≡_ {A = ℕ} 0 1 = cc in omega arith)
+refused-at (C.Refused e) m r h = cc
+
+module _ (ts : List Tok) (names f i a b p : List ℕ) where
+  abbrev fs : List Function
+  fs = programD ts .functions
+
+  abbrev s₀ : Slices
+  s₀ = slices f i a b p
+
+  pub refused-whole : {e : Refusal} → unitD ts ≡ refused e → (s : Slices)
+      → (U.Refused e ≡ unitRead (unitD ts)) × (UnitHeld ts names s₀ s (unitD ts) × Counted (U.Refused e))
+  refused-whole h s = rw h (refl, (tt, tt))
+
+  pub parse-refuses : (e : Refusal) → U.Refused e ≡ programRead (programD ts) → unitD ts ≡ refused e
+  unfolding unitD programRead
+  parse-refuses e h = rw (refused-at (programD ts .end) (countsFrom none fs) e h)
+
+  module _ (rows-long : 2881 ≤ length f) (long : Long i a b p) (zero-now : s₀ ≡ cleared s₀) (fits : AllFit (programD ts))
+      (n : Counts) (parsed : U.Done n ≡ programRead (programD ts)) (f₁ i₁ a₁ b₁ p₁ : List ℕ)
+      (held : Held ts names fs s₀ (slices f₁ i₁ a₁ b₁ p₁) (programD ts .end)) where
+    at-end : ((next : ℕ) × (programD ts .end ≡ C.At next)) × (n ≡ countsFrom none fs)
+    unfolding programRead
+    at-end = ended-at (programD ts .end) (countsFrom none fs) n parsed
+
+    n-is : n .functions ≡ length fs
+    n-is = omega (arith, ap (λ (k : Counts). k .functions) (at-end .1), functions-counted none fs)
+
+    laid-are : slices f₁ i₁ a₁ b₁ p₁
+        ≡ slices
+        (padTo (length f) (length fs ∷ rowsCells ts names none fs))
+        (padTo (length i) (untypedItems none fs))
+        (padTo (length a) (untypedArguments fs))
+        (padTo (length b) (allBlocks none fs))
+        (padTo (length p) (allPredecessors fs))
+    laid-are =
+        subst (λ (e : Consumed). Held ts names fs s₀ (slices f₁ i₁ a₁ b₁ p₁) e) (at-end .0 .1) held
+        ∙ ap (λ (s : Slices). withCount (length fs) (storedFrom ts names none s fs)) zero-now
+        ∙ stored-laid ts names (length f) (length i) (length a) (length b) (length p) rows-long (long .items-long)
+        (long .arguments-long) (long .blocks-long) (long .predecessors-long) fs fits
+
+    f-is : f₁ ≡ padTo (length f) (length fs ∷ rowsCells ts names none fs)
+    f-is = ap (λ (s : Slices). s .functions) laid-are
+
+    i-is : i₁ ≡ padTo (length i) (untypedItems none fs)
+    i-is = ap (λ (s : Slices). s .items) laid-are
+
+    a-is : a₁ ≡ padTo (length a) (untypedArguments fs)
+    a-is = ap (λ (s : Slices). s .arguments) laid-are
+
+    b-is : b₁ ≡ padTo (length b) (allBlocks none fs)
+    b-is = ap (λ (s : Slices). s .blocks) laid-are
+
+    p-is : p₁ ≡ padTo (length p) (allPredecessors fs)
+    p-is = ap (λ (s : Slices). s .predecessors) laid-are
+
+    abbrev I : ℕ
+    I = length i
+
+    ready-now : RowsFit (padTo (length f) (length fs ∷ rowsCells ts names none fs)) (length fs) 0 (length fs)
+        (length (padTo (length i) (untypedItems none fs)))
+    ready-now =
+        ready ts names fs fits (length f) (length i) (length a) (length b) (length p) rows-long (long .items-long)
+        (long .arguments-long) (long .blocks-long) (long .predecessors-long)
+
+    pub few : n .functions ≤ 64
+    few =
+        omega (
+          arith,
+          n-is,
+          functions-few ts names fs fits (length f) (length i) (length a) (length b) (length p) rows-long (long .items-long)
+              (long .arguments-long) (long .blocks-long) (long .predecessors-long),
+        )
+
+    pub rows-fit : RowsFit f₁ (n .functions) 0 (n .functions) (length i₁)
+    rows-fit = rw (f-is, n-is, i-is) ready-now
+
+    abbrev done : Done
+    done = typedRows ts f₁ (n .functions) b₁ untyped 0 (n .functions) i₁ a₁
+
+    abbrev laid-done : Done
+    laid-done =
+        typedRows ts (padTo (length f) (length fs ∷ rowsCells ts names none fs)) (length fs) (padTo (length b) (allBlocks none fs))
+        untyped 0 (length fs) (padTo (length i) (untypedItems none fs)) (padTo (length a) (untypedArguments fs))
+
+    done-is : done ≡ laid-done
+    done-is = rw (f-is, n-is, b-is, i-is, a-is)
+
+    ends-is : done .end ≡ typedD ts fs fs untyped .end
+    ends-is =
+        ap (λ (d : Done). d .end) done-is
+        ∙ ends-as ts names fs fits (length f) (length i) (length a) (length b) (length p) rows-long (long .items-long)
+        (long .arguments-long) (long .blocks-long) (long .predecessors-long)
+
+    module _ (r : Checked) (i₂ a₂ : List ℕ) (typed : RowsHeld r i₂ a₂ done) where
+      pub types-refuse : (e : Refusal) → r ≡ K.Refused e → unitD ts ≡ refused e
+      unfolding unitD
+      types-refuse e h =
+          let q : typedD ts fs fs untyped .end ≡ K.Refused e = sym ends-is ∙ sym (typed .answer) ∙ h in
+          rw (at-end .0 .1, q)
+
+      pub types-fine : r ≡ K.Fine → unitD ts ≡ checked fs
+      unfolding unitD
+      types-fine h =
+          let q : typedD ts fs fs untyped .end ≡ K.Fine = sym ends-is ∙ sym (typed .answer) ∙ h in
+          rw (at-end .0 .1, q)
+
+      written : r ≡ K.Fine → slices f₁ i₂ a₂ b₁ p₁ ≡ asLong s₀ (unitSlices ts names (checked fs))
+      written h =
+          let k = subst (λ (x : Checked). HeldBy x i₂ a₂ done) h (typed .held) in
+          let z : laid-done .end ≡ K.Fine = ap (λ (d : Done). d .end) (sym done-is) ∙ sym (typed .answer) ∙ h in
+          same-slices f-is (k .0 ∙ ap (λ (d : Done). d .items) done-is) (k .1 ∙ ap (λ (d : Done). d .arguments) done-is) b-is p-is
+          ∙ typed-slices ts names fs fits (length f) (length i) (length a) (length b) (length p) rows-long (long .items-long)
+          (long .arguments-long) (long .blocks-long) (long .predecessors-long) z
+
+      pub fine-whole : r ≡ K.Fine
+          → (U.Done n ≡ unitRead (unitD ts)) × (UnitHeld ts names s₀ (slices f₁ i₂ a₂ b₁ p₁) (unitD ts) × Counted (U.Done n))
+      fine-whole h =
+          let v = inside-from none fs none-inside fits in
+          let u = types-fine h in
+          rw (u, at-end .1)
+          (refl, (written h, (v .functions-few, v .items-few, v .arguments-few, v .blocks-few, v .predecessors-few)))
+
+-- Slices that are cleared before and after. -------------------------------------------------------------------------
+
+module _ (s₀ s₁ : Slices) (clear-is : s₁ ≡ cleared s₀) where
+  as-long-same : (x : Slices) → asLong s₁ x ≡ asLong s₀ x
+  as-long-same x =
+      ap (λ (s : Slices). asLong s x) clear-is
+      ∙ rw (
+        length-padTo (length (s₀ .functions)) [] (omega arith),
+        length-padTo (length (s₀ .items)) [] (omega arith),
+        length-padTo (length (s₀ .arguments)) [] (omega arith),
+        length-padTo (length (s₀ .blocks)) [] (omega arith),
+        length-padTo (length (s₀ .predecessors)) [] (omega arith),
+      )
+
+  pub zero-now : s₁ ≡ cleared s₁
+  zero-now = clear-is ∙ sym (as-long-same (slices [] [] [] [] []))
+
+  module _ (ts : List Tok) (names : List ℕ) (s₂ : Slices) where
+    done-by : (o : UnitOutcome) (n : Counts) → U.Done n ≡ unitRead o → UnitHeld ts names s₁ s₂ o
+        → s₂ ≡ asLong s₀ (unitSlices ts names o)
+    done-by (checked gs) n h g = g ∙ as-long-same (unitSlices ts names (checked gs))
+    done-by (refused e) n h g = absurd (let z : _≡_ {A = ℕ} 0 1 = cc in omega arith)
+
+    pub unit-done : (n : Counts) → U.Done n ≡ unitRead (unitD ts) → UnitHeld ts names s₁ s₂ (unitD ts)
+        → s₂ ≡ asLong s₀ (unitSlices ts names (unitD ts))
+    unit-done = done-by (unitD ts)
+
+-- the same of slices as long
+pub unit-refused : (ts : List Tok) (names : List ℕ) (f i a b p f₂ i₂ a₂ b₂ p₂ : List ℕ) (s₃ : Slices) (e : Refusal)
+    → U.Refused e ≡ unitRead (unitD ts) → s₃ ≡ cleared (slices f₂ i₂ a₂ b₂ p₂)
+    → length f₂ ≡ length f → length i₂ ≡ length i → length a₂ ≡ length a → length b₂ ≡ length b → length p₂ ≡ length p
+    → s₃ ≡ asLong (slices f i a b p) (unitSlices ts names (unitD ts))
+unit-refused ts names f i a b p f₂ i₂ a₂ b₂ p₂ s₃ e h g k₁ k₂ k₃ k₄ k₅ =
+    g ∙ rw (k₁, k₂, k₃, k₄, k₅) (sym (empty (unitD ts) h))
+  where
+    empty : (o : UnitOutcome) → U.Refused e ≡ unitRead o
+        → asLong (slices f i a b p) (unitSlices ts names o) ≡ cleared (slices f i a b p)
+    empty (checked gs) q = absurd (let z : _≡_ {A = ℕ} 0 1 = cc in omega arith)
+    empty (refused r) q = refl
