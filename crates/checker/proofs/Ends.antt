@@ -107,7 +107,7 @@ module _ (text m t n : List ℕ) (u : Slices) (r : ReadAnswer) (v : Lexed 1 text
   ends-accepted k h =
       check-accepts text m t n u r v u′ unit-same k (h ∙ ap (λ (x : List ℕ). unitRead (unitD (tokensOf x))) tk-is)
 
-  -- the checkRefusal stands at the reading's own tokens and names
+  -- the refusal stands at the reading's own tokens and names
   refused-there : (e : Refusal) (res : CheckAnswer) (m′ t′ n′ : List ℕ)
       → Refuses text (take (r .names * 2) n) (tokensOf (take (r .tokens * 4) t)) e m t n res m′ t′ n′
       → Refuses text (readFrom 1 text .names) (tokensOf (readFrom 1 text .tokens)) e m t n res m′ t′ n′
@@ -124,7 +124,7 @@ module _ (text m t n : List ℕ) (u : Slices) (r : ReadAnswer) (v : Lexed 1 text
       check-refuses text m t n u r v u′ unit-same e (h ∙ ap (λ (x : List ℕ). unitRead (unitD (tokensOf x))) tk-is) res m′
       t′ n′ (refused-there e res m′ t′ n′ w)
 
--- the checkRefusal by parts of the slices, tk and nm, that are the cells in use
+-- the refusal by parts of the slices, tk and nm, that are the cells in use
 pub refuses-by-cells : (text m t n : List ℕ) (e : Refusal) (tk nm tk′ nm′ : List ℕ) → tk ≡ tk′ → nm ≡ nm′
     → (x : TokenAt) → x ≡ tokenAt (tokensOf tk) (e .token)
     → (res : CheckAnswer) (m′ t′ n′ : List ℕ) → res ≡ checkRefusal (e .number) (x .line .0) (x .place)

@@ -37,7 +37,7 @@ accepted tokens names n =
       predecessors = n .predecessors;
     }
 
--- "after a checkRefusal every count is zero"
+-- "after a refusal every count is zero"
 abbrev pub checkRefusal : ℕ → ℕ → ℕ → CheckAnswer
 checkRefusal number line place =
     record {
@@ -53,7 +53,7 @@ checkRefusal number line place =
       predecessors = 0;
     }
 
--- A checkRefusal: its message, and nothing else.
+-- A refusal: its message, and nothing else.
 abbrev pub refusing : ℕ → ℕ → ℕ → List ℕ → Checking
 refusing number line place message =
     record {

@@ -64,7 +64,7 @@ pub record Lexed (line : ℕ) (text : List ℕ) (r : ReadAnswer) (m t n : List �
   pub tokens : t ≡ padTo (length t) (readFrom line text .tokens)
   pub names : n ≡ padTo (length n) (readFrom line text .names)
 
--- a checkRefusal at a token, once its message is written; ns and ts, the names' cells and the tokens in use, are gone
+-- a refusal at a token, once its message is written; ns and ts, the names' cells and the tokens in use, are gone
 pub record Refuses (text ns : List ℕ) (ts : List Tok) (e : Refusal) (m₀ t₀ n₀ : List ℕ) (r : CheckAnswer)
     (m t n : List ℕ) : Type 0 where
   pub answer : r ≡ refusedAt text ns ts e .answer

@@ -1,4 +1,4 @@
-// Any text to typed functions with blocks and edges, or one checkRefusal.
+// Any text to typed functions with blocks and edges, or one refusal.
 ghost use mathlib.Core.Path.{_≡_};
 ghost use Prim.Native.Nat.{ℕ, _*_, _≤_};
 ghost use lib.ListN.{length, take};
@@ -67,7 +67,7 @@ pub fn counted(tokens: u32, names: u32, n: Counts) -> CheckAnswer
     }
 }
 
-// A checkRefusal at a token: its message, and no tokens or names.
+// A refusal at a token: its message, and no tokens or names.
 pub fn refuse(
     text: &[u8],
     r: ReadAnswer,
@@ -210,7 +210,7 @@ pub fn fits(m: usize, t: usize, n: usize, unit: bool) -> bool
     unit
 }
 
-// Document 01's check of any text: typed functions with blocks and edges as cells, or a checkRefusal and its message.
+// Document 01's check of any text: typed functions with blocks and edges as cells, or a refusal and its message.
 pub fn check(
     text: &[u8],
     tokens: &mut [u32],

@@ -47,7 +47,7 @@ result-refused line s r e = from (lexedFrom line s) refl e
     from (Outcome.refused r′) p q = cc
     from Outcome.cut p q = absurd (never-cut line s p)
 
--- no readRefusal has number 0
+-- no refusal has number 0
 pub refusal-number : (r : Refusal) → factsOf r .number ≡ 0 → ⊥
 refusal-number (R.NotAscii line) e = omega arith
 refusal-number (R.CommentNotClosed c) e = omega arith

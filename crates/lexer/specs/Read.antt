@@ -28,14 +28,14 @@ reading r t n m = record { answer = r; tokens = t; names = n; message = m }
 abbrev pub accepted : ℕ → ℕ → ReadAnswer
 accepted tokens names = record { number = 0; line = 0; place = 0; tokens = tokens; names = names }
 
--- After a readRefusal every count is zero.
+-- After a refusal every count is zero.
 abbrev pub readRefusal : ℕ → ℕ → ℕ → ReadAnswer
 readRefusal number line place = record { number = number; line = line; place = place; tokens = 0; names = 0 }
 
 abbrev pub answerOf : Refusal → ReadAnswer
 answerOf r = readRefusal (factsOf r .number) (factsOf r .line) (factsOf r .place)
 
--- a readRefusal: its message, and nothing else
+-- a refusal: its message, and nothing else
 abbrev pub refused : Refusal → Reading
 refused r = reading (answerOf r) [] [] (messageOf r)
 

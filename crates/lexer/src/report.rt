@@ -24,11 +24,11 @@ pub(crate) fn refuse_at(number: u32, line: Location, place: usize) -> ReadAnswer
     }
 }
 
-pub(crate) fn answer_of(readRefusal: Refusal) -> ReadAnswer
-    requires { ⌜ factsOf readRefusal .place < 4294967296 ⌝ }
-    ensures { λ r. ⌜ r ≡ answerOf readRefusal ⌝ }
+pub(crate) fn answer_of(refusal: Refusal) -> ReadAnswer
+    requires { ⌜ factsOf refusal .place < 4294967296 ⌝ }
+    ensures { λ r. ⌜ r ≡ answerOf refusal ⌝ }
 {
-    match readRefusal {
+    match refusal {
         Refusal::NotAscii(line) => refuse_at(1, Location(line), 0),
         Refusal::CommentNotClosed(at) => refuse_at(2, Location(at.line), at.place),
         Refusal::UnexpectedByte(_, at) => refuse_at(3, Location(at.line), at.place),
@@ -50,12 +50,12 @@ fn report_unexpected(message: &mut [u8], line: Location, b: u8)
     utils::error(message, line.0, &text);
 }
 
-// The message of a readRefusal, and zeros after it.
-pub(crate) fn report(message: &mut [u8], readRefusal: Refusal)
+// The message of a refusal, and zeros after it.
+pub(crate) fn report(message: &mut [u8], refusal: Refusal)
     requires { ⌜ 512 ≤ length (now message) ⌝ }
-    ensures { λ r. ⌜ now (message .exit) ≡ padTo (length (now (message .entry))) (messageOf readRefusal) ⌝ }
+    ensures { λ r. ⌜ now (message .exit) ≡ padTo (length (now (message .entry))) (messageOf refusal) ⌝ }
 {
-    match readRefusal {
+    match refusal {
         Refusal::NotAscii(line) => utils::error(message, line, b"Only ASCII input is supported."),
         Refusal::CommentNotClosed(at) => {
             utils::error(message, at.line, b"Multiline comment no closed.")

@@ -112,7 +112,7 @@ named-now {line} {new} {r = r} v =
     subst (λ (l : List ℕ). Named new l (r .names)) (sym (used-names v ∙ read-names v ∙ sym (unpadded (namesCells (d .ns)))))
     (subst (Named new (padTo 0 (namesCells (d .ns)))) (sym (d .counted-names)) (accepted-named new line 0 (d .ts) (d .ns) (d .sound)))
 
--- a checkRefusal by the cells in use is one by the reading
+-- a refusal by the cells in use is one by the reading
 pub as-read : {line : ℕ} {new m t n : List ℕ} {r : ReadAnswer} (v : Lexed line new r m t n) {e : Refusal} {m₀ t₀ n₀ : List ℕ}
     {res : CheckAnswer} {m′ t′ n′ : List ℕ}
     → Refuses new (take (r .names * 2) n) (tokensOf (take (r .tokens * 4) t)) e m₀ t₀ n₀ res m′ t′ n′
