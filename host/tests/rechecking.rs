@@ -58,7 +58,7 @@ fn generated_edits() {
     assert!(report.other_readings() > 0, "no text has another function");
 }
 
-/// The fixed rechecks of crates/checks through the C function, with every number that recheck can have but 30; and by
+/// The fixed rechecks of crates/replay_check through the C function, with every number that recheck can have but 30; and by
 /// demand 3 those that have a table as check wrote it.
 #[test]
 fn fixed_rechecks() {

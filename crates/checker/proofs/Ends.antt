@@ -51,7 +51,8 @@ module _ (text m t n : List ℕ) (u : Slices) (r : ReadAnswer) (v : Lexed 1 text
         → checking (accepted (r .tokens) (r .names) k) m t n u′ ≡ padded m t n u (checkedOr text (readFrom 1 text) ts o)
     accepts-by k (checked fs) e h =
         let counts-are : k ≡ countsFrom none fs = cc in
-        same-checking (rw (v .answer, counts-are)) (v .message ∙ ap (padTo (length m)) (no-message v)) (v .tokens) (v .names)
+        same-checking (rw (v .answer, counts-are)) (v .message ∙ ap (padTo (length m)) (no-message v)) (v .tokens)
+        (v .names)
         (unit-by (checked fs) e)
     accepts-by k (refused e′) e h = absurd (let z : _≡_ {A = ℕ} 0 1 = cc in omega arith)
 
@@ -66,7 +67,8 @@ module _ (text m t n : List ℕ) (u : Slices) (r : ReadAnswer) (v : Lexed 1 text
     refuses-by e (refused e′) q h res m′ t′ n′ w =
         let same : e ≡ e′ = cc in
         rw (← same)
-        (same-checking (w .answer) (w .message) (w .tokens) (w .names) (unit-by (refused e) (q ∙ ap refused (sym same))))
+        (same-checking (w .answer) (w .message) (w .tokens) (w .names)
+        (unit-by (refused e) (q ∙ ap refused (sym same))))
 
     pub check-refuses : (e : Refusal) → U.Refused e ≡ unitRead (unitD ts)
         → (res : CheckAnswer) (m′ t′ n′ : List ℕ) → Refuses text (readFrom 1 text .names) ts e m t n res m′ t′ n′
@@ -121,7 +123,8 @@ module _ (text m t n : List ℕ) (u : Slices) (r : ReadAnswer) (v : Lexed 1 text
       → Refuses text (take (r .names * 2) n) (tokensOf (take (r .tokens * 4) t)) e m t n res m′ t′ n′
       → checking res m′ t′ n′ u′ ≡ padded m t n u (checkOf text)
   ends-refused e h res m′ t′ n′ w =
-      check-refuses text m t n u r v u′ unit-same e (h ∙ ap (λ (x : List ℕ). unitRead (unitD (tokensOf x))) tk-is) res m′
+      check-refuses text m t n u r v u′ unit-same e (h ∙ ap (λ (x : List ℕ). unitRead (unitD (tokensOf x))) tk-is) res
+      m′
       t′ n′ (refused-there e res m′ t′ n′ w)
 
 -- the refusal by parts of the slices, tk and nm, that are the cells in use
@@ -195,7 +198,8 @@ module _ (text t₀ n₀ m₀ : List ℕ) (r : ReadAnswer) (t n m : List ℕ) (r
 
 -- The gate. ---------------------------------------------------------------------------------------------------------
 
-pub by-parts : {d : Checking} {r : CheckAnswer} {m t n : List ℕ} {u : Slices} → checking r m t n u ≡ d → Gives d r m t n u
+pub by-parts : {d : Checking} {r : CheckAnswer} {m t n : List ℕ} {u : Slices} → checking r m t n u ≡ d → Gives d r m t
+    n u
 by-parts e =
     record {
       answer = ap (λ (x : Checking). x .answer) e;
@@ -205,7 +209,8 @@ by-parts e =
       unit = ap (λ (x : Checking). x .unit) e;
     }
 
-pub as-whole : {d : Checking} {r : CheckAnswer} {m t n : List ℕ} {u : Slices} → Gives d r m t n u → checking r m t n u ≡ d
+pub as-whole : {d : Checking} {r : CheckAnswer} {m t n : List ℕ} {u : Slices} → Gives d r m t n u → checking r m t n u
+    ≡ d
 as-whole g = same-checking (g .answer) (g .message) (g .tokens) (g .names) (g .unit)
 
 -- the gate before any answer o
@@ -252,7 +257,8 @@ pub gives-equal : {d : Checking} {r r′ : CheckAnswer} {m t n m′ t′ n′ : 
 gives-equal a b = as-whole a ∙ sym (as-whole b)
 
 -- TWO PERMITTED ANSWERS ARE EQUAL
-pub permitted-equal : (text m₀ t₀ n₀ : List ℕ) (u₀ : Slices) {r r′ : CheckAnswer} {m t n m′ t′ n′ : List ℕ} {u u′ : Slices}
+pub permitted-equal : (text m₀ t₀ n₀ : List ℕ) (u₀ : Slices) {r r′ : CheckAnswer} {m t n m′ t′ n′ : List ℕ}
+    {u u′ : Slices}
     → Checks text m₀ t₀ n₀ u₀ r m t n u → Checks text m₀ t₀ n₀ u₀ r′ m′ t′ n′ u′
     → checking r m t n u ≡ checking r′ m′ t′ n′ u′
 permitted-equal text m₀ t₀ n₀ u₀ a b = gives-equal a b
@@ -268,7 +274,8 @@ pub record SameLengths (m₀ t₀ n₀ : List ℕ) (u₀ : Slices) (m₁ t₁ n�
   pub predecessors : length (u₀ .predecessors) ≡ length (u₁ .predecessors)
 
 -- slices of equal lengths that have their sizes, whatever they held before
-pub same-gated : (o : Checking) {m₀ t₀ n₀ m₁ t₁ n₁ : List ℕ} {u₀ u₁ : Slices} {r r′ : CheckAnswer} {m t n m′ t′ n′ : List ℕ}
+pub same-gated : (o : Checking) {m₀ t₀ n₀ m₁ t₁ n₁ : List ℕ} {u₀ u₁ : Slices} {r r′ : CheckAnswer}
+    {m t n m′ t′ n′ : List ℕ}
     {u u′ : Slices}
     → allSized m₀ t₀ n₀ u₀ ≡ true → SameLengths m₀ t₀ n₀ u₀ m₁ t₁ n₁ u₁
     → Gives (gated m₀ t₀ n₀ u₀ o) r m t n u → Gives (gated m₁ t₁ n₁ u₁ o) r′ m′ t′ n′ u′

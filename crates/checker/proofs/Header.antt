@@ -26,7 +26,8 @@ use Rattle.link.specs.Edges.{Resolved, resolveD, fine, refused as unresolved}
 use Rattle.body.proofs.BodyLaws.{labels-few, names-closed}
 use Rattle.link.proofs.Laws.{at-least-1, at-most-256}
 use Rattle.body.specs.Answer.{functionBody}
-use Rattle.parser.specs.Runs.{Variables, stopped, ended, variable, typeCell, variablesCells, formalD, formalsFromD, formalsD}
+use Rattle.parser.specs.Runs.{Variables, stopped, ended, variable, typeCell, variablesCells, formalD, formalsFromD}
+use Rattle.parser.specs.Runs.{formalsD}
 use Rattle.parser.specs.declared.Ty.{Ty}
 use Rattle.parser.specs.declared.Ty.the-variants as Y
 use Rattle.parser.specs.declared.Variable.{Variable}
@@ -39,10 +40,13 @@ use Rattle.parser.specs.declared.Defined.the-variants as D
 use Rattle.parser.specs.declared.Consumed.{Consumed}
 use Rattle.parser.specs.declared.Consumed.the-variants as C
 use Rattle.functions.specs.Known.{Known, signature, typesAfter}
-use Rattle.functions.specs.Functions.{Header, HeaderAt, header, noHeader, thenHeader, thenFormals, thenEntered, optionalFormals}
-use Rattle.functions.specs.Functions.{optionalType, enteredD, signatureD, headerD, BuiltAt, built, notBuilt, thenBuilt, builtD}
+use Rattle.functions.specs.Functions.{Header, HeaderAt, header, noHeader, thenHeader, thenFormals, thenEntered}
+use Rattle.functions.specs.Functions.{optionalFormals}
+use Rattle.functions.specs.Functions.{optionalType, enteredD, signatureD, headerD, BuiltAt, built, notBuilt}
+use Rattle.functions.specs.Functions.{thenBuilt, builtD}
 use Rattle.functions.specs.Functions.{blocksIn, resolvedItems}
-use Rattle.functions.specs.Functions.{isVoid, Function, FunctionAt, function, noFunction, thenFunction, functionD, functionsD, programD}
+use Rattle.functions.specs.Functions.{isVoid, Function, FunctionAt, function, noFunction, thenFunction, functionD}
+use Rattle.functions.specs.Functions.{functionsD, programD}
 use Rattle.functions.specs.Functions.{Program, programEnd, programStop, knownOf}
 use Rattle.functions.specs.Columns.{rowAt, formalsAt, blockCountAt, placeAt, lengthAt, lineAt, formalTypeAt}
 use Rattle.functions.specs.Rows.{rowCells}
@@ -50,7 +54,8 @@ use Rattle.functions.specs.Answer.{countsWith, Slices}
 use Rattle.functions.specs.Laid.{rowsCells}
 use Rattle.functions.specs.declared.Counts.{Counts}
 use Rattle.functions.proofs.Types.{TypesFew, more-types, types-after-up, function-type-few}
-use Rattle.functions.proofs.Standing.{cell-there, rest-there, row-ret, row-type, row-count, row-formals, row-stands, rows-behind}
+use Rattle.functions.proofs.Standing.{cell-there, rest-there, row-ret, row-type, row-count, row-formals, row-stands}
+use Rattle.functions.proofs.Standing.{rows-behind}
 use Rattle.functions.specs.declared.Entered.{Entered}
 use Rattle.functions.specs.declared.Entered.the-variants as E
 use Rattle.lexer.specs.Read.{readFrom, readOf}
@@ -117,7 +122,8 @@ formal-good : (ts : List Tok) (full : Bool) (at : ℕ) → GoodDefined (formalD 
 unfolding formalD thenNamed thenAt thenType pick
 formal-good ts full at = named (localD ts at) full
   where
-    typed : (x : Identifier) (t : TypeRead) → GoodRead t → GoodDefined (thenType D.Refused t (λ y at3. D.At (variable x y) at3))
+    typed : (x : Identifier) (t : TypeRead) → GoodRead t → GoodDefined
+        (thenType D.Refused t (λ y at3. D.At (variable x y) at3))
     typed x (R.At y at3) h = h
     typed x (R.Refused e) h = tt
 
@@ -129,7 +135,8 @@ formal-good ts full at = named (localD ts at) full
     named : (n : Named) (b : Bool)
         → GoodDefined (thenNamed D.Refused n (λ x at1.
         pick b (D.Refused (refusal 36 at 0))
-        (thenAt D.Refused (consumeD ts at1 29) (λ at2. thenType D.Refused (typeD ts at2) (λ y at3. D.At (variable x y) at3)))))
+        (thenAt D.Refused (consumeD ts at1 29) (λ at2. thenType D.Refused (typeD ts at2) (λ y at3. D.At (variable x y)
+        at3)))))
     named (N.At x at1) true = tt
     named (N.At x at1) false = colon x (consumeD ts at1 29)
     named (N.Refused e) b = tt
@@ -176,7 +183,8 @@ formals-few ts (suc room) at =
     after-few (formalD ts false at) _ (suc room) (λ v i.
     omega (
       arith,
-      picked-few (eqb (tokenAt ts i .kind) 31) (formalsFromD ts room (tokenAt ts i .next)) (ended (consumeD ts i 26)) room
+      picked-few (eqb (tokenAt ts i .kind) 31) (formalsFromD ts room (tokenAt ts i .next)) (ended (consumeD ts i 26))
+          room
           (formals-few ts room (tokenAt ts i .next)) (omega arith),
     ))
 
@@ -184,7 +192,8 @@ optional-few : (ts : List Tok) (at : ℕ) → length (optionalFormals ts at .lis
 unfolding optionalFormals formalsD look
 optional-few ts at =
     picked-few (eqb (tokenAt ts at .kind) 25) _ (ended (C.At at)) 16
-    (picked-few (eqb (tokenAt ts (tokenAt ts at .next) .kind) 26) (ended (C.At (tokenAt ts (tokenAt ts at .next) .next)))
+    (picked-few (eqb (tokenAt ts (tokenAt ts at .next) .kind) 26)
+    (ended (C.At (tokenAt ts (tokenAt ts at .next) .next)))
     (formalsFromD ts 16 (tokenAt ts at .next)) 16 (omega arith) (formals-few ts 16 (tokenAt ts at .next))) (omega arith)
 
 optional-good : (ts : List Tok) (at : ℕ) → GoodFormals (optionalFormals ts at .list)
@@ -230,7 +239,8 @@ header-good : (ts : List Tok) (full : Bool) (known : List Known) (types at : ℕ
 unfolding headerD signatureD thenNamed thenFormals thenType thenAt thenEntered pick
 header-good ts full known types at = named (globalD ts at) full (global-good ts at)
   where
-    entered : (g : Identifier) (vs : List Variable) (ret : Ty) (x : Entered) → IsGlobal ts at g → GoodRet ret → GoodFormals vs
+    entered : (g : Identifier) (vs : List Variable) (ret : Ty) (x : Entered) → IsGlobal ts at g → GoodRet ret
+        → GoodFormals vs
         → length vs ≤ 16
         → GoodHeaderAt ts at
         (thenEntered noHeader x (λ type i. header (record { name = g; formals = vs; ret = ret; type = type }) i))
@@ -288,7 +298,8 @@ built-good ts void name at = ended-at (functionBody ts at .end)
     resolved next fine = closed-blocks ts void at
     resolved next (unresolved e) = tt
 
-    ended-at : (x : Consumed) → GoodBuilt (thenAt notBuilt x (λ next. resolvedItems is next (resolveD name (blocksIn is))))
+    ended-at : (x : Consumed) → GoodBuilt (thenAt notBuilt x (λ next. resolvedItems is next
+        (resolveD name (blocksIn is))))
     ended-at (C.At next) = resolved next (resolveD name (blocksIn is))
     ended-at (C.Refused e) = tt
 
@@ -305,12 +316,19 @@ unfolding functionD thenHeader thenBuilt
 function-good ts full known types at = headed (headerD ts full known types at) (header-good ts full known types at)
   where
     bodied : (h : Header) (x : BuiltAt) → GoodHeader ts at h → GoodBuilt x
-        → GoodFunctionAt ts (thenBuilt noFunction x (λ is i. function (record { token = at; head = h; items = is; next = i })))
+        → GoodFunctionAt ts (thenBuilt noFunction x (λ is i. function (record {
+          token = at;
+          head = h;
+          items =
+              is;
+          next = i;
+        })))
     bodied h (built is i) g b = (g, b)
     bodied h (notBuilt e) g b = tt
 
     headed : (x : HeaderAt) → GoodHeaderAt ts at x
-        → GoodFunctionAt ts (thenHeader noFunction x (λ h at1. thenBuilt noFunction (builtD ts (isVoid (h .ret)) at at1) (λ is i.
+        → GoodFunctionAt ts (thenHeader noFunction x (λ h at1. thenBuilt noFunction (builtD ts (isVoid (h .ret)) at
+        at1) (λ is i.
         function (record { token = at; head = h; items = is; next = i }))))
     headed (header h at1) g = bodied h (builtD ts (isVoid (h .ret)) at at1) g (built-good ts (isVoid (h .ret)) at at1)
     headed (noHeader e) g = tt
@@ -344,15 +362,18 @@ types-grow types type = by (eqb type types)
     by true = omega arith
     by false = omega arith
 
-functions-good : (ts : List Tok) (room : ℕ) (known : List Known) (types at : ℕ) → TypesFew types known → types + room ≤ 64
+functions-good : (ts : List Tok) (room : ℕ) (known : List Known) (types at : ℕ) → TypesFew types known → types + room
+    ≤ 64
     → GoodProgram ts room (functionsD ts room known types at)
 unfolding functionsD look
 functions-good ts zero known types at w l =
     picked-program ts (eqb (tokenAt ts at .kind) 38) (programEnd (C.At at)) _ 0 (tt, omega arith)
-    (after-function ts (functionD ts true known types at) _ 0 (function-good ts true known types at) (λ f e h. (tt, omega arith)))
+    (after-function ts (functionD ts true known types at) _ 0 (function-good ts true known types at)
+    (λ f e h. (tt, omega arith)))
 functions-good ts (suc room) known types at w l =
     picked-program ts (eqb (tokenAt ts at .kind) 38) (programEnd (C.At at)) _ (suc room) (tt, omega arith)
-    (after-function ts (functionD ts false known types at) _ (suc room) (function-good ts false known types at) (λ f e h.
+    (after-function ts (functionD ts false known types at) _ (suc room) (function-good ts false known types at)
+    (λ f e h.
     let few = function-type-few ts known types w false at e in
     let grow = types-grow types (f .head .type) in
     let up = types-after-up types (f .head .type) in
@@ -372,7 +393,8 @@ take-within (suc k) [] = omega arith
 take-within (suc k) (x ∷ l) = omega (arith, take-within k l)
 
 -- a part that has all its bytes lies in the text
-part-within : (s : List ℕ) (place len : ℕ) → 1 ≤ len → length (slice place (place + len) s) ≡ len → place + len ≤ length s
+part-within : (s : List ℕ) (place len : ℕ) → 1 ≤ len → length (slice place (place + len) s) ≡ len → place + len
+    ≤ length s
 part-within s place len h e =
     omega (arith, e, length-drop place (take (place + len) s), take-within (place + len) s)
 
@@ -446,7 +468,8 @@ module _ (s : List ℕ) (toks : List Token) (ns : List Part) (v : Sound s 1 toks
 
 -- The rows. ---------------------------------------------------------------------------------------------------------
 
-formal-types-in : (vs : List Variable) (cells : List ℕ) (at : ℕ) (rest : List ℕ) → drop at cells ≡ variablesCells vs ++ rest
+formal-types-in : (vs : List Variable) (cells : List ℕ) (at : ℕ) (rest : List ℕ) → drop at cells ≡ variablesCells vs
+    ++ rest
     → GoodFormals vs → (k : ℕ) → k < length vs
     → (1 ≤ getD cells (at + k * 2 + 1) 0) × (getD cells (at + k * 2 + 1) 0 ≤ 2)
 unfolding variablesCells
@@ -457,7 +480,8 @@ formal-types-in (v ∷ vs) cells at rest h g zero l =
 formal-types-in (v ∷ vs) cells at rest h g (suc k) l =
     let e : at + suc k * 2 + 1 ≡ at + 2 + k * 2 + 1 = omega arith in
     rw e
-    (formal-types-in vs cells (at + 2) rest (rest-there at 2 cells (variablesCells (v ∷ vs) ++ rest) h) (g .1) k (omega arith))
+    (formal-types-in vs cells (at + 2) rest (rest-there at 2 cells (variablesCells (v ∷ vs) ++ rest) h) (g .1) k
+    (omega arith))
 
 module _ (text : List ℕ) (ts : List Tok) (names rows rest : List ℕ)
     (globals-in : (i : ℕ) → tokenAt ts i .kind ≡ 2 → GlobalIn text names (tokenAt ts i)) where
@@ -546,7 +570,8 @@ module _ (text : List ℕ) (m : ℕ)
         (padTo m (checkedOr text (readFrom 1 text) (tokensOf (readFrom 1 text .tokens)) o .unit .functions))
     by-outcome (checked fs) e =
         let ts = tokensOf (readFrom 1 text .tokens) in
-        let good = subst (λ (gs : List Function). GoodFunctions ts gs × (length gs ≤ 64)) (sym (parsed-are ts fs e)) (program-good ts) in
+        let good = subst (λ (gs : List Function). GoodFunctions ts gs × (length gs ≤ 64)) (sym (parsed-are ts fs e))
+        (program-good ts) in
         let rows = padTo m (length fs ∷ rowsCells ts (readFrom 1 text .names) none fs) in
         record {
           count = good .1;

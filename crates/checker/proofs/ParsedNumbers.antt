@@ -305,7 +305,8 @@ module _ (ts : List Tok) (last : ℕ) (ends : tokenAt ts last .kind ≡ 38) wher
   body-on zero labels before i h l = absurd (omega arith)
   body-on (suc room) labels before i h l =
       pick-either (λ (r : Body). EndOn (r .end)) (closes before (tokenAt ts i .kind)) _ _
-      (λ t. let m = moves ts last ends i h (λ z. omega (arith, z, closes-kind before _ t)) in rw (m .0) (EndOn.found (i + 1) (m .1)))
+      (λ t. let m = moves ts last ends i h (λ z. omega (arith, z, closes-kind before _ t)) in rw (m .0)
+      (EndOn.found (i + 1) (m .1)))
       (λ t.
       pick-either (λ (r : Body). EndOn (r .end)) (eqb (tokenAt ts i .kind) 3) _ _
       (λ u.

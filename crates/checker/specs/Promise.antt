@@ -88,5 +88,6 @@ pub record Gives (d : Checking) (r : CheckAnswer) (m t n : List ℕ) (u : Slices
   pub unit : u ≡ d .unit
 
 -- THE PROMISE of `check`: the answer and all slices at exit, of the text and the slices at entry.
-abbrev pub Checks : List ℕ → List ℕ → List ℕ → List ℕ → Slices → CheckAnswer → List ℕ → List ℕ → List ℕ → Slices → Type 0
+abbrev pub Checks : List ℕ → List ℕ → List ℕ → List ℕ → Slices → CheckAnswer → List ℕ → List ℕ → List ℕ → Slices
+    → Type 0
 Checks text m₀ t₀ n₀ u₀ r m t n u = Gives (checkDef text m₀ t₀ n₀ u₀) r m t n u

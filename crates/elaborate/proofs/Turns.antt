@@ -9,7 +9,8 @@ use lib.Seq.{sets}
 use Rattle.utils.specs.Bytes.{pick}
 use Rattle.body.specs.Records.{recordAt, recordCells}
 use Rattle.functions.specs.Columns.{nameAt, typeAt}
-use Rattle.elaborate.specs.Types.{typeOf, calleeFrom, typedRecord, typedRun, typedArguments, typedItems, typedCalls}
+use Rattle.elaborate.specs.Types.{typeOf, calleeFrom, typedRecord, typedRun, typedArguments, typedItems}
+use Rattle.elaborate.specs.Types.{typedCalls}
 
 module _ (rows : List ℕ) (i n name : ℕ) where
   pub callee-here : i < n → getD rows (nameAt i) 0 ≡ name → calleeFrom rows i (n - i) name ≡ getD rows (typeAt i) 0 + 4
@@ -56,6 +57,7 @@ unfolding typedCalls
 calls-more table items cells first zero h = absurd (omega arith)
 calls-more table items cells first (suc count) h = let m : suc count - 1 ≡ count = omega arith in rw m
 
-pub calls-none : (table items cells : List ℕ) (first count : ℕ) → count ≡ 0 → typedCalls table items cells first count ≡ cells
+pub calls-none : (table items cells : List ℕ) (first count : ℕ) → count ≡ 0 → typedCalls table items cells first count
+    ≡ cells
 unfolding typedCalls
 calls-none table items cells first count h = rw h

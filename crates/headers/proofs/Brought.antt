@@ -25,9 +25,11 @@ use Rattle.sema.specs.declared.FoundRow.{FoundRow}
 use Rattle.sema.specs.declared.FoundRow.the-variants as W
 use Rattle.elaborate.specs.Types.{calleeFrom, calleeOf}
 use Rattle.headers.specs.Ranges.{RowInRange}
-use Rattle.headers.specs.Spelled.{rowName, nameSpelled, rowSpelled, calleeRow, typeCellOf, globalsSpelled, calleesSpelled}
+use Rattle.headers.specs.Spelled.{rowName, nameSpelled, rowSpelled, calleeRow, typeCellOf, globalsSpelled}
+use Rattle.headers.specs.Spelled.{calleesSpelled}
 use Rattle.headers.specs.Spelled.{Named}
-use Rattle.headers.specs.Brought.{cellsFrom, rowPut, Brought, brought, broughtAs, broughtFrom, headersBrought, Brings}
+use Rattle.headers.specs.Brought.{cellsFrom, rowPut, Brought, brought, broughtAs, broughtFrom, headersBrought}
+use Rattle.headers.specs.Brought.{Brings}
 use Rattle.headers.specs.declared.Placed.{Placed}
 use Rattle.headers.proofs.Ranges.{Tabled}
 use Rattle.headers.proofs.Turns.{brought-both, brought-more}
@@ -73,7 +75,8 @@ module _ (out rows : List ℕ) (n i x : ℕ) where
         getD-set-same stored (nameAt n) x 0 (omega (arith, length-sets out (rowAt n) (cellsFrom rows (rowAt i) 45)))
 
     -- every other cell of it
-    pub put-cell : (k : ℕ) → k < 45 → (k ≡ 1 → ⊥) → getD (rowPut out n rows i x) (rowAt n + k) 0 ≡ getD rows (rowAt i + k) 0
+    pub put-cell : (k : ℕ) → k < 45 → (k ≡ 1 → ⊥) → getD (rowPut out n rows i x) (rowAt n + k) 0 ≡ getD rows
+        (rowAt i + k) 0
     unfolding rowPut
     put-cell k h other =
         let cells = cellsFrom rows (rowAt i) 45 in
@@ -108,7 +111,15 @@ module _ (cells rows : List ℕ) where
       let b : rowAt i + j + 1 ≡ rowAt i + (j + 1) = omega arith in
       let d : rowAt k + j + 2 ≡ rowAt k + (j + 2) = omega arith in
       let e : rowAt i + j + 2 ≡ rowAt i + (j + 2) = omega arith in
-      rw (a, b, d, e, s (j + 1) (omega arith) (λ q. omega (arith, q)), types-same n k i (j + 2) s (omega arith) (omega arith))
+      rw (
+        a,
+        b,
+        d,
+        e,
+        s (j + 1) (omega arith) (λ q. omega (arith, q)),
+        types-same n k i (j + 2) s (omega arith)
+            (omega arith),
+      )
 
   pub at-most : (n : ℕ) → atMost16 n ≤ 16
   at-most n = pick-either (λ (m : ℕ). m ≤ 16) (leb n 16) n 16 (leb-true n 16) (λ e. omega arith)
@@ -122,7 +133,8 @@ module _ (cells rows : List ℕ) where
 
   pub global-same : (f g : FoundRow) → Same f g → globalOf cells f ≡ globalOf rows g
   global-same (W.At k) (W.At i) s =
-      let ret : getD cells (retAt k) 0 ≡ getD rows (retAt i) 0 = cell-same k i 6 s (omega arith) (λ q. omega (arith, q)) in
+      let ret : getD cells (retAt k) 0 ≡ getD rows (retAt i) 0 =
+      cell-same k i 6 s (omega arith) (λ q. omega (arith, q)) in
       let count : getD cells (countAt k) 0 ≡ getD rows (countAt i) 0 =
       cell-same k i 12 s (omega arith) (λ q. omega (arith, q)) in
       let n : ℕ = atMost16 (getD rows (countAt i) 0) in
@@ -151,7 +163,11 @@ callee-row : (cells : List ℕ) (n i x : ℕ) → calleeFrom cells i n x ≡ typ
 unfolding calleeFrom rowFrom
 callee-row cells zero i x = refl
 callee-row cells (suc n) i x =
-    rw (type-pick cells (eqb (getD cells (nameAt i) 0) x) (W.At i) (rowFrom cells (i + 1) n x), callee-row cells n (i + 1) x)
+    rw (
+      type-pick cells (eqb (getD cells (nameAt i) 0) x) (W.At i) (rowFrom cells (i + 1) n x),
+      callee-row cells n
+          (i + 1) x,
+    )
 
 -- What stays of a table while more rows are brought. -----------------------------------------------------------------
 
@@ -282,7 +298,8 @@ pub row-named : (old rows : List ℕ) (i : ℕ) → RowInRange old rows i → 1 
 row-named old rows i r =
     let place = getD rows (placeAt i) 0 in
     let len = getD rows (lengthAt i) 0 in
-    let l : length (slice place (place + len) old) ≡ place + len - place = length-slice place (place + len) old (r .name) in
+    let l : length (slice place (place + len) old) ≡ place + len - place =
+    length-slice place (place + len) old (r .name) in
     rw (row-name-part old rows i r) (omega (arith, r .name-length .0))
 
 module _ (old rows new names : List ℕ) (known number : ℕ) (out₀ : List ℕ) (r : Placed) (out : List ℕ)
@@ -362,7 +379,8 @@ module _ (old rows new names : List ℕ) (known number : ℕ) (out₀ : List ℕ
         let count : r .count ≡ all .count = ap (λ (h : Brought). h .count) s in
         let place : r .place ≡ before .count = b .place in
         let up = grows old rows new names known number 0 (brought out₀ 0) in
-        let l : length (before .cells) ≡ length out₀ = length-brought old rows new names known number 0 (brought out₀ 0) in
+        let l : length (before .cells) ≡ length out₀ = length-brought old rows new names known number 0
+        (brought out₀ 0) in
         let fits : rowAt (before .count + 1) ≤ length (before .cells) = omega arith in
         let more = grows old rows new names known (getD rows 0 0 - number - 1) (number + 1) with-it in
         let keeps = kept old rows new names known (getD rows 0 0 - number - 1) (number + 1) with-it in

@@ -143,7 +143,11 @@ module _ (old table : List ℕ) (number : ℕ) where
         short = ltb-false _ _ (p .0);
         sized = ltb-false _ _ (q .0);
         there = ltb-true _ _ (r .0);
-        in-range = record { count = leb-true _ _ (s .0); each = λ i l. rw zero-add at (rows-in old table _ 0 (s .1) i l) };
+        in-range = record {
+          count = leb-true _ _ (s .0);
+          each =
+              λ i l. rw zero-add at (rows-in old table _ 0 (s .1) i l);
+        };
       }
 
   -- .. and one that is in range passes.
@@ -153,4 +157,5 @@ module _ (old table : List ℕ) (number : ℕ) where
       and-neither (le-ltb _ _ (t .short))
       (and-neither (le-ltb _ _ (t .sized))
       (and-both (lt-ltb _ _ (t .there))
-      (and-both (le-leb _ _ (t .in-range .count)) (in-rows old table _ 0 (λ j l. rw zero-add (t .in-range .each j l))))))
+      (and-both (le-leb _ _ (t .in-range .count)) (in-rows old table _ 0
+      (λ j l. rw zero-add (t .in-range .each j l))))))

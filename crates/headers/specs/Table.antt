@@ -1,6 +1,6 @@
 -- 42: "old text over 16,384 bytes, number not below the count, a table shorter than its size, or a stored place, line,
 -- count or type outside the ranges docs/ gives". The ranges are those of `TableInRange`
--- (crates/checker/specs/Header.antt); here they are tests, and `table-in-range` (proofs/) says that the tests are the
+-- (crates/headers/specs/Ranges.antt); here they are tests, and `table-in-range` (proofs/) says that the tests are the
 -- ranges.
 use Prim.Native.Nat.{ℕ, zero, suc, _+_}
 use mathlib.Core.List.{List}

@@ -18,7 +18,8 @@ use Rattle.checker.specs.Promise as cells
 use Rattle.checker.specs.declared.CheckAnswer.{CheckAnswer}
 use Rattle.pitchsleet.specs.Bytes.{le32s}
 use Rattle.recheck.specs.Recheck.{recheckOf}
-use Rattle.pitchsleet.specs.CheckBytes.{cellBytes, sizedUnit, bytesOf, Export, export, exported, gated, exportDef, Sizes}
+use Rattle.pitchsleet.specs.CheckBytes.{cellBytes, sizedUnit, bytesOf, Export, export, exported, gated}
+use Rattle.pitchsleet.specs.CheckBytes.{exportDef, Sizes}
 use Rattle.pitchsleet.specs.CheckBytes.{Gives, Exports}
 use Rattle.pitchsleet.specs.RecheckBytes.{tableOf, recheckDef, Rechecks}
 use Rattle.pitchsleet.proofs.Cells.{length-le32s}
@@ -57,13 +58,15 @@ module _ (t n f i a b p : List ℕ) (z : Sizes t n (slices f i a b p)) where
       ) refl
 
   pub all-stored : (l b₁ b₂ b₃ b₄ b₅ b₆ b₇ o : List ℕ) → 252228 ≤ length l
-      → b₁ ≡ sets l 0 (le32s t) → b₂ ≡ sets b₁ 65536 (le32s n) → b₃ ≡ sets b₂ 73728 (le32s f) → b₄ ≡ sets b₃ 85252 (le32s i)
+      → b₁ ≡ sets l 0 (le32s t) → b₂ ≡ sets b₁ 65536 (le32s n) → b₃ ≡ sets b₂ 73728 (le32s f) → b₄ ≡ sets b₃ 85252
+      (le32s i)
       → b₅ ≡ sets b₄ 183556 (le32s a) → b₆ ≡ sets b₅ 211268 (le32s b) → b₇ ≡ sets b₆ 244036 (le32s p)
       → o ≡ sets b₇ 252228 (replicate (length l - 252228) 0) → o ≡ padTo (length l) (cellBytes t n (slices f i a b p))
   unfolding cellBytes
   all-stored l b₁ b₂ b₃ b₄ b₅ b₆ b₇ o h e₁ e₂ e₃ e₄ e₅ e₆ e₇ e₈ =
       let w₆ = join b₅ b₆ b₇ 211268 244036 (le32s b) (le32s p) (omega (arith, length-le32s b, z .blocks)) e₆ e₇ in
-      let w₅ = join b₄ b₅ b₇ 183556 211268 (le32s a) (le32s b ++ le32s p) (omega (arith, length-le32s a, z .arguments)) e₅ w₆ in
+      let w₅ = join b₄ b₅ b₇ 183556 211268 (le32s a) (le32s b ++ le32s p)
+      (omega (arith, length-le32s a, z .arguments)) e₅ w₆ in
       let w₄ = join b₃ b₄ b₇ 85252 183556 (le32s i) (le32s a ++ (le32s b ++ le32s p))
       (omega (arith, length-le32s i, z .items)) e₄ w₅ in
       let w₃ = join b₂ b₃ b₇ 73728 85252 (le32s f) (le32s i ++ (le32s a ++ (le32s b ++ le32s p)))
@@ -75,7 +78,8 @@ module _ (t n f i a b p : List ℕ) (z : Sizes t n (slices f i a b p)) where
       final l b₇ o (cellBytes t n (slices f i a b p)) 252228 whole-long h w₁ e₈
 
 -- an answer x, and its cells stored
-module _ (x : Checking) (m₀ t₀ n₀ f₀ i₀ a₀ b₀ p₀ : List ℕ) (z : Sizes t₀ n₀ (slices f₀ i₀ a₀ b₀ p₀)) (long : 512 ≤ length m₀)
+module _ (x : Checking) (m₀ t₀ n₀ f₀ i₀ a₀ b₀ p₀ : List ℕ) (z : Sizes t₀ n₀ (slices f₀ i₀ a₀ b₀ p₀))
+    (long : 512 ≤ length m₀)
   where
     as-sized : cells.gated m₀ t₀ n₀ (slices f₀ i₀ a₀ b₀ p₀) x ≡ padded m₀ t₀ n₀ (slices f₀ i₀ a₀ b₀ p₀) x
     unfolding sized sizedFive pick
@@ -97,21 +101,25 @@ module _ (x : Checking) (m₀ t₀ n₀ f₀ i₀ a₀ b₀ p₀ : List ℕ) (z 
     bytes-are = rw (z .tokens, z .names, z .functions, z .items, z .arguments, z .blocks, z .predecessors)
 
     pub out-of : (r : CheckAnswer) (m t n : List ℕ) (u : Slices) (o₀ o : List ℕ)
-        → cells.Gives (cells.gated m₀ t₀ n₀ (slices f₀ i₀ a₀ b₀ p₀) x) r m t n u → o ≡ padTo (length o₀) (cellBytes t n u)
+        → cells.Gives (cells.gated m₀ t₀ n₀ (slices f₀ i₀ a₀ b₀ p₀) x) r m t n u → o ≡ padTo (length o₀)
+        (cellBytes t n u)
         → export r o m ≡ exported o₀ m₀ x
     out-of r m t n u o₀ o e d =
         same-export
         (e .answer ∙ ap (λ (y : Checking). y .answer) as-sized)
         (d
-        ∙ ap (λ (l : List ℕ). padTo (length o₀) (cellBytes l n u)) (e .tokens ∙ ap (λ (y : Checking). y .tokens) as-sized)
+        ∙ ap (λ (l : List ℕ). padTo (length o₀) (cellBytes l n u)) (e .tokens ∙ ap (λ (y : Checking). y .tokens)
+        as-sized)
         ∙ ap (λ (l : List ℕ). padTo (length o₀) (cellBytes (padTo (length t₀) (x .tokens)) l u))
         (e .names ∙ ap (λ (y : Checking). y .names) as-sized)
-        ∙ ap (λ (l : Slices). padTo (length o₀) (cellBytes (padTo (length t₀) (x .tokens)) (padTo (length n₀) (x .names)) l))
+        ∙ ap (λ (l : Slices). padTo (length o₀) (cellBytes (padTo (length t₀) (x .tokens))
+        (padTo (length n₀) (x .names)) l))
         (e .unit ∙ ap (λ (y : Checking). y .unit) as-sized)
         ∙ ap (padTo (length o₀)) bytes-are)
         (e .message ∙ ap (λ (y : Checking). y .message) as-sized)
       where
-        same-export : {r r′ : CheckAnswer} {o o′ m m′ : List ℕ} → r ≡ r′ → o ≡ o′ → m ≡ m′ → export r o m ≡ export r′ o′ m′
+        same-export : {r r′ : CheckAnswer} {o o′ m m′ : List ℕ} → r ≡ r′ → o ≡ o′ → m ≡ m′ → export r o m ≡ export r′
+            o′ m′
         same-export p q s = rw (p, q, s)
 
 -- A promise of the C functions as one equation and by parts. Two answers that it permits are equal.

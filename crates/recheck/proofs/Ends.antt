@@ -69,7 +69,8 @@ module _ (old table : List ℕ) (number : ℕ) (new m t n : List ℕ) (u : Slice
 
       accepts-by : (k : Counts) (w : Verdict) (u′ : Slices) → U.Done k ≡ verdictRead w
           → u′ ≡ asLong u (verdictSlices ts (read .names) callees type w)
-          → checking (accepted (r .tokens) (r .names) k) m t n u′ ≡ padded m t n u (verdictAs new read ts callees type w)
+          → checking (accepted (r .tokens) (r .names) k) m t n u′ ≡ padded m t n u (verdictAs new read ts callees type
+          w)
       accepts-by k (accepts f symbols) u′ h e =
           let counts-are : k ≡ countsFrom none (f ∷ []) = cc in
           same-checking (rw (v .answer, counts-are)) (v .message ∙ ap (padTo (length m)) (no-message v)) (v .tokens)
@@ -85,12 +86,14 @@ module _ (old table : List ℕ) (number : ℕ) (new m t n : List ℕ) (u : Slice
           let same : e ≡ e′ = cc in
           rw (← same) (same-checking (g .answer) (g .message) (g .tokens) (g .names) q)
 
-      pub ends-accepted : (k : Counts) (u′ : Slices) → U.Done k ≡ verdictRead (verdictD old table number new nm (tokensOf tk))
+      pub ends-accepted : (k : Counts) (u′ : Slices) → U.Done k ≡ verdictRead (verdictD old table number new nm
+          (tokensOf tk))
           → u′ ≡ asLong u (verdictSlices (tokensOf tk) nm (calleesSpelled old table new nm) type
           (verdictD old table number new nm (tokensOf tk)))
           → checking (accepted (r .tokens) (r .names) k) m t n u′ ≡ padded m t n u (recheckOf old table number new)
       ends-accepted k u′ h e =
-          accepts-by k (verdictD old table number new (read .names) ts) u′ (rw (tk-is, nm-is) at h) (rw (tk-is, nm-is) at e)
+          accepts-by k (verdictD old table number new (read .names) ts) u′ (rw (tk-is, nm-is) at h)
+          (rw (tk-is, nm-is) at e)
           ∙ ap (padded m t n u) (sym goes-on-whole)
 
       pub ends-refused : (e : Refusal) (u′ : Slices)
@@ -100,7 +103,8 @@ module _ (old table : List ℕ) (number : ℕ) (new m t n : List ℕ) (u : Slice
           → (res : CheckAnswer) (m′ t′ n′ : List ℕ) → Refuses new (read .names) ts e m t n res m′ t′ n′
           → checking res m′ t′ n′ u′ ≡ padded m t n u (recheckOf old table number new)
       ends-refused e u′ h q res m′ t′ n′ g =
-          refuses-by e (verdictD old table number new (read .names) ts) u′ (rw (tk-is, nm-is) at h) (rw (tk-is, nm-is) at q)
+          refuses-by e (verdictD old table number new (read .names) ts) u′ (rw (tk-is, nm-is) at h)
+          (rw (tk-is, nm-is) at q)
           res m′ t′ n′ g
           ∙ ap (padded m t n u) (sym goes-on-whole)
 
@@ -109,11 +113,14 @@ pub named-now : {line : ℕ} {new m t n : List ℕ} {r : ReadAnswer} (v : Lexed 
     → Named new (take (r .names * 2 - 0) (drop 0 n)) (r .names)
 named-now {line} {new} {r = r} v =
     let d = is-done v in
-    subst (λ (l : List ℕ). Named new l (r .names)) (sym (used-names v ∙ read-names v ∙ sym (unpadded (namesCells (d .ns)))))
-    (subst (Named new (padTo 0 (namesCells (d .ns)))) (sym (d .counted-names)) (accepted-named new line 0 (d .ts) (d .ns) (d .sound)))
+    subst (λ (l : List ℕ). Named new l (r .names))
+    (sym (used-names v ∙ read-names v ∙ sym (unpadded (namesCells (d .ns)))))
+    (subst (Named new (padTo 0 (namesCells (d .ns)))) (sym (d .counted-names)) (accepted-named new line 0 (d .ts)
+    (d .ns) (d .sound)))
 
 -- a refusal by the cells in use is one by the reading
-pub as-read : {line : ℕ} {new m t n : List ℕ} {r : ReadAnswer} (v : Lexed line new r m t n) {e : Refusal} {m₀ t₀ n₀ : List ℕ}
+pub as-read : {line : ℕ} {new m t n : List ℕ} {r : ReadAnswer} (v : Lexed line new r m t n) {e : Refusal}
+    {m₀ t₀ n₀ : List ℕ}
     {res : CheckAnswer} {m′ t′ n′ : List ℕ}
     → Refuses new (take (r .names * 2) n) (tokensOf (take (r .tokens * 4) t)) e m₀ t₀ n₀ res m′ t′ n′
     → Refuses new (readFrom line new .names) (tokensOf (readFrom line new .tokens)) e m₀ t₀ n₀ res m′ t′ n′
@@ -163,9 +170,11 @@ module _ (line : ℕ) (new t₀ n₀ m₀ : List ℕ) (r : ReadAnswer) (t n m : 
     pub as-at-entry : (u : Slices) (o : Checking) → padded m t n u o ≡ padded m₀ t₀ n₀ u o
     as-at-entry u o = rw (lt, ln, lm)
 
-  pub not-lexed : (old table : List ℕ) (number : ℕ) → isTable old table number ≡ true → line ≡ getD table (lineAt number) 0
+  pub not-lexed : (old table : List ℕ) (number : ℕ) → isTable old table number ≡ true → line ≡ getD table
+      (lineAt number) 0
       → (r .number ≡ 0 → ⊥) → (u u′ : Slices) → u′ ≡ cleared u
-      → checking (checkRefusal (r .number) (r .line) (r .place)) m t n u′ ≡ padded m₀ t₀ n₀ u (recheckOf old table number new)
+      → checking (checkRefusal (r .number) (r .line) (r .place)) m t n u′ ≡ padded m₀ t₀ n₀ u
+      (recheckOf old table number new)
   unfolding recheckOf pick
   not-lexed old table number good same z u u′ e =
       let z′ : readFrom line new .answer .number ≡ 0 → ⊥ = λ q. z (ap (λ (a : ReadAnswer). a .number) answer-is ∙ q) in

@@ -199,7 +199,8 @@ module _ (old table : List ℕ) (number : ℕ) (new : List ℕ) where
     unfolding recheckOf pick
     by-whole true h =
         by-verdict h (verdictD old table number new (namesCells ns) ts) refl
-        (verdict-listed ts (rw p at (within (lexed-itself (getD table (lineAt number) 0) new (rw p)))) old table number new
+        (verdict-listed ts (rw p at (within (lexed-itself (getD table (lineAt number) 0) new (rw p)))) old table
+        number new
         (namesCells ns))
     by-whole false h = inr (rw (good, p, h) (own (omega arith) (omega arith)))
 

@@ -38,7 +38,8 @@ pub record Places (old rows new names : List ℕ) (known number : ℕ) (out₀ f
   where
     pub row : functions ≡ set (set functions₀ 0 1) (typeAt 0) (getD rows (typeAt number) 0)
     pub table : out
-        ≡ sets (headersBrought old rows new names known out₀ .cells) (rowAt (r .place)) (cellsFrom functions (rowAt 0) 45)
+        ≡ sets (headersBrought old rows new names known out₀ .cells) (rowAt (r .place)) (cellsFrom functions (rowAt 0)
+        45)
     pub count : r .count ≡ headersBrought old rows new names known out₀ .count
     pub place : r .place ≡ broughtFrom old rows new names known 0 number (brought out₀ 0) .count
     pub few : r .count ≤ 64

@@ -30,7 +30,7 @@ typeItemsD ts globals ret t (i ∷ is) =
     thenTyped (typeItemD ts globals ret t i) (λ t1. typeItemsD ts globals ret t1 is)
 
 -- "A block without terminator: void function gets a `ret` with its last operation's token; otherwise 21." The `ret`s
--- stand among the items already (crates/parser/specs/Body.antt, closedItems).
+-- stand among the items already (crates/body/specs/Body.antt, closedItems).
 unfoldable pub typeEndD : List ℕ → List Item → Typed
 typeEndD t [] = on t
 typeEndD t (i ∷ []) = pick (isTerminator i) (on t) (stop t (refusal 21 (itemToken i) 0))

@@ -11,11 +11,14 @@ use Rattle.parser.specs.declared.Refusal.{Refusal}
 use Rattle.parser.specs.declared.Consumed.{Consumed}
 use Rattle.parser.specs.declared.Consumed.the-variants as C
 use Rattle.functions.specs.Functions.{Function, programD}
-use Rattle.functions.specs.Answer.{Slices, slices, Long, countsWith, countsFrom, programRead, storedFrom, withCount, Held}
-use Rattle.functions.specs.Laid.{rowsCells, untypedItems, untypedArguments, allBlocks, allPredecessors, FitsFrom, AllFit}
+use Rattle.functions.specs.Answer.{Slices, slices, Long, countsWith, countsFrom, programRead, storedFrom, withCount}
+use Rattle.functions.specs.Answer.{Held}
+use Rattle.functions.specs.Laid.{rowsCells, untypedItems, untypedArguments, allBlocks, allPredecessors, FitsFrom}
+use Rattle.functions.specs.Laid.{AllFit}
 use Rattle.functions.specs.declared.Counts.{Counts}
 use Rattle.functions.specs.declared.ProgramRead.the-variants as U
-use Rattle.functions.proofs.Laid.{functions-counted, length-items, length-arguments, Inside, inside-from, none-inside, stored-laid}
+use Rattle.functions.proofs.Laid.{functions-counted, length-items, length-arguments, Inside, inside-from, none-inside}
+use Rattle.functions.proofs.Laid.{stored-laid}
 use Rattle.functions.proofs.Laid.{LaidFits, laid-fits}
 use Rattle.functions.proofs.Standing.{types-stored, items-stored}
 use Rattle.parser.specs.Runs.{typeCell}
@@ -28,7 +31,8 @@ use Rattle.sema.proofs.Rows.{globals-stored}
 use Rattle.elaborate.specs.Types.{calleeIn, typedItemsCells, typedArgumentsCells}
 use Rattle.elaborate.proofs.Lists.{length-typed-items, length-typed-arguments}
 use Rattle.elaborate.proofs.Rows.{callees-stored}
-use Rattle.unit.specs.Outcome.{untyped, UnitOutcome, checked, refused, unitD, unitRead, unitSlices, none, asLong, cleared}
+use Rattle.unit.specs.Outcome.{untyped, UnitOutcome, checked, refused, unitD, unitRead, unitSlices, none}
+use Rattle.unit.specs.Outcome.{asLong, cleared}
 use Rattle.unit.specs.Outcome.{tablesOf, allItems, allArguments, UnitHeld, Counted}
 use Rattle.unit.specs.Rows.{Done, typedRows, RowsFit, HeldBy, RowsHeld}
 use Rattle.unit.proofs.Typed.{Same, all-typed}
@@ -47,7 +51,8 @@ length-tables ts all [] callees n = omega arith
 length-tables ts all (f ∷ fs) callees n =
     omega (
       arith,
-      length-append (typedItemsCells (one ts all f .table) callees (n .arguments) (f .items)) (allItems callees (countsWith n f) fs (tablesOf ts all fs)),
+      length-append (typedItemsCells (one ts all f .table) callees (n .arguments) (f .items))
+          (allItems callees (countsWith n f) fs (tablesOf ts all fs)),
       length-typed-items (one ts all f .table) callees (n .arguments) (f .items),
       length-tables ts all fs callees (countsWith n f),
     )
@@ -127,7 +132,8 @@ module _ (ts : List Tok) (names : List ℕ) (fs : List Function) (fits : FitsFro
       (replicate (I - length (untypedItems none fs)) 0) (replicate (A - length (untypedArguments fs)) 0) zr
       (replicate (B - length (allBlocks none fs)) 0) rows-stand refl refl refl
 
-  pub ends-as : typedRows ts rows (length fs) blocks untyped 0 (length fs) items args .end ≡ typedD ts fs fs untyped .end
+  pub ends-as : typedRows ts rows (length fs) blocks untyped 0 (length fs) items args .end ≡ typedD ts fs fs
+      untyped .end
   ends-as = typing .ends
 
   abbrev d : Done
@@ -162,7 +168,8 @@ unfolding thenAt
 ended-at (C.At next) m n h = ((next, refl), cc)
 ended-at (C.Refused e) m n h = absurd (let z : _≡_ {A = ℕ} 0 1 = cc in omega arith)
 
-refused-at : (e : Consumed) (m : Counts) (r : Refusal) → U.Refused r ≡ thenAt U.Refused e (λ next. U.Done m) → e ≡ C.Refused r
+refused-at : (e : Consumed) (m : Counts) (r : Refusal) → U.Refused r ≡ thenAt U.Refused e (λ next. U.Done m) → e
+    ≡ C.Refused r
 unfolding thenAt
 refused-at (C.At next) m r h = absurd (let z : _≡_ {A = ℕ} 0 1 = cc in omega arith)
 refused-at (C.Refused e) m r h = cc
@@ -182,7 +189,8 @@ module _ (ts : List Tok) (names f i a b p : List ℕ) where
   unfolding unitD programRead
   parse-refuses e h = rw (refused-at (programD ts .end) (countsFrom none fs) e h)
 
-  module _ (rows-long : 2881 ≤ length f) (long : Long i a b p) (zero-now : s₀ ≡ cleared s₀) (fits : AllFit (programD ts))
+  module _ (rows-long : 2881 ≤ length f) (long : Long i a b p) (zero-now : s₀ ≡ cleared s₀)
+      (fits : AllFit (programD ts))
       (n : Counts) (parsed : U.Done n ≡ programRead (programD ts)) (f₁ i₁ a₁ b₁ p₁ : List ℕ)
       (held : Held ts names fs s₀ (slices f₁ i₁ a₁ b₁ p₁) (programD ts .end)) where
     at-end : ((next : ℕ) × (programD ts .end ≡ C.At next)) × (n ≡ countsFrom none fs)
@@ -234,7 +242,8 @@ module _ (ts : List Tok) (names f i a b p : List ℕ) where
         omega (
           arith,
           n-is,
-          functions-few ts names fs fits (length f) (length i) (length a) (length b) (length p) rows-long (long .items-long)
+          functions-few ts names fs fits (length f) (length i) (length a) (length b) (length p) rows-long
+              (long .items-long)
               (long .arguments-long) (long .blocks-long) (long .predecessors-long),
         )
 
@@ -246,7 +255,8 @@ module _ (ts : List Tok) (names f i a b p : List ℕ) where
 
     abbrev laid-done : Done
     laid-done =
-        typedRows ts (padTo (length f) (length fs ∷ rowsCells ts names none fs)) (length fs) (padTo (length b) (allBlocks none fs))
+        typedRows ts (padTo (length f) (length fs ∷ rowsCells ts names none fs)) (length fs)
+        (padTo (length b) (allBlocks none fs))
         untyped 0 (length fs) (padTo (length i) (untypedItems none fs)) (padTo (length a) (untypedArguments fs))
 
     done-is : done ≡ laid-done
@@ -275,12 +285,15 @@ module _ (ts : List Tok) (names f i a b p : List ℕ) where
       written h =
           let k = subst (λ (x : Checked). HeldBy x i₂ a₂ done) h (typed .held) in
           let z : laid-done .end ≡ K.Fine = ap (λ (d : Done). d .end) (sym done-is) ∙ sym (typed .answer) ∙ h in
-          same-slices f-is (k .0 ∙ ap (λ (d : Done). d .items) done-is) (k .1 ∙ ap (λ (d : Done). d .arguments) done-is) b-is p-is
-          ∙ typed-slices ts names fs fits (length f) (length i) (length a) (length b) (length p) rows-long (long .items-long)
+          same-slices f-is (k .0 ∙ ap (λ (d : Done). d .items) done-is) (k .1 ∙ ap (λ (d : Done). d .arguments)
+          done-is) b-is p-is
+          ∙ typed-slices ts names fs fits (length f) (length i) (length a) (length b) (length p) rows-long
+          (long .items-long)
           (long .arguments-long) (long .blocks-long) (long .predecessors-long) z
 
       pub fine-whole : r ≡ K.Fine
-          → (U.Done n ≡ unitRead (unitD ts)) × (UnitHeld ts names s₀ (slices f₁ i₂ a₂ b₁ p₁) (unitD ts) × Counted (U.Done n))
+          → (U.Done n ≡ unitRead (unitD ts)) × (UnitHeld ts names s₀ (slices f₁ i₂ a₂ b₁ p₁) (unitD ts) × Counted
+          (U.Done n))
       fine-whole h =
           let v = inside-from none fs none-inside fits in
           let u = types-fine h in

@@ -46,7 +46,8 @@ module _ (ts : List Tok) (names rows : List ℕ) (all : List Function) (total : 
   -- a function's typing
   abbrev one : Function → Typed
   one f =
-      typeFunctionD ts (globalsOf all) (typeCell (f .head .ret)) (f .token) (f .head .formals) (orderedBlocks (f .items))
+      typeFunctionD ts (globalsOf all) (typeCell (f .head .ret)) (f .token) (f .head .formals)
+      (orderedBlocks (f .items))
       untyped
 
   -- What the loop over these functions leaves, behind what stands before them: pi, pa; zi, za follow.
@@ -100,7 +101,8 @@ module _ (ts : List Tok) (names rows : List ℕ) (all : List Function) (total : 
     typed : typeRowD ts rows total items args blocks (n .functions) t₀ ≡ one f
     typed =
         row-typed ts names n f rows items args blocks total (globalsOf all) t₀ (row .0) mi ma (allBlocks next gs ++ zb)
-        globals-are (row .1) (drop-at pi _ (n .items * 8) items-long) (drop-at pa _ (n .arguments * 2) arguments-long) here fits
+        globals-are (row .1) (drop-at pi _ (n .items * 8) items-long) (drop-at pa _ (n .arguments * 2) arguments-long)
+        here fits
         ∙ ap (λ (k : ℕ). typeFunctionD ts (globalsOf all) (typeCell (f .head .ret)) (f .token) (f .head .formals)
         (orderedBlocks (f .items)) (padTo k [])) blank
 
@@ -162,7 +164,8 @@ module _ (ts : List Tok) (names rows : List ℕ) (all : List Function) (total : 
     pub starts : (pi ++ (untypedItems n (f ∷ gs) ++ zi) ≡ items) × (pa ++ (untypedArguments (f ∷ gs) ++ za) ≡ args)
     unfolding untypedItems untypedArguments
     starts = (
-      ap (λ (l : List ℕ). pi ++ l) (append-assoc (itemsCells (n .arguments) (f .items)) (untypedItems (countsWith n f) gs) zi),
+      ap (λ (l : List ℕ). pi ++ l) (append-assoc (itemsCells (n .arguments) (f .items)) (untypedItems (countsWith n f)
+          gs) zi),
       ap (λ (l : List ℕ). pa ++ l) (append-assoc (argumentsCells (f .items)) (untypedArguments gs) za),
     )
 
@@ -196,7 +199,8 @@ module _ (ts : List Tok) (names rows : List ℕ) (all : List Function) (total : 
 
   none-typed : (n : Counts) (pi pa zi za : List ℕ)
       → Same [] n pi pa zi za
-      (typedRows ts rows total blocks t₀ (n .functions) 0 (pi ++ (untypedItems n [] ++ zi)) (pa ++ (untypedArguments [] ++ za)))
+      (typedRows ts rows total blocks t₀ (n .functions) 0 (pi ++ (untypedItems n [] ++ zi))
+      (pa ++ (untypedArguments [] ++ za)))
   unfolding typedRows typedD untypedItems untypedArguments allItems allArguments tablesOf
   none-typed n pi pa zi za = record { ends = refl; items-are = λ e. refl; arguments-are = λ e. refl }
 

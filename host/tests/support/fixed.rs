@@ -1,5 +1,5 @@
 //! Texts to check that are the same each time, with a word on each: every rule of parsing and typing, every number, and the
-//! limits. The fixed cases of crates/checks are made of them.
+//! limits. The fixed cases of crates/replay_check are made of them.
 use std::collections::HashSet;
 
 use super::dice::Dice;

@@ -1,5 +1,5 @@
 //! Rechecks that are the same each time, with a word on each: document 01's sentences on recheck, every number, and the
-//! limits, each by its least texts. The fixed cases of crates/checks are made of them.
+//! limits, each by its least texts. The fixed cases of crates/replay_check are made of them.
 use super::edits::Edit;
 use super::model::{self, BYTES, Checked, ROW, TABLE};
 use super::records::Cells;

@@ -9,52 +9,91 @@ use Rattle.checker.proofs.check.Tie as tie
 
 check-sized-requires : tie.Need-check-sized-requires
 check-sized-requires c κs =
-    sizes-seen (now (c .before .before .before .before .before .before .before .before .before .before .before .before .before .before .before .before .before .before .before .before .args .message)) (now (c .before .before .before .before .before .before .before .before .before .before .before .before .before .before .before .before .before .before .before .before .args .tokens)) (now (c .before .before .before .before .before .before .before .before .before .before .before .before .before .before .before .before .before .before .before .before .args .names)) (slices (now (c .before .before .before .before .before .before .before .before .before .before .before .before .before .before .before .before .before .before .before .before .args .functions)) (now (c .before .before .before .before .before .before .before .before .before .before .before .before .before .before .before .before .before .before .before .before .args .items)) (now (c .before .before .before .before .before .before .before .before .before .before .before .before .before .before .before .before .before .before .before .before .args .arguments)) (now (c .before .before .before .before .before .before .before .before .before .before .before .before .before .before .before .before .before .before .before .before .args .blocks)) (now (c .before .before .before .before .before .before .before .before .before .before .before .before .before .before .before .before .before .before .before .before .args .predecessors))) (c .before .before .before .before .before .before .before .before .before .before .fits-unit .result) (c .before .before .before .before .before .before .before .before .before .fits2 .result) (c .before .before .before .before .before .before .before .before .if1 .taken)
-    (c .before .before .before .before .before .before .before .before .before .fits2 .ensures .1) (c .before .before .before .before .before .before .before .before .before .before .fits-unit .ensures .1)
+    let if1 = c .before .before .before .before .before .before .before .before .if1 in
+    let back8 = c .before .before .before .before .before .before .before .before in
+    let fits2 = back8 .before .fits2 in
+    let fits-unit = back8 .before .before .fits-unit in
+    let back16 = back8 .before .before .before .before .before .before .before .before in
+    let a = back16 .before .before .before .before .args in
+    sizes-seen (now (a .message)) (now (a .tokens)) (now (a .names)) (slices (now (a .functions)) (now (a .items))
+    (now (a .arguments)) (now (a .blocks)) (now (a .predecessors))) (fits-unit .result) (fits2 .result) (if1 .taken)
+    (fits2 .ensures .1) (fits-unit .ensures .1)
 
 same-length : tie.Need-same-length
 same-length c =
-    c .before .before .before .before .before .before .before .before .before .before .before .before .before .before .before .before .check-sized .kept .1 .0
+    let back8 = c .before .before .before .before .before .before .before .before in
+    let check-sized = back8 .before .before .before .before .before .before .before .before .check-sized in
+    check-sized .kept .1 .0
 
 same-length-2 : tie.Need-same-length-2
 same-length-2 c =
-    c .before .before .before .before .before .before .before .before .before .before .before .before .before .before .before .before .check-sized .kept .1 .1 .0
+    let back8 = c .before .before .before .before .before .before .before .before in
+    let check-sized = back8 .before .before .before .before .before .before .before .before .check-sized in
+    check-sized .kept .1 .1 .0
 
 same-length-3 : tie.Need-same-length-3
 same-length-3 c =
-    c .before .before .before .before .before .before .before .before .before .before .before .before .before .before .before .before .check-sized .kept .1 .1 .1 .0
+    let back8 = c .before .before .before .before .before .before .before .before in
+    let check-sized = back8 .before .before .before .before .before .before .before .before .check-sized in
+    check-sized .kept .1 .1 .1 .0
 
 same-length-4 : tie.Need-same-length-4
 same-length-4 c =
-    c .before .before .before .before .before .before .before .before .before .before .before .before .before .before .before .before .check-sized .kept .1 .1 .1 .1 .0
+    let back8 = c .before .before .before .before .before .before .before .before in
+    let check-sized = back8 .before .before .before .before .before .before .before .before .check-sized in
+    check-sized .kept .1 .1 .1 .1 .0
 
 same-length-5 : tie.Need-same-length-5
 same-length-5 c =
-    c .before .before .before .before .before .before .before .before .before .before .before .before .before .before .before .before .check-sized .kept .1 .1 .1 .1 .1 .0
+    let back8 = c .before .before .before .before .before .before .before .before in
+    let check-sized = back8 .before .before .before .before .before .before .before .before .check-sized in
+    check-sized .kept .1 .1 .1 .1 .1 .0
 
 same-length-6 : tie.Need-same-length-6
 same-length-6 c =
-    c .before .before .before .before .before .before .before .before .before .before .before .before .before .before .before .before .check-sized .kept .1 .1 .1 .1 .1 .1 .0
+    let back8 = c .before .before .before .before .before .before .before .before in
+    let check-sized = back8 .before .before .before .before .before .before .before .before .check-sized in
+    check-sized .kept .1 .1 .1 .1 .1 .1 .0
 
 same-length-7 : tie.Need-same-length-7
 same-length-7 c =
-    c .before .before .before .before .before .before .before .before .before .before .before .before .before .before .before .before .check-sized .kept .1 .1 .1 .1 .1 .1 .1 .0
+    let back8 = c .before .before .before .before .before .before .before .before in
+    let check-sized = back8 .before .before .before .before .before .before .before .before .check-sized in
+    check-sized .kept .1 .1 .1 .1 .1 .1 .1 .0
 
 same-length-8 : tie.Need-same-length-8
 same-length-8 c =
-    c .before .before .before .before .before .before .before .before .before .before .before .before .before .before .before .before .check-sized .kept .1 .1 .1 .1 .1 .1 .1 .1 .0
+    let back8 = c .before .before .before .before .before .before .before .before in
+    let check-sized = back8 .before .before .before .before .before .before .before .before .check-sized in
+    check-sized .kept .1 .1 .1 .1 .1 .1 .1 .1 .0
 
 returns : tie.Need-returns
 unfolding checkDef
 returns c =
-    works (checkOf (now (c .before .before .before .before .before .before .before .before .before .before .before .before .before .before .before .before .before .before .before .before .before .before .before .before .before .before .before .before .before .before .before .before .before .before .before .before .before .args .text))) (now (c .before .before .before .before .before .before .before .before .before .before .before .before .before .before .before .before .before .before .before .before .before .before .before .before .before .before .before .before .before .before .before .before .before .before .before .before .before .args .message)) (now (c .before .before .before .before .before .before .before .before .before .before .before .before .before .before .before .before .before .before .before .before .before .before .before .before .before .before .before .before .before .before .before .before .before .before .before .before .before .args .tokens)) (now (c .before .before .before .before .before .before .before .before .before .before .before .before .before .before .before .before .before .before .before .before .before .before .before .before .before .before .before .before .before .before .before .before .before .before .before .before .before .args .names)) (slices (now (c .before .before .before .before .before .before .before .before .before .before .before .before .before .before .before .before .before .before .before .before .before .before .before .before .before .before .before .before .before .before .before .before .before .before .before .before .before .args .functions)) (now (c .before .before .before .before .before .before .before .before .before .before .before .before .before .before .before .before .before .before .before .before .before .before .before .before .before .before .before .before .before .before .before .before .before .before .before .before .before .args .items)) (now (c .before .before .before .before .before .before .before .before .before .before .before .before .before .before .before .before .before .before .before .before .before .before .before .before .before .before .before .before .before .before .before .before .before .before .before .before .before .args .arguments)) (now (c .before .before .before .before .before .before .before .before .before .before .before .before .before .before .before .before .before .before .before .before .before .before .before .before .before .before .before .before .before .before .before .before .before .before .before .before .before .args .blocks)) (now (c .before .before .before .before .before .before .before .before .before .before .before .before .before .before .before .before .before .before .before .before .before .before .before .before .before .before .before .before .before .before .before .before .before .before .before .before .before .args .predecessors))) (c .before .before .before .before .before .before .before .before .before .before .before .before .before .before .before .before .before .before .before .before .before .before .before .before .before .before .before .fits-unit .result) (c .before .before .before .before .before .before .before .before .before .before .before .before .before .before .before .before .before .before .before .before .before .before .before .before .before .before .fits2 .result)
-    (c .before .before .before .before .before .before .before .before .before .before .before .before .before .before .before .before .before .before .before .before .before .before .before .before .before .before .before .fits-unit .ensures .0) (c .before .before .before .before .before .before .before .before .before .before .before .before .before .before .before .before .before .before .before .before .before .before .before .before .before .before .fits2 .ensures .0) (c .before .before .before .before .before .before .before .before .before .before .before .before .before .before .before .before .before .before .before .before .before .before .before .before .before .if1 .taken) _ _ _ _ _ (c .before .before .before .before .before .before .before .before .before .before .before .before .before .before .before .before .check-sized .ensures)
+    let back8 = c .before .before .before .before .before .before .before .before in
+    let check-sized = back8 .before .before .before .before .before .before .before .before .check-sized in
+    let back16 = back8 .before .before .before .before .before .before .before .before in
+    let back24 = back16 .before .before .before .before .before .before .before .before in
+    let if1 = back24 .before .if1 in
+    let fits2 = back24 .before .before .fits2 in
+    let fits-unit = back24 .before .before .before .fits-unit in
+    let back32 = back24 .before .before .before .before .before .before .before .before in
+    let a = back32 .before .before .before .before .before .args in
+    works (checkOf (now (a .text))) (now (a .message)) (now (a .tokens)) (now (a .names)) (slices (now (a .functions))
+    (now (a .items)) (now (a .arguments)) (now (a .blocks)) (now (a .predecessors))) (fits-unit .result) (fits2 .result)
+    (fits-unit .ensures .0) (fits2 .ensures .0) (if1 .taken) _ _ _ _ _ (check-sized .ensures)
 
 returns-2 : tie.Need-returns-2
 unfolding checkDef
 returns-2 c =
-    shorts (checkOf (now (c .before .before .before .before .before .before .before .before .before .before .before .before .before .args .text))) (now (c .before .before .before .before .before .before .before .before .before .before .before .before .before .args .message)) (now (c .before .before .before .before .before .before .before .before .before .before .before .before .before .args .tokens)) (now (c .before .before .before .before .before .before .before .before .before .before .before .before .before .args .names)) (slices (now (c .before .before .before .before .before .before .before .before .before .before .before .before .before .args .functions)) (now (c .before .before .before .before .before .before .before .before .before .before .before .before .before .args .items)) (now (c .before .before .before .before .before .before .before .before .before .before .before .before .before .args .arguments)) (now (c .before .before .before .before .before .before .before .before .before .before .before .before .before .args .blocks)) (now (c .before .before .before .before .before .before .before .before .before .before .before .before .before .args .predecessors))) (c .before .before .before .fits-unit .result) (c .before .before .fits2 .result)
-    (c .before .before .before .fits-unit .ensures .0) (c .before .before .fits2 .ensures .0) (c .before .if1 .left) _ (c .refused .ensures)
+    let fits2 = c .before .before .fits2 in
+    let fits-unit = c .before .before .before .fits-unit in
+    let back8 = c .before .before .before .before .before .before .before .before in
+    let a = back8 .before .before .before .before .before .args in
+    shorts (checkOf (now (a .text))) (now (a .message)) (now (a .tokens)) (now (a .names))
+    (slices (now (a .functions)) (now (a .items)) (now (a .arguments)) (now (a .blocks)) (now (a .predecessors)))
+    (fits-unit .result) (fits2 .result)
+    (fits-unit .ensures .0) (fits2 .ensures .0) (c .before .if1 .left) _ (c .refused .ensures)
 
 pub check-spec : {M : Type 1} → statement M
 check-spec =

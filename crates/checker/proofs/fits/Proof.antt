@@ -23,7 +23,11 @@ returns-3 c =
 returns-4 : tie.Need-returns-4
 unfolding sized pick
 returns-4 c =
-    (rw (le-ltb _ _ (c .before .before .if1 .left), le-ltb _ _ (c .before .if2 .left), le-ltb _ _ (c .if3 .left)), seen-by (c .before .before .before .args .unit) _ _ _ (c .if3 .left) (c .before .before .if1 .left) (c .before .if2 .left))
+    let if1 = c .before .before .if1 in
+    let a = c .before .before .before .args in (
+      rw (le-ltb _ _ (if1 .left), le-ltb _ _ (c .before .if2 .left), le-ltb _ _ (c .if3 .left)),
+      seen-by (a .unit) _ _ _ (c .if3 .left) (if1 .left) (c .before .if2 .left),
+    )
 
 pub fits-spec : {M : Type 1} → statement M
 fits-spec = tie.close (tie.spec returns returns-2 returns-3 returns-4)

@@ -22,17 +22,49 @@ returns-3 c =
 returns-4 : tie.Need-returns-4
 unfolding sizedUnit pick
 returns-4 c =
-    (rw (le-ltb _ _ (c .before .before .before .if1 .left), le-ltb _ _ (c .before .before .if2 .left), le-ltb _ _ (c .before .if3 .left), lt-ltb _ _ (c .if4 .taken)), tt)
+    let if2 = c .before .before .if2 in
+    let if1 = c .before .before .before .if1 in (
+      rw (
+        le-ltb _ _ (if1 .left),
+        le-ltb _ _ (if2 .left),
+        le-ltb _ _ (c .before .if3 .left),
+        lt-ltb _ _
+            (c .if4 .taken),
+      ),
+      tt,
+    )
 
 returns-5 : tie.Need-returns-5
 unfolding sizedUnit pick
 returns-5 c =
-    (rw (le-ltb _ _ (c .before .before .before .before .if1 .left), le-ltb _ _ (c .before .before .before .if2 .left), le-ltb _ _ (c .before .before .if3 .left), le-ltb _ _ (c .before .if4 .left), lt-ltb _ _ (c .if5 .taken)), tt)
+    let if3 = c .before .before .if3 in
+    let if2 = c .before .before .before .if2 in
+    let if1 = c .before .before .before .before .if1 in (
+      rw (
+        le-ltb _ _ (if1 .left),
+        le-ltb _ _ (if2 .left),
+        le-ltb _ _ (if3 .left),
+        le-ltb _ _ (c .before .if4 .left),
+        lt-ltb _ _ (c .if5 .taken),
+      ),
+      tt,
+    )
 
 returns-6 : tie.Need-returns-6
 unfolding sizedUnit pick
 returns-6 c =
-    (rw (le-ltb _ _ (c .before .before .before .before .if1 .left), le-ltb _ _ (c .before .before .before .if2 .left), le-ltb _ _ (c .before .before .if3 .left), le-ltb _ _ (c .before .if4 .left), le-ltb _ _ (c .if5 .left)), (c .before .before .before .before .if1 .left, c .before .before .before .if2 .left, c .before .before .if3 .left, c .before .if4 .left, c .if5 .left))
+    let if3 = c .before .before .if3 in
+    let if2 = c .before .before .before .if2 in
+    let if1 = c .before .before .before .before .if1 in (
+      rw (
+        le-ltb _ _ (if1 .left),
+        le-ltb _ _ (if2 .left),
+        le-ltb _ _ (if3 .left),
+        le-ltb _ _ (c .before .if4 .left),
+        le-ltb _ _ (c .if5 .left),
+      ),
+      (if1 .left, if2 .left, if3 .left, c .before .if4 .left, c .if5 .left),
+    )
 
 pub fits-unit-spec : {M : Type 1} → statement M
 fits-unit-spec = tie.close (tie.spec returns returns-2 returns-3 returns-4 returns-5 returns-6)

@@ -37,23 +37,27 @@ loop-less c = search needs
 
 loop-again : tie.Need-loop-again Inv-loop μ-loop
 loop-again c =
-    let a = c .before .before .before .before .before .before .before .before .before .before .args in
-    let loop = c .before .before .before .before .before .before .loop in
-    let loop-test = c .before .before .before .before .before .loop-test in
-    let record-at = c .before .before .before .before .record-at in
     let type-call = c .before .before .type-call in
-    let arguments = c .before .arguments in
-    let m = calls-more (now (a .table)) (now (a .items)) (loop .arguments) (loop .at) (loop .left) (loop-test .taken) in
-    (omega arith, type-call .kept .1 .1 .0 ∙ loop .inv .1, rw (type-call .ensures, record-at .ensures) (sym m ∙ loop .inv .2))
+    let record-at = c .before .before .before .before .record-at in
+    let loop-test = c .before .before .before .before .before .loop-test in
+    let loop = c .before .before .before .before .before .before .loop in
+    let back8 = c .before .before .before .before .before .before .before .before in
+    let a = back8 .before .before .args in
+    let m = calls-more (now (a .table)) (now (a .items)) (loop .arguments) (loop .at) (loop .left) (loop-test .taken) in (
+      omega arith,
+      type-call .kept .1 .1 .0 ∙ loop .inv .1,
+      rw (type-call .ensures, record-at .ensures) (sym m ∙ loop .inv .2),
+    )
 
 same-length : tie.Need-same-length Inv-loop μ-loop
 same-length c = search needs
 
 returns : tie.Need-returns Inv-loop μ-loop
 returns c =
-    let a = c .before .before .before .before .before .args in
     let loop = c .before .loop in
-    sym (calls-none (now (a .table)) (now (a .items)) (loop .arguments) (loop .at) (loop .left) (omega arith)) ∙ loop .inv .2
+    let a = c .before .before .before .before .before .args in
+    sym (calls-none (now (a .table)) (now (a .items)) (loop .arguments) (loop .at) (loop .left) (omega arith))
+    ∙ loop .inv .2
 
 pub elaborate-calls-spec : {M : Type 1} → statement M
 elaborate-calls-spec =

@@ -45,14 +45,15 @@ loop-less c = search needs
 
 loop-again : tie.Need-loop-again Inv-loop μ-loop
 loop-again c =
-    let a = c .before .before .before .before .before .before .before .before .before .before .before .before .args in
-    let loop = c .before .before .before .before .before .before .before .before .loop in
-    let loop-test = c .before .before .before .before .before .before .before .loop-test in
-    let record-at = c .before .before .before .before .before .record-at in
-    let typed-record = c .before .before .before .typed-record in
     let put-record = c .before .before .put-record in
-    let items = c .before .items in
-    let m = items-more (now (a .table)) (calleeOf (now (a .rows)) (a .n)) (loop .items) (loop .at) (loop .left) (loop-test .taken) in (
+    let typed-record = c .before .before .before .typed-record in
+    let record-at = c .before .before .before .before .before .record-at in
+    let loop-test = c .before .before .before .before .before .before .before .loop-test in
+    let loop = c .before .before .before .before .before .before .before .before .loop in
+    let back8 = c .before .before .before .before .before .before .before .before in
+    let a = back8 .before .before .before .before .args in
+    let m = items-more (now (a .table)) (calleeOf (now (a .rows)) (a .n)) (loop .items) (loop .at) (loop .left)
+    (loop-test .taken) in (
       omega arith,
       put-record .kept .0 ∙ loop .inv .1,
       rw (put-record .ensures, typed-record .ensures, record-at .ensures) (sym m ∙ loop .inv .2),
@@ -63,9 +64,10 @@ same-length c = search needs
 
 returns : tie.Need-returns Inv-loop μ-loop
 returns c =
-    let a = c .before .before .before .before .before .args in
     let loop = c .before .loop in
-    sym (items-none (now (a .table)) (calleeOf (now (a .rows)) (a .n)) (loop .items) (loop .at) (loop .left) (omega arith)) ∙ loop .inv .2
+    let a = c .before .before .before .before .before .args in
+    sym (items-none (now (a .table)) (calleeOf (now (a .rows)) (a .n)) (loop .items) (loop .at) (loop .left)
+    (omega arith)) ∙ loop .inv .2
 
 pub elaborate-items-spec : {M : Type 1} → statement M
 elaborate-items-spec =

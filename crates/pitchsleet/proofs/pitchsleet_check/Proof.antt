@@ -27,7 +27,11 @@ same-length-2 c =
 returns-3 : tie.Need-returns-3
 unfolding exportDef pick
 returns-3 c =
-    by-parts (rw (le-ltb _ _ (c .before .before .before .before .before .before .before .before .before .before .before .before .before .before .before .if1 .left), le-ltb _ _ (c .before .before .before .before .before .before .before .before .before .before .before .before .before .before .if2 .left)) (c .before .before .before .before .check-out .ensures))
+    let check-out = c .before .before .before .before .check-out in
+    let back8 = c .before .before .before .before .before .before .before .before in
+    let if2 = back8 .before .before .before .before .before .before .if2 in
+    let if1 = back8 .before .before .before .before .before .before .before .if1 in
+    by-parts (rw (le-ltb _ _ (if1 .left), le-ltb _ _ (if2 .left)) (check-out .ensures))
 
 pub pitchsleet-check-spec : {M : Type 1} → statement M
 pitchsleet-check-spec =

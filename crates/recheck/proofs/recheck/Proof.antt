@@ -24,15 +24,16 @@ returns : tie.Need-returns
 unfolding recheckDef
 returns c =
     let back8 = c .before .before .before .before .before .before .before .before in
+    let recheck-sized = back8 .before .before .before .before .before .before .before .before .recheck-sized in
     let back16 = back8 .before .before .before .before .before .before .before .before in
     let back24 = back16 .before .before .before .before .before .before .before .before in
+    let if1 = back24 .before .if1 in
+    let fits2 = back24 .before .before .fits2 in
+    let fits-unit = back24 .before .before .before .fits-unit in
     let back32 = back24 .before .before .before .before .before .before .before .before in
     let a = back32 .before .before .before .before .before .before .before .args in
-    let fits-unit = back24 .before .before .before .fits-unit in
-    let fits2 = back24 .before .before .fits2 in
-    let if1 = back24 .before .if1 in
-    let recheck-sized = back16 .recheck-sized in
-    works (recheckOf (now (a .old)) (now (a .table)) (a .number) (now (a .new))) (now (a .message)) (now (a .tokens)) (now (a .names))
+    works (recheckOf (now (a .old)) (now (a .table)) (a .number) (now (a .new))) (now (a .message)) (now (a .tokens))
+    (now (a .names))
     (slices (now (a .functions)) (now (a .items)) (now (a .arguments)) (now (a .blocks)) (now (a .predecessors)))
     (fits-unit .result) (fits2 .result) (fits-unit .ensures .0) (fits2 .ensures .0) (if1 .taken) _ _ _ _ _
     (recheck-sized .ensures)
@@ -40,12 +41,13 @@ returns c =
 returns-2 : tie.Need-returns-2
 unfolding recheckDef
 returns-2 c =
+    let if1 = c .before .if1 in
+    let fits2 = c .before .before .fits2 in
+    let fits-unit = c .before .before .before .fits-unit in
     let back8 = c .before .before .before .before .before .before .before .before in
     let a = back8 .before .before .before .before .before .before .before .args in
-    let fits-unit = c .before .before .before .fits-unit in
-    let fits2 = c .before .before .fits2 in
-    let if1 = c .before .if1 in
-    shorts (recheckOf (now (a .old)) (now (a .table)) (a .number) (now (a .new))) (now (a .message)) (now (a .tokens)) (now (a .names))
+    shorts (recheckOf (now (a .old)) (now (a .table)) (a .number) (now (a .new))) (now (a .message)) (now (a .tokens))
+    (now (a .names))
     (slices (now (a .functions)) (now (a .items)) (now (a .arguments)) (now (a .blocks)) (now (a .predecessors)))
     (fits-unit .result) (fits2 .result) (fits-unit .ensures .0) (fits2 .ensures .0) (if1 .left) _ (c .refused .ensures)
 

@@ -26,24 +26,28 @@ part-is-whole-end c =
 returns : tie.Need-returns
 returns c =
     let back8 = c .before .before .before .before .before .before .before .before in
+    let refuse-all = back8 .before .before .before .before .before .before .before .before .refuse-all in
     let back16 = back8 .before .before .before .before .before .before .before .before in
     let back24 = back16 .before .before .before .before .before .before .before .before in
+    let cell-at = back24 .before .cell-at in
+    let if1 = back24 .before .before .if1 in
+    let is-whole = back24 .before .before .before .is-whole in
     let back32 = back24 .before .before .before .before .before .before .before .before in
     let back40 = back32 .before .before .before .before .before .before .before .before in
     let a = back40 .before .before .before .args in
     let pre = back40 .before .before .before .pre in
-    let is-whole = back24 .before .before .before .is-whole in
-    let if1 = back24 .before .before .if1 in
-    let cell-at = back24 .before .cell-at in
-    let refuse-all = back16 .refuse-all in
-    let ends = not-whole (now (a .old)) (now (a .table)) (a .number) (now (a .new)) (now (a .message)) (now (a .tokens)) (now (a .names))
-    (slices (now (a .functions)) (now (a .items)) (now (a .arguments)) (now (a .blocks)) (now (a .predecessors))) (a .r) (pre .0) (pre .1) _ _
+    let ends = not-whole (now (a .old)) (now (a .table)) (a .number) (now (a .new)) (now (a .message))
+    (now (a .tokens)) (now (a .names))
+    (slices (now (a .functions)) (now (a .items)) (now (a .arguments)) (now (a .blocks)) (now (a .predecessors)))
+    (a .r) (pre .0) (pre .1) _ _
     (used-tokens (pre .1)) (used-names (pre .1)) (sym (is-whole .ensures) ∙ not-true _ (if1 .taken)) in
     refuse-all .ensures
     ∙ ap (λ (k : ℕ). padded (now (a .message)) (now (a .tokens)) (now (a .names))
-    (slices (now (a .functions)) (now (a .items)) (now (a .arguments)) (now (a .blocks)) (now (a .predecessors))) (refusedWith 40 k 0)) (cell-at .ensures)
+    (slices (now (a .functions)) (now (a .items)) (now (a .arguments)) (now (a .blocks)) (now (a .predecessors)))
+    (refusedWith 40 k 0)) (cell-at .ensures)
     ∙ ap (padded (now (a .message)) (now (a .tokens)) (now (a .names))
-    (slices (now (a .functions)) (now (a .items)) (now (a .arguments)) (now (a .blocks)) (now (a .predecessors)))) (sym ends)
+    (slices (now (a .functions)) (now (a .items)) (now (a .arguments)) (now (a .blocks)) (now (a .predecessors))))
+    (sym ends)
 
 part-unit-end : tie.Need-part-unit-end
 part-unit-end c =
@@ -96,41 +100,45 @@ counted-requires c κs =
 
 returns-2 : tie.Need-returns-2
 returns-2 c =
+    let refuse = c .before .before .before .before .before .before .refuse in
     let back8 = c .before .before .before .before .before .before .before .before in
+    let e = back8 .before .before .before .e in
     let back16 = back8 .before .before .before .before .before .before .before .before in
+    let unit = back16 .before .before .before .before .before .before .before .unit in
     let back24 = back16 .before .before .before .before .before .before .before .before in
     let back32 = back24 .before .before .before .before .before .before .before .before in
+    let if1 = back32 .before .if1 in
+    let is-whole = back32 .before .before .is-whole in
     let back40 = back32 .before .before .before .before .before .before .before .before in
     let back48 = back40 .before .before .before .before .before .before .before .before in
     let a = back48 .before .before .args in
     let pre = back48 .before .before .pre in
-    let is-whole = back32 .before .before .is-whole in
-    let if1 = back32 .before .if1 in
-    let unit = back16 .before .before .before .before .before .before .before .unit in
-    let e = back8 .before .before .before .e in
-    let refuse = c .before .before .before .before .before .before .refuse in
-    ends-refused (now (a .old)) (now (a .table)) (a .number) (now (a .new)) (now (a .message)) (now (a .tokens)) (now (a .names))
-    (slices (now (a .functions)) (now (a .items)) (now (a .arguments)) (now (a .blocks)) (now (a .predecessors))) (a .r) (pre .0) (pre .1) _ _
+    ends-refused (now (a .old)) (now (a .table)) (a .number) (now (a .new)) (now (a .message)) (now (a .tokens))
+    (now (a .names))
+    (slices (now (a .functions)) (now (a .items)) (now (a .arguments)) (now (a .blocks)) (now (a .predecessors)))
+    (a .r) (pre .0) (pre .1) _ _
     (used-tokens (pre .1)) (used-names (pre .1)) (sym (is-whole .ensures) ∙ not-false _ (if1 .left)) (e .given .0 .0)
     _ (sym (e .given .1) ∙ unit .ensures .0) (unit .ensures .1 .0) _ _ _ _
     (as-read (pre .1) (refuse .ensures))
 
 returns-3 : tie.Need-returns-3
 returns-3 c =
+    let n = c .before .before .n in
     let back8 = c .before .before .before .before .before .before .before .before in
+    let unit = back8 .before .before .before .before .before .before .unit in
     let back16 = back8 .before .before .before .before .before .before .before .before in
+    let if1 = back16 .before .before .before .before .before .before .before .before .if1 in
     let back24 = back16 .before .before .before .before .before .before .before .before in
+    let is-whole = back24 .before .is-whole in
     let back32 = back24 .before .before .before .before .before .before .before .before in
     let back40 = back32 .before .before .before .before .before .before .before .before in
     let a = back40 .before .args in
     let pre = back40 .before .pre in
-    let is-whole = back24 .before .is-whole in
-    let if1 = back24 .if1 in
-    let unit = back8 .before .before .before .before .before .before .unit in
-    let n = c .before .before .n in
     rw (c .counted .ensures)
-    (ends-accepted (now (a .old)) (now (a .table)) (a .number) (now (a .new)) (now (a .message)) (now (a .tokens)) (now (a .names))
-    (slices (now (a .functions)) (now (a .items)) (now (a .arguments)) (now (a .blocks)) (now (a .predecessors))) (a .r) (pre .0) (pre .1) _ _
+    (ends-accepted (now (a .old)) (now (a .table)) (a .number) (now (a .new)) (now (a .message)) (now (a .tokens))
+    (now (a .names))
+    (slices (now (a .functions)) (now (a .items)) (now (a .arguments)) (now (a .blocks)) (now (a .predecessors)))
+    (a .r) (pre .0) (pre .1) _ _
     (used-tokens (pre .1)) (used-names (pre .1)) (sym (is-whole .ensures) ∙ not-false _ (if1 .left)) (n .given .0 .0)
     _ (sym (n .given .1) ∙ unit .ensures .0) (unit .ensures .1 .0))
 

@@ -14,17 +14,18 @@ use Rattle.recheck.proofs.recheck_sized.Tie as tie
 returns : tie.Need-returns
 returns c =
     let back8 = c .before .before .before .before .before .before .before .before in
+    let refuse-all = back8 .before .before .before .before .before .before .before .before .refuse-all in
     let back16 = back8 .before .before .before .before .before .before .before .before in
     let back24 = back16 .before .before .before .before .before .before .before .before in
+    let if1 = back24 .before .if1 in
+    let is-table = back24 .before .before .is-table in
     let back32 = back24 .before .before .before .before .before .before .before .before in
     let a = back32 .before .before .before .before .before .before .args in
-    let is-table = back24 .before .before .is-table in
-    let if1 = back24 .before .if1 in
-    let refuse-all = back16 .refuse-all in
     let ends = bad-table (now (a .old)) (now (a .table)) (a .number) (now (a .new))
     (sym (is-table .ensures) ∙ not-true _ (if1 .taken)) in
     refuse-all .ensures ∙ ap (padded (now (a .message)) (now (a .tokens)) (now (a .names))
-    (slices (now (a .functions)) (now (a .items)) (now (a .arguments)) (now (a .blocks)) (now (a .predecessors)))) (sym ends)
+    (slices (now (a .functions)) (now (a .items)) (now (a .arguments)) (now (a .blocks)) (now (a .predecessors))))
+    (sym ends)
 
 read-from-requires : tie.Need-read-from-requires
 read-from-requires c κs =
@@ -113,22 +114,24 @@ returns-2 c =
 returns-3 : tie.Need-returns-3
 returns-3 c =
     let back8 = c .before .before .before .before .before .before .before .before in
+    let clear-five = back8 .before .before .before .clear-five in
     let back16 = back8 .before .before .before .before .before .before .before .before in
+    let if2 = back16 .before .if2 in
     let back24 = back16 .before .before .before .before .before .before .before .before in
+    let read-from = back24 .before .read-from in
+    let cell-at = back24 .before .before .before .before .before .cell-at in
+    let if1 = back24 .before .before .before .before .before .before .if1 in
+    let is-table = back24 .before .before .before .before .before .before .before .is-table in
     let back32 = back24 .before .before .before .before .before .before .before .before in
     let back40 = back32 .before .before .before .before .before .before .before .before in
     let a = back40 .before .before .before .args in
-    let is-table = back24 .before .before .before .before .before .before .before .is-table in
-    let if1 = back24 .before .before .before .before .before .before .if1 in
-    let cell-at = back24 .before .before .before .before .before .cell-at in
-    let read-from = back24 .before .read-from in
-    let if2 = back16 .before .if2 in
-    let clear-five = back8 .before .before .before .clear-five in
     rw (c .refused .ensures)
     (not-lexed _ (now (a .new)) (now (a .tokens)) (now (a .names)) (now (a .message)) (read-from .result)
     (read-from .last .1 .1 .0) (read-from .last .1 .1 .1 .0) (read-from .last .1 .1 .1 .1 .0) (read-from .ensures)
-    (now (a .old)) (now (a .table)) (a .number) (sym (is-table .ensures) ∙ not-false _ (if1 .left)) (cell-at .ensures) (if2 .left)
-    (slices (now (a .functions)) (now (a .items)) (now (a .arguments)) (now (a .blocks)) (now (a .predecessors))) _ (clear-five .ensures))
+    (now (a .old)) (now (a .table)) (a .number) (sym (is-table .ensures) ∙ not-false _ (if1 .left)) (cell-at .ensures)
+    (if2 .left)
+    (slices (now (a .functions)) (now (a .items)) (now (a .arguments)) (now (a .blocks)) (now (a .predecessors))) _
+    (clear-five .ensures))
 
 pub recheck-sized-spec : {M : Type 1} → statement M
 recheck-sized-spec =

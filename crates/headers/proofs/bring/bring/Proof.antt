@@ -9,19 +9,20 @@ use Rattle.headers.proofs.bring.bring.Tie as tie
 
 returns : tie.Need-returns
 returns c =
-    let entry = c .before .before .before .before .before .before .before .before .before .before .before .before .before .before in
-    let a = entry .args in
-    let count = c .before .before .before .before .before .before .before .before .cell-at in
-    let before = c .before .before .before .before .before .before .bring-rows in
     let after = c .before .before .bring-rows2 in
+    let before = c .before .before .before .before .before .before .bring-rows in
+    let count = c .before .before .before .before .before .before .before .before .cell-at in
+    let back8 = c .before .before .before .before .before .before .before .before in
+    let a = back8 .before .before .before .before .before .before .args in
+    let pre = back8 .before .before .before .before .before .before .pre in
     record {
       table =
           rw (← count .ensures)
           (brought-whole (now (a .old)) (now (a .rows)) (now (a .new)) (now (a .names)) (a .known) (a .number)
           (count .result) (brought (now (a .out)) 0) (brought (before .last .0) (before .result))
-          (brought (after .last .0) (after .result)) (omega (arith, entry .pre .0)) (before .ensures .0) (after .ensures .0));
+          (brought (after .last .0) (after .result)) (omega (arith, pre .0)) (before .ensures .0) (after .ensures .0));
       place = rw (← before .ensures .0);
-      few = omega (arith, entry .pre .0, entry .pre .1);
+      few = omega (arith, pre .0, pre .1);
     }
 
 pub bring-spec : {M : Type 1} → statement M

@@ -16,7 +16,8 @@ use Rattle.headers.proofs.bring.copy_row.Tie as tie
 abbrev Inv-loop : tie.InvT-loop
 Inv-loop out₀ n rows i to from k₀ out k =
     (k ≤ 45) × (length out ≡ length out₀)
-    × (sets out (rowAt n + k) (cellsFrom rows (rowAt i + k) (45 - k)) ≡ sets out₀ (rowAt n) (cellsFrom rows (rowAt i) 45))
+    × (sets out (rowAt n + k) (cellsFrom rows (rowAt i + k) (45 - k)) ≡ sets out₀ (rowAt n) (cellsFrom rows (rowAt i)
+    45))
 
 abbrev μ-loop : tie.MeasureT-loop
 μ-loop out₀ n rows i to from k₀ out k = 45 - k

@@ -15,21 +15,36 @@ returns c =
 returns-2 : tie.Need-returns-2
 unfolding nameFits pick
 returns-2 c =
-    let place = c .before .before .before .before .cell-at in
-    let len = c .before .before .before .cell-at2 in
-    let fits = c .before .before .if1 in
     let tested = c .before .is-between in
-    rw (← place .ensures, ← len .ensures, le-leb _ _ (fits .left), ← tested .ensures, not-true (tested .result) (c .if2 .taken))
+    let fits = c .before .before .if1 in
+    let len = c .before .before .before .cell-at2 in
+    let place = c .before .before .before .before .cell-at in
+    rw (
+      ← place .ensures,
+      ← len .ensures,
+      le-leb _ _ (fits .left),
+      ← tested .ensures,
+      not-true (tested .result)
+          (c .if2 .taken),
+    )
 
 returns-3 : tie.Need-returns-3
 unfolding nameFits pick
 returns-3 c =
-    let place = c .before .before .before .before .before .cell-at in
-    let len = c .before .before .before .before .cell-at2 in
-    let fits = c .before .before .before .if1 in
-    let tested = c .before .before .is-between in
     let passed = c .before .if2 in
-    rw (← place .ensures, ← len .ensures, le-leb _ _ (fits .left), ← tested .ensures, not-false (tested .result) (passed .left), lt-leb _ _ (c .if3 .taken))
+    let tested = c .before .before .is-between in
+    let fits = c .before .before .before .if1 in
+    let len = c .before .before .before .before .cell-at2 in
+    let place = c .before .before .before .before .before .cell-at in
+    rw (
+      ← place .ensures,
+      ← len .ensures,
+      le-leb _ _ (fits .left),
+      ← tested .ensures,
+      not-false (tested .result)
+          (passed .left),
+      lt-leb _ _ (c .if3 .taken),
+    )
 
 returns-4 : tie.Need-returns-4
 unfolding nameFits pick

@@ -8,25 +8,38 @@ use Rattle.pitchsleet.proofs.check.check_out.Statement.{statement}
 use Rattle.pitchsleet.proofs.check.check_out.Tie as tie
 
 put-all-requires : tie.Need-put-all-requires
-put-all-requires c κs = (
-  record {
-    tokens = c .before .before .before .before .before .before .before .before .before .before .before .before .before .before .before .before .before .check .kept .1 .0 ∙ c .before .before .before .before .before .before .before .before .before .before .before .before .before .before .before .before .before .before .before .before .before .before .before .before .before .before .before .before .before .pre .0 .tokens;
-    names = c .before .before .before .before .before .before .before .before .before .before .before .before .before .before .before .before .before .check .kept .1 .1 .0 ∙ c .before .before .before .before .before .before .before .before .before .before .before .before .before .before .before .before .before .before .before .before .before .before .before .before .before .before .before .before .before .pre .0 .names;
-    functions = c .before .before .before .before .before .before .before .before .before .before .before .before .before .before .before .before .before .check .kept .1 .1 .1 .0 ∙ c .before .before .before .before .before .before .before .before .before .before .before .before .before .before .before .before .before .before .before .before .before .before .before .before .before .before .before .before .before .pre .0 .functions;
-    items = c .before .before .before .before .before .before .before .before .before .before .before .before .before .before .before .before .before .check .kept .1 .1 .1 .1 .0 ∙ c .before .before .before .before .before .before .before .before .before .before .before .before .before .before .before .before .before .before .before .before .before .before .before .before .before .before .before .before .before .pre .0 .items;
-    arguments = c .before .before .before .before .before .before .before .before .before .before .before .before .before .before .before .before .before .check .kept .1 .1 .1 .1 .1 .0 ∙ c .before .before .before .before .before .before .before .before .before .before .before .before .before .before .before .before .before .before .before .before .before .before .before .before .before .before .before .before .before .pre .0 .arguments;
-    blocks = c .before .before .before .before .before .before .before .before .before .before .before .before .before .before .before .before .before .check .kept .1 .1 .1 .1 .1 .1 .0 ∙ c .before .before .before .before .before .before .before .before .before .before .before .before .before .before .before .before .before .before .before .before .before .before .before .before .before .before .before .before .before .pre .0 .blocks;
-    predecessors = c .before .before .before .before .before .before .before .before .before .before .before .before .before .before .before .before .before .check .kept .1 .1 .1 .1 .1 .1 .1 .0 ∙ c .before .before .before .before .before .before .before .before .before .before .before .before .before .before .before .before .before .before .before .before .before .before .before .before .before .before .before .before .before .pre .0 .predecessors;
-  },
-  c .before .before .before .before .before .before .before .before .before .before .before .before .before .before .before .before .before .before .before .before .before .before .before .before .before .before .before .before .before .pre .1,
-)
+put-all-requires c κs =
+    let back8 = c .before .before .before .before .before .before .before .before in
+    let back16 = back8 .before .before .before .before .before .before .before .before in
+    let check = back16 .before .check in
+    let back24 = back16 .before .before .before .before .before .before .before .before in
+    let pre = back24 .before .before .before .before .before .pre in (
+      record {
+        tokens = check .kept .1 .0 ∙ pre .0 .tokens;
+        names = check .kept .1 .1 .0 ∙ pre .0 .names;
+        functions = check .kept .1 .1 .1 .0 ∙ pre .0 .functions;
+        items = check .kept .1 .1 .1 .1 .0 ∙ pre .0 .items;
+        arguments = check .kept .1 .1 .1 .1 .1 .0 ∙ pre .0 .arguments;
+        blocks = check .kept .1 .1 .1 .1 .1 .1 .0 ∙ pre .0 .blocks;
+        predecessors = check .kept .1 .1 .1 .1 .1 .1 .1 .0 ∙ pre .0 .predecessors;
+      },
+      pre .1,
+    )
 
 returns : tie.Need-returns
 unfolding checkDef
 returns c =
-    out-of (checkOf (now (c .before .before .before .before .before .before .before .before .before .before .before .before .before .before .before .before .before .before .before .before .before .before .before .before .before .before .before .before .before .before .before .before .args .text))) (now (c .before .before .before .before .before .before .before .before .before .before .before .before .before .before .before .before .before .before .before .before .before .before .before .before .before .before .before .before .before .before .before .before .args .message)) (now (c .before .before .before .before .before .before .before .before .before .before .before .before .before .before .before .before .before .before .before .before .before .before .before .before .before .before .before .before .before .before .before .before .args .tokens)) (now (c .before .before .before .before .before .before .before .before .before .before .before .before .before .before .before .before .before .before .before .before .before .before .before .before .before .before .before .before .before .before .before .before .args .names)) (now (c .before .before .before .before .before .before .before .before .before .before .before .before .before .before .before .before .before .before .before .before .before .before .before .before .before .before .before .before .before .before .before .before .args .functions)) (now (c .before .before .before .before .before .before .before .before .before .before .before .before .before .before .before .before .before .before .before .before .before .before .before .before .before .before .before .before .before .before .before .before .args .items))
-    (now (c .before .before .before .before .before .before .before .before .before .before .before .before .before .before .before .before .before .before .before .before .before .before .before .before .before .before .before .before .before .before .before .before .args .arguments)) (now (c .before .before .before .before .before .before .before .before .before .before .before .before .before .before .before .before .before .before .before .before .before .before .before .before .before .before .before .before .before .before .before .before .args .blocks)) (now (c .before .before .before .before .before .before .before .before .before .before .before .before .before .before .before .before .before .before .before .before .before .before .before .before .before .before .before .before .before .before .before .before .args .predecessors)) (c .before .before .before .before .before .before .before .before .before .before .before .before .before .before .before .before .before .before .before .before .before .before .before .before .before .before .before .before .before .before .before .before .pre .0) (c .before .before .before .before .before .before .before .before .before .before .before .before .before .before .before .before .before .before .before .before .before .before .before .before .before .before .before .before .before .before .before .before .pre .2) _ _ _ _ _ (now (c .before .before .before .before .before .before .before .before .before .before .before .before .before .before .before .before .before .before .before .before .before .before .before .before .before .before .before .before .before .before .before .before .args .out)) _
-    (c .before .before .before .before .before .before .before .before .before .before .before .before .before .before .before .before .before .before .before .before .check .ensures) (c .before .before .put-all .ensures)
+    let put-all = c .before .before .put-all in
+    let back8 = c .before .before .before .before .before .before .before .before in
+    let back16 = back8 .before .before .before .before .before .before .before .before in
+    let check = back16 .before .before .before .before .check in
+    let back24 = back16 .before .before .before .before .before .before .before .before in
+    let a = back24 .before .before .before .before .before .before .before .before .args in
+    let pre = back24 .before .before .before .before .before .before .before .before .pre in
+    out-of (checkOf (now (a .text))) (now (a .message)) (now (a .tokens)) (now (a .names)) (now (a .functions))
+    (now (a .items))
+    (now (a .arguments)) (now (a .blocks)) (now (a .predecessors)) (pre .0) (pre .2) _ _ _ _ _ (now (a .out)) _
+    (check .ensures) (put-all .ensures)
 
 pub check-out-spec : {M : Type 1} → statement M
 check-out-spec =

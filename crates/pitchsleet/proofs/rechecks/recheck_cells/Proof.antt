@@ -30,16 +30,18 @@ put-all-requires c κs =
 returns : tie.Need-returns
 unfolding cells.recheckDef
 returns c =
+    let put-all = c .before .before .put-all in
     let back8 = c .before .before .before .before .before .before .before .before in
     let back16 = back8 .before .before .before .before .before .before .before .before in
+    let recheck = back16 .before .before .before .before .recheck in
     let back24 = back16 .before .before .before .before .before .before .before .before in
     let back32 = back24 .before .before .before .before .before .before .before .before in
     let a = back32 .before .before .args in
     let pre = back32 .before .before .pre in
-    let recheck = back16 .before .before .before .before .recheck in
     out-of (recheckOf (now (a .old)) (now (a .table)) (a .number) (now (a .new))) (now (a .message)) (now (a .tokens))
-    (now (a .names)) (now (a .functions)) (now (a .items)) (now (a .arguments)) (now (a .blocks)) (now (a .predecessors))
-    (pre .0) (pre .2) _ _ _ _ _ (now (a .out)) _ (recheck .ensures) (c .before .before .put-all .ensures)
+    (now (a .names)) (now (a .functions)) (now (a .items)) (now (a .arguments)) (now (a .blocks))
+    (now (a .predecessors))
+    (pre .0) (pre .2) _ _ _ _ _ (now (a .out)) _ (recheck .ensures) (put-all .ensures)
 
 pub recheck-cells-spec : {M : Type 1} → statement M
 recheck-cells-spec =

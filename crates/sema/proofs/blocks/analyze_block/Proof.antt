@@ -34,13 +34,15 @@ same-length c = search needs
 
 returns : tie.Need-returns Inv-loop μ-loop
 returns c =
-    let a = c .before .before .before .before .before .before .before .before .before .before .before .before .before .before .args in
-    let loop = c .before .before .before .before .before .before .before .before .loop in
-    let loop-test = c .before .before .before .before .before .before .before .loop-test in
-    let analyze-op = c .before .before .before .before .before .analyze-op in
     let e = c .before .e in
+    let analyze-op = c .before .before .before .before .before .analyze-op in
+    let loop-test = c .before .before .before .before .before .before .before .loop-test in
+    let loop = c .before .before .before .before .before .before .before .before .loop in
+    let back8 = c .before .before .before .before .before .before .before .before in
+    let a = back8 .before .before .before .before .before .before .args in
     items-refused (tokensOf (now (a .tokens))) (globalsIn (now (a .rows)) (a .n)) (a .ret) (now (a .table))
-    (itemsAt (now (a .items)) (now (a .arguments)) (a .first) (a .count)) (loop .table) (now (a .items)) (now (a .arguments))
+    (itemsAt (now (a .items)) (now (a .arguments)) (a .first) (a .count)) (loop .table) (now (a .items))
+    (now (a .arguments))
     (loop .at) (loop .left) (loop .inv .2) (loop-test .taken) (analyze-op .ensures) (e .given .1)
 
 enum-told : tie.Need-enum-told Inv-loop μ-loop
@@ -57,15 +59,17 @@ loop-less c = search needs
 
 loop-again : tie.Need-loop-again Inv-loop μ-loop
 loop-again c =
-    let a = c .before .before .before .before .before .before .before .before .before .before .before .before .before .args in
-    let loop = c .before .before .before .before .before .before .before .loop in
-    let loop-test = c .before .before .before .before .before .before .loop-test in
+    let enum-told = c .enum-told in
     let analyze-op = c .before .before .before .before .analyze-op in
-    let enum-told = c .enum-told in (
+    let loop-test = c .before .before .before .before .before .before .loop-test in
+    let loop = c .before .before .before .before .before .before .before .loop in
+    let back8 = c .before .before .before .before .before .before .before .before in
+    let a = back8 .before .before .before .before .before .args in (
       omega arith,
       analyze-op .kept .1 .1 .1 .1 .0 ∙ loop .inv .1,
       items-fine (tokensOf (now (a .tokens))) (globalsIn (now (a .rows)) (a .n)) (a .ret) (now (a .table))
-          (itemsAt (now (a .items)) (now (a .arguments)) (a .first) (a .count)) (loop .table) (now (a .items)) (now (a .arguments))
+          (itemsAt (now (a .items)) (now (a .arguments)) (a .first) (a .count)) (loop .table) (now (a .items))
+          (now (a .arguments))
           (loop .at) (loop .left) (loop .inv .2) (loop-test .taken) (analyze-op .ensures) (enum-told .given .1),
     )
 
@@ -77,11 +81,13 @@ same-length-2 c = search needs
 
 returns-2 : tie.Need-returns-2 Inv-loop μ-loop
 returns-2 c =
-    let a = c .before .before .before .before .before .before .before .before .args in
-    let loop = c .before .before .loop in
     let expect-terminator = c .expect-terminator in
-    expect-terminator .ensures (loop .table) (now (a .arguments)) ∙ items-ended (tokensOf (now (a .tokens))) (globalsIn (now (a .rows)) (a .n)) (a .ret) (now (a .table))
-    (itemsAt (now (a .items)) (now (a .arguments)) (a .first) (a .count)) (loop .table) (now (a .items)) (now (a .arguments))
+    let loop = c .before .before .loop in
+    let a = c .before .before .before .before .before .before .before .before .args in
+    expect-terminator .ensures (loop .table) (now (a .arguments)) ∙ items-ended (tokensOf (now (a .tokens)))
+    (globalsIn (now (a .rows)) (a .n)) (a .ret) (now (a .table))
+    (itemsAt (now (a .items)) (now (a .arguments)) (a .first) (a .count)) (loop .table) (now (a .items))
+    (now (a .arguments))
     (loop .at) (loop .left) (loop .inv .2) (omega arith)
 
 pub analyze-block-spec : {M : Type 1} → statement M

@@ -9,33 +9,36 @@ use Rattle.sema.proofs.blocks.analyze_plain.Tie as tie
 
 returns : tie.Need-returns
 returns c =
+    let analyze-bin-op = c .before .before .analyze-bin-op in
+    let match = c .before .before .before .before .match in
+    let token-at = c .before .before .before .before .before .before .before .token-at in
     let back8 = c .before .before .before .before .before .before .before .before in
     let a = back8 .before .before .before .args in
-    let token-at = c .before .before .before .before .before .before .before .token-at in
-    let match = c .before .before .before .before .match in
-    let analyze-bin-op = c .before .before .analyze-bin-op in
     analyze-bin-op .ensures
-    ∙ plain-binary (tokensOf (now (a .tokens))) (a .ret) (now (a .table)) (a .r) (a .x) (token-at .ensures) (match .keys1)
+    ∙ plain-binary (tokensOf (now (a .tokens))) (a .ret) (now (a .table)) (a .r) (a .x) (token-at .ensures)
+    (match .keys1)
 
 returns-2 : tie.Need-returns-2
 returns-2 c =
+    let analyze-unary-op = c .before .before .analyze-unary-op in
+    let match = c .before .before .before .before .match in
+    let token-at = c .before .before .before .before .before .before .before .token-at in
     let back8 = c .before .before .before .before .before .before .before .before in
     let a = back8 .before .before .before .args in
-    let token-at = c .before .before .before .before .before .before .before .token-at in
-    let match = c .before .before .before .before .match in
-    let analyze-unary-op = c .before .before .analyze-unary-op in
     analyze-unary-op .ensures
-    ∙ plain-unary (tokensOf (now (a .tokens))) (a .ret) (now (a .table)) (a .r) (a .x) (token-at .ensures) (match .keys2)
+    ∙ plain-unary (tokensOf (now (a .tokens))) (a .ret) (now (a .table)) (a .r) (a .x) (token-at .ensures)
+    (match .keys2)
 
 returns-3 : tie.Need-returns-3
 returns-3 c =
+    let analyze-const = c .before .before .analyze-const in
+    let match = c .before .before .before .before .match in
+    let token-at = c .before .before .before .before .before .before .before .token-at in
     let back8 = c .before .before .before .before .before .before .before .before in
     let a = back8 .before .before .before .args in
-    let token-at = c .before .before .before .before .before .before .before .token-at in
-    let match = c .before .before .before .before .match in
-    let analyze-const = c .before .before .analyze-const in
     analyze-const .ensures
-    ∙ plain-const (tokensOf (now (a .tokens))) (a .ret) (now (a .table)) (a .r) (a .x) (token-at .ensures) (match .keys3)
+    ∙ plain-const (tokensOf (now (a .tokens))) (a .ret) (now (a .table)) (a .r) (a .x) (token-at .ensures)
+    (match .keys3)
 
 returns-4 : tie.Need-returns-4
 returns-4 c =

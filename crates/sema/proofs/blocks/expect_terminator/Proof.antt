@@ -15,25 +15,33 @@ returns c =
 
 returns-2 : tie.Need-returns-2
 returns-2 c =
-    let a = c .before .before .before .before .before .before .args in
-    let if1 = c .before .before .before .before .if1 in
-    let record-at = c .before .before .before .record-at in
-    let from = from-cells (record-at .result) (now (a .items)) (a .first + a .count - 1) (record-at .ensures) in
-    let if2 = c .before .if2 in
     let refuse = c .refuse in
-    λ t args. rw (← end-last t (now (a .items)) args (a .count) (a .first) (if1 .left), ← record-at .ensures, refuse .ensures)
+    let if2 = c .before .if2 in
+    let record-at = c .before .before .before .record-at in
+    let if1 = c .before .before .before .before .if1 in
+    let a = c .before .before .before .before .before .before .args in
+    let from = from-cells (record-at .result) (now (a .items)) (a .first + a .count - 1) (record-at .ensures) in
+    λ t args. rw (
+      ← end-last t (now (a .items)) args (a .count) (a .first) (if1 .left),
+      ← record-at .ensures,
+      refuse .ensures,
+    )
     (last-other t (record-at .result) args from (λ e. omega (arith, e, if2 .taken)) (λ e. omega (arith, e, if2 .taken))
     (λ e. omega (arith, e, if2 .taken)) (λ e. omega (arith, e, if2 .taken)))
 
 returns-3 : tie.Need-returns-3
 returns-3 c =
-    let a = c .before .before .before .before .before .before .before .args in
-    let if1 = c .before .before .before .before .before .if1 in
-    let record-at = c .before .before .before .before .record-at in
-    let from = from-cells (record-at .result) (now (a .items)) (a .first + a .count - 1) (record-at .ensures) in
-    let if3 = c .before .if3 in
     let refuse2 = c .refuse2 in
-    λ t args. rw (← end-last t (now (a .items)) args (a .count) (a .first) (if1 .left), ← record-at .ensures, refuse2 .ensures)
+    let if3 = c .before .if3 in
+    let record-at = c .before .before .before .before .record-at in
+    let if1 = c .before .before .before .before .before .if1 in
+    let a = c .before .before .before .before .before .before .before .args in
+    let from = from-cells (record-at .result) (now (a .items)) (a .first + a .count - 1) (record-at .ensures) in
+    λ t args. rw (
+      ← end-last t (now (a .items)) args (a .count) (a .first) (if1 .left),
+      ← record-at .ensures,
+      refuse2 .ensures,
+    )
     (last-other t (record-at .result) args from (λ e. omega (arith, e, if3 .taken)) (λ e. omega (arith, e, if3 .taken))
     (λ e. omega (arith, e, if3 .taken)) (λ e. omega (arith, e, if3 .taken)))
 

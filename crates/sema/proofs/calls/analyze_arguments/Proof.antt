@@ -19,21 +19,23 @@ returns c =
 returns-2 : tie.Need-returns-2
 unfolding typeArgumentsD pick
 returns-2 c =
-    let at-most-16 = c .before .before .before .before .before .at-most-16 in
-    let if1 = c .before .before .before .before .if1 in
-    let look-arguments = c .before .before .before .look-arguments in
     let e = c .before .e in
-    rw (← at-most-16 .ensures .0, length-types _ _ _, length-variables _ _ _, eq-eqb _ _ (if1 .left)) (typed-refused _ _ _ (look-arguments .ensures) (e .given .1))
+    let look-arguments = c .before .before .before .look-arguments in
+    let if1 = c .before .before .before .before .if1 in
+    let at-most-16 = c .before .before .before .before .before .at-most-16 in
+    rw (← at-most-16 .ensures .0, length-types _ _ _, length-variables _ _ _, eq-eqb _ _ (if1 .left))
+    (typed-refused _ _ _ (look-arguments .ensures) (e .given .1))
 
 returns-3 : tie.Need-returns-3
 unfolding typeArgumentsD pick
 returns-3 c =
-    let at-most-16 = c .before .before .before .before .before .at-most-16 in
-    let if1 = c .before .before .before .before .if1 in
-    let look-arguments = c .before .before .before .look-arguments in
-    let enum-told = c .before .enum-told in
     let compare-arguments = c .compare-arguments in
-    rw (← at-most-16 .ensures .0, length-types _ _ _, length-variables _ _ _, eq-eqb _ _ (if1 .left), if1 .left) (compare-arguments .ensures ∙ typed-fine _ _ _ (look-arguments .ensures) (enum-told .given .1))
+    let enum-told = c .before .enum-told in
+    let look-arguments = c .before .before .before .look-arguments in
+    let if1 = c .before .before .before .before .if1 in
+    let at-most-16 = c .before .before .before .before .before .at-most-16 in
+    rw (← at-most-16 .ensures .0, length-types _ _ _, length-variables _ _ _, eq-eqb _ _ (if1 .left), if1 .left)
+    (compare-arguments .ensures ∙ typed-fine _ _ _ (look-arguments .ensures) (enum-told .given .1))
 
 pub analyze-arguments-spec : {M : Type 1} → statement M
 analyze-arguments-spec =

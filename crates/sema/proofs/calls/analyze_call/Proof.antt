@@ -48,12 +48,13 @@ returns-2 c =
 returns-3 : tie.Need-returns-3
 unfolding typeCallD thenGlobal pick
 returns-3 c =
-    let find-function = c .before .before .before .before .before .before .find-function in
-    let i = c .before .before .before .before .i in
-    let result-type = c .before .before .result-type in
-    let if1 = c .before .if1 in
     let analyze-arguments = c .analyze-arguments in
-    rw (← find-function .ensures, i .given .1, ← result-type .ensures, eq-eqb _ _ (if1 .left)) (analyze-arguments .ensures)
+    let if1 = c .before .if1 in
+    let result-type = c .before .before .result-type in
+    let i = c .before .before .before .before .i in
+    let find-function = c .before .before .before .before .before .before .find-function in
+    rw (← find-function .ensures, i .given .1, ← result-type .ensures, eq-eqb _ _ (if1 .left))
+    (analyze-arguments .ensures)
 
 pub analyze-call-spec : {M : Type 1} → statement M
 analyze-call-spec =

@@ -31,10 +31,11 @@ returns c =
 
 enter-result-requires : tie.Need-enter-result-requires
 enter-result-requires c κs =
-    let a = c .before .before .before .before .before .before .before .before .before .before .before .before .before .args in
-    let pre = c .before .before .before .before .before .before .before .before .before .before .before .before .before .pre in
-    let find-function = c .before .before .before .before .before .before .before .before .before .find-function in
     let i = c .before .before .before .before .before .before .before .i in
+    let back8 = c .before .before .before .before .before .before .before .before in
+    let find-function = back8 .before .find-function in
+    let a = back8 .before .before .before .before .before .args in
+    let pre = back8 .before .before .before .before .before .pre in
     let below = found-below (a .n) (now (a .rows)) (a .callee .0) (sym (find-function .ensures) ∙ i .given .1) in
     (omega (arith, below, pre .0), pre .1)
 
@@ -49,25 +50,29 @@ returns-2 c =
 returns-3 : tie.Need-returns-3
 unfolding typeCallIntoD thenGlobal pick
 returns-3 c =
-    let find-function = c .before .before .before .before .before .before .before .before .before .find-function in
-    let i = c .before .before .before .before .before .before .before .i in
-    let result-type = c .before .before .before .before .before .result-type in
-    let if1 = c .before .before .before .before .if1 in
-    let expect-type = c .before .before .before .expect-type in
     let e = c .before .e in
-    rw (← find-function .ensures, i .given .1, ← result-type .ensures, ne-eqb _ _ (if1 .left)) (same-refused _ _ _ _ _ (expect-type .ensures) (e .given .1))
+    let expect-type = c .before .before .before .expect-type in
+    let if1 = c .before .before .before .before .if1 in
+    let result-type = c .before .before .before .before .before .result-type in
+    let i = c .before .before .before .before .before .before .before .i in
+    let back8 = c .before .before .before .before .before .before .before .before in
+    let find-function = back8 .before .find-function in
+    rw (← find-function .ensures, i .given .1, ← result-type .ensures, ne-eqb _ _ (if1 .left)) (same-refused _ _ _ _ _
+    (expect-type .ensures) (e .given .1))
 
 returns-4 : tie.Need-returns-4
 unfolding typeCallIntoD thenGlobal pick
 returns-4 c =
-    let find-function = c .before .before .before .before .before .before .before .before .before .before .before .before .find-function in
-    let i = c .before .before .before .before .before .before .before .before .before .before .i in
-    let result-type = c .before .before .before .before .before .before .before .before .result-type in
-    let if1 = c .before .before .before .before .before .before .before .if1 in
-    let expect-type = c .before .before .before .before .before .before .expect-type in
-    let enum-told2 = c .before .before .before .before .enum-told2 in
     let enter-result = c .before .before .enter-result in
-    rw (← find-function .ensures, i .given .1, ← result-type .ensures, ne-eqb _ _ (if1 .left)) (enter-result .ensures ∙ same-fine _ _ _ _ _ (expect-type .ensures) (enum-told2 .given .1))
+    let enum-told2 = c .before .before .before .before .enum-told2 in
+    let expect-type = c .before .before .before .before .before .before .expect-type in
+    let if1 = c .before .before .before .before .before .before .before .if1 in
+    let result-type = c .before .before .before .before .before .before .before .before .result-type in
+    let back8 = c .before .before .before .before .before .before .before .before in
+    let i = back8 .before .before .i in
+    let find-function = back8 .before .before .before .before .find-function in
+    rw (← find-function .ensures, i .given .1, ← result-type .ensures, ne-eqb _ _ (if1 .left)) (enter-result .ensures
+    ∙ same-fine _ _ _ _ _ (expect-type .ensures) (enum-told2 .given .1))
 
 pub analyze-call-into-spec : {M : Type 1} → statement M
 analyze-call-into-spec =

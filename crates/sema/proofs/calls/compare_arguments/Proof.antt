@@ -80,18 +80,22 @@ loop-less c = search needs
 loop-again : tie.Need-loop-again Inv-loop μ-loop
 unfolding typesOf sameAll
 loop-again c =
-    let a = c .before .before .before .before .before .before .before .before .before .before .before .args in
-    let loop = c .before .before .before .before .before .before .before .loop in
-    let loop-test = c .before .before .before .before .before .before .loop-test in
-    let argument-at = c .before .before .before .before .before .argument-at in
-    let get = c .before .before .before .before .get in
-    let expect-type = c .before .before .expect-type in
     let enum-told = c .enum-told in
+    let expect-type = c .before .before .expect-type in
+    let get = c .before .before .before .before .get in
+    let argument-at = c .before .before .before .before .before .argument-at in
+    let loop-test = c .before .before .before .before .before .before .loop-test in
+    let loop = c .before .before .before .before .before .before .before .loop in
+    let back8 = c .before .before .before .before .before .before .before .before in
+    let a = back8 .before .before .before .args in
     let t = now (a .table) in
     let v = ap (λ (x : Identifier). getD t (x .0) 0) (sym (argument-at .ensures)) ∙ sym (get .ensures) in
     let m = variables-more (now (a .arguments)) (loop .at) (loop .left) (loop-test .taken) in
-    let y = types-more (now (a .rows)) (loop .wanted) (loop .left) (loop-test .taken) in
-    (omega arith, omega arith, same-fine t _ _ _ _ (expect-type .ensures) (enum-told .given .1) ∙ rw (← loop .inv .2, m, y, v))
+    let y = types-more (now (a .rows)) (loop .wanted) (loop .left) (loop-test .taken) in (
+      omega arith,
+      omega arith,
+      same-fine t _ _ _ _ (expect-type .ensures) (enum-told .given .1) ∙ rw (← loop .inv .2, m, y, v),
+    )
 
 returns-2 : tie.Need-returns-2 Inv-loop μ-loop
 unfolding typesOf sameAll

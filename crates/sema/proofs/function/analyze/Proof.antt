@@ -16,10 +16,11 @@ returns c =
 returns-2 : tie.Need-returns-2
 unfolding typeFunctionD
 returns-2 c =
-    let clear = c .before .before .before .before .before .before .before .before .before .before .before .before .clear in
-    let enter-row = c .before .before .before .before .before .before .before .before .enter-row in
-    let enum-told = c .before .before .before .before .enum-told in
     let analyze-blocks = c .before .before .analyze-blocks in
+    let enum-told = c .before .before .before .before .enum-told in
+    let enter-row = c .before .before .before .before .before .before .before .before .enter-row in
+    let back8 = c .before .before .before .before .before .before .before .before in
+    let clear = back8 .before .before .before .before .clear in
     rw (← clear .ensures) (analyze-blocks .ensures ∙ typed-fine _ _ _ (enter-row .ensures) (enum-told .given .1))
 
 pub analyze-spec : {M : Type 1} → statement M

@@ -46,12 +46,14 @@ same-length c = search needs
 
 returns : tie.Need-returns Inv-loop μ-loop
 returns c =
-    let a = c .before .before .before .before .before .before .before .before .before .before .before .before .before .args in
-    let loop = c .before .before .before .before .before .before .before .before .before .before .loop in
-    let loop-test = c .before .before .before .before .before .before .before .before .before .loop-test in
-    let insert = c .before .before .before .before .before .insert in
     let e = c .before .e in
-    formals-refused (a .token) (now (a .table)) (formalsFrom (now (a .rows)) (a .first) (a .count)) (loop .table) (now (a .rows)) (loop .at)
+    let insert = c .before .before .before .before .before .insert in
+    let back8 = c .before .before .before .before .before .before .before .before in
+    let loop-test = back8 .before .loop-test in
+    let loop = back8 .before .before .loop in
+    let a = back8 .before .before .before .before .before .args in
+    formals-refused (a .token) (now (a .table)) (formalsFrom (now (a .rows)) (a .first) (a .count)) (loop .table)
+    (now (a .rows)) (loop .at)
     (loop .left) (loop .inv .2) (loop-test .taken) (insert .ensures) (e .given .1)
 
 enum-told : tie.Need-enum-told Inv-loop μ-loop
@@ -68,14 +70,16 @@ loop-less c = search needs
 
 loop-again : tie.Need-loop-again Inv-loop μ-loop
 loop-again c =
-    let a = c .before .before .before .before .before .before .before .before .before .before .before .before .args in
-    let loop = c .before .before .before .before .before .before .before .before .before .loop in
-    let loop-test = c .before .before .before .before .before .before .before .before .loop-test in
+    let enum-told = c .enum-told in
     let insert = c .before .before .before .before .insert in
-    let enum-told = c .enum-told in (
+    let loop-test = c .before .before .before .before .before .before .before .before .loop-test in
+    let back8 = c .before .before .before .before .before .before .before .before in
+    let loop = back8 .before .loop in
+    let a = back8 .before .before .before .before .args in (
       omega arith,
       insert .kept .0 ∙ loop .inv .1,
-      formals-fine (a .token) (now (a .table)) (formalsFrom (now (a .rows)) (a .first) (a .count)) (loop .table) (now (a .rows)) (loop .at)
+      formals-fine (a .token) (now (a .table)) (formalsFrom (now (a .rows)) (a .first) (a .count)) (loop .table)
+          (now (a .rows)) (loop .at)
           (loop .left) (loop .inv .2) (loop-test .taken) (insert .ensures) (enum-told .given .1),
     )
 
@@ -84,9 +88,10 @@ same-length-2 c = search needs
 
 returns-2 : tie.Need-returns-2 Inv-loop μ-loop
 returns-2 c =
-    let a = c .before .before .before .before .args in
     let loop = c .before .loop in
-    formals-ended (a .token) (now (a .table)) (formalsFrom (now (a .rows)) (a .first) (a .count)) (loop .table) (now (a .rows)) (loop .at)
+    let a = c .before .before .before .before .args in
+    formals-ended (a .token) (now (a .table)) (formalsFrom (now (a .rows)) (a .first) (a .count)) (loop .table)
+    (now (a .rows)) (loop .at)
     (loop .left) (loop .inv .2) (omega arith)
 
 pub enter-formals-spec : {M : Type 1} → statement M

@@ -29,25 +29,29 @@ returns-2 c =
 returns-3 : tie.Need-returns-3
 unfolding typeBinaryD thenLook pick
 returns-3 c =
-    let get = c .before .before .before .before .before .before .before .before .before .before .before .get in
-    let if1 = c .before .before .before .before .before .before .before .before .before .before .if1 in
-    let get2 = c .before .before .before .before .before .before .before .before .get2 in
-    let if2 = c .before .before .before .before .before .before .before .if2 in
-    let insert = c .before .before .before .before .before .insert in
     let e = c .before .e in
-    rw (← get .ensures, ne-eqb _ _ (if1 .left), ← get2 .ensures, ne-eqb _ _ (if2 .left)) (typed-refused _ _ _ (insert .ensures) (e .given .1))
+    let insert = c .before .before .before .before .before .insert in
+    let if2 = c .before .before .before .before .before .before .before .if2 in
+    let get2 = c .before .before .before .before .before .before .before .before .get2 in
+    let back8 = c .before .before .before .before .before .before .before .before in
+    let if1 = back8 .before .before .if1 in
+    let get = back8 .before .before .before .get in
+    rw (← get .ensures, ne-eqb _ _ (if1 .left), ← get2 .ensures, ne-eqb _ _ (if2 .left))
+    (typed-refused _ _ _ (insert .ensures) (e .given .1))
 
 returns-4 : tie.Need-returns-4
 unfolding typeBinaryD thenLook pick
 returns-4 c =
-    let get = c .before .before .before .before .before .before .before .before .before .before .before .get in
-    let if1 = c .before .before .before .before .before .before .before .before .before .before .if1 in
-    let get2 = c .before .before .before .before .before .before .before .before .get2 in
-    let if2 = c .before .before .before .before .before .before .before .if2 in
-    let insert = c .before .before .before .before .before .insert in
-    let enum-told = c .before .enum-told in
     let expect-operands = c .expect-operands in
-    rw (← get .ensures, ne-eqb _ _ (if1 .left), ← get2 .ensures, ne-eqb _ _ (if2 .left)) (expect-operands .ensures _ ∙ typed-fine _ _ _ (insert .ensures) (enum-told .given .1))
+    let enum-told = c .before .enum-told in
+    let insert = c .before .before .before .before .before .insert in
+    let if2 = c .before .before .before .before .before .before .before .if2 in
+    let get2 = c .before .before .before .before .before .before .before .before .get2 in
+    let back8 = c .before .before .before .before .before .before .before .before in
+    let if1 = back8 .before .before .if1 in
+    let get = back8 .before .before .before .get in
+    rw (← get .ensures, ne-eqb _ _ (if1 .left), ← get2 .ensures, ne-eqb _ _ (if2 .left)) (expect-operands .ensures _
+    ∙ typed-fine _ _ _ (insert .ensures) (enum-told .given .1))
 
 pub analyze-bin-op-spec : {M : Type 1} → statement M
 analyze-bin-op-spec =

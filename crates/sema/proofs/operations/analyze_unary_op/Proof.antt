@@ -28,12 +28,13 @@ returns-2 c =
 returns-3 : tie.Need-returns-3
 unfolding typeUnaryD thenLook pick
 returns-3 c =
-    let get = c .before .before .before .before .before .before .before .before .get in
-    let if1 = c .before .before .before .before .before .before .before .if1 in
-    let insert = c .before .before .before .before .before .insert in
-    let enum-told = c .before .enum-told in
     let expect-operand = c .expect-operand in
-    rw (← get .ensures, ne-eqb _ _ (if1 .left)) (expect-operand .ensures _ ∙ typed-fine _ _ _ (insert .ensures) (enum-told .given .1))
+    let enum-told = c .before .enum-told in
+    let insert = c .before .before .before .before .before .insert in
+    let if1 = c .before .before .before .before .before .before .before .if1 in
+    let get = c .before .before .before .before .before .before .before .before .get in
+    rw (← get .ensures, ne-eqb _ _ (if1 .left)) (expect-operand .ensures _ ∙ typed-fine _ _ _ (insert .ensures)
+    (enum-told .given .1))
 
 pub analyze-unary-op-spec : {M : Type 1} → statement M
 analyze-unary-op-spec =

@@ -25,11 +25,12 @@ returns-2 c =
 returns-3 : tie.Need-returns-3
 unfolding operandD pick
 returns-3 c =
-    let if1 = c .before .before .before .before .if1 in
-    let expect-type2 = c .before .before .before .expect-type2 in
-    let enum-told = c .before .enum-told in
     let expect-type3 = c .expect-type3 in
-    λ t. rw (ne-eqb _ _ (if1 .left)) (expect-type3 .ensures t ∙ same-fine t _ _ _ _ (expect-type2 .ensures) (enum-told .given .1))
+    let enum-told = c .before .enum-told in
+    let expect-type2 = c .before .before .before .expect-type2 in
+    let if1 = c .before .before .before .before .if1 in
+    λ t. rw (ne-eqb _ _ (if1 .left)) (expect-type3 .ensures t ∙ same-fine t _ _ _ _ (expect-type2 .ensures)
+    (enum-told .given .1))
 
 pub expect-operand-spec : {M : Type 1} → statement M
 expect-operand-spec =

@@ -17,21 +17,23 @@ returns c =
 returns-2 : tie.Need-returns-2
 unfolding operandsD pick
 returns-2 c =
-    let if1 = c .before .before .before .before .before .if1 in
-    let if2 = c .before .before .before .before .if2 in
-    let expect-type = c .before .before .before .expect-type in
     let e = c .before .e in
-    λ t. rw (lt-leb _ _ (if1 .left), eq-eqb _ _ (if2 .taken)) (same-refused t _ _ _ _ (expect-type .ensures) (e .given .1))
+    let expect-type = c .before .before .before .expect-type in
+    let if2 = c .before .before .before .before .if2 in
+    let if1 = c .before .before .before .before .before .if1 in
+    λ t. rw (lt-leb _ _ (if1 .left), eq-eqb _ _ (if2 .taken)) (same-refused t _ _ _ _ (expect-type .ensures)
+    (e .given .1))
 
 returns-3 : tie.Need-returns-3
 unfolding operandsD pick
 returns-3 c =
-    let if1 = c .before .before .before .before .before .if1 in
-    let if2 = c .before .before .before .before .if2 in
-    let expect-type = c .before .before .before .expect-type in
-    let enum-told = c .before .enum-told in
     let expect-type2 = c .expect-type2 in
-    λ t. rw (lt-leb _ _ (if1 .left), eq-eqb _ _ (if2 .taken)) (expect-type2 .ensures t ∙ same-fine t _ _ _ _ (expect-type .ensures) (enum-told .given .1))
+    let enum-told = c .before .enum-told in
+    let expect-type = c .before .before .before .expect-type in
+    let if2 = c .before .before .before .before .if2 in
+    let if1 = c .before .before .before .before .before .if1 in
+    λ t. rw (lt-leb _ _ (if1 .left), eq-eqb _ _ (if2 .taken)) (expect-type2 .ensures t ∙ same-fine t _ _ _ _
+    (expect-type .ensures) (enum-told .given .1))
 
 returns-4 : tie.Need-returns-4
 unfolding operandsD pick
