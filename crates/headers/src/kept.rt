@@ -65,7 +65,7 @@ fn keeps_behind<'t, 'c>(
         name at ⌝ }
 {
     bring::copy_row(local, 0, rows, i);
-    match header::parse_optional_formals(tokens, at, local, columns::FORMALS + columns::ROW) {
+    match header::parse_optional_formals(tokens, at, local, columns::SECOND_FORMALS) {
         Run::Refused(_) => true,
         Run::Done(formals, at1) => match header::parse_optional_type(tokens, at1) {
             TypeRead::Refused(_) => true,
