@@ -1,3 +1,5 @@
+-- With their sizes the slices pass `read`'s gate (`sized-read`) and keep their lengths, so what is padded to them is
+-- padded to those at entry (`as-at-entry`). A text that isn't read leaves no tokens and no names (`not-lexed`).
 use Rattle.checker.proofs.Ends.{sized-read, is-lexed, as-at-entry, not-lexed}
 use Rattle.functions.specs.Answer.{slices}
 use native.Mathlib.Omega.{arith}

@@ -1,3 +1,5 @@
+-- The items are only read, so each record is the one at entry; typing the calls that are left in the arguments as they
+-- are gives what typing all of them gives (`calls-more`).
 use Rattle.elaborate.proofs.Turns.{calls-more, calls-none}
 use Rattle.elaborate.specs.Types.{typedCalls}
 use borrow.Author.Needs.{needs}

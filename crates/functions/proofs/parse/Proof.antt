@@ -1,3 +1,5 @@
+-- `Going` is kept: the functions left to read, stored behind those that are there, give the whole program (`read-on`).
+-- Each turn fills one of 64 rows, so the loop ends; a 65th function is refused by its header.
 use Rattle.functions.proofs.Program.{Going, begin, at-end, refused-read, read-on}
 use Rattle.functions.specs.Answer.{slices}
 use Rattle.lexer.specs.Decoded.{tokensOf}

@@ -1,3 +1,5 @@
+-- Header, then body, then row, as in `functionD`. The header has stored its formals already, so thirteen cells before
+-- them make the row whole (`held-whole`); the tokens that were read bound every count (`row-fits`, `counts-fit`).
 use Rattle.functions.proofs.Taken.{header-refused, inner-room, inner-behind, body-refused, row-fits, counts-fit, answered, held-whole}
 use Rattle.lexer.specs.Decoded.{tokensOf}
 use native.Mathlib.Omega.{arith}

@@ -1,3 +1,5 @@
+-- The records that parsing stored are read back as the shapes of the closed items, and their labels stand in front:
+-- that is what linking asks (`ready`), so its blocks and edges are those of `builtD` (`answered`, `is-held`).
 use Rattle.functions.proofs.Whole.{body-refused, ready, link-refused, answered, is-held}
 use Rattle.link.specs.Cells.{LinkHeld}
 use Rattle.lexer.specs.Decoded.{tokensOf}

@@ -1,3 +1,5 @@
+-- The name is read before 35 is given, and the signature only where the table has a row left, as in `headerD`; a
+-- refusal promises nothing of the rows.
 use Rattle.functions.specs.Functions.{headerD}
 use Rattle.parser.specs.Step.{opened}
 use borrow.Author.Tests.{le-leb, lt-leb}

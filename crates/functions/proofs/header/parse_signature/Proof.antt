@@ -1,3 +1,5 @@
+-- The formals are stored behind the rows so far, which that leaves alone, and are read back as the types that were
+-- parsed: so the rows enter the name as the headers so far do (`entered-same`). There are at most 16 (`formals-few`).
 use Rattle.functions.proofs.Heads.{formals-few, entered-same}
 use Rattle.functions.specs.Functions.{optionalFormals, signatureD, thenFormals, thenEntered}
 use Rattle.parser.proofs.Turning.{run-done, run-refused}

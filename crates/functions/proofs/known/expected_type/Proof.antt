@@ -1,3 +1,5 @@
+-- No row before i has the name, so the rows from i on give the type that all of them give (`known-more`); with none
+-- left (`known-none`) the name is new and the given type is kept.
 use native.Mathlib.Nat.{sub-zero}
 use Rattle.functions.proofs.Turns.{known-more, known-none}
 use Rattle.functions.specs.Rows.{knownFrom}

@@ -1,3 +1,5 @@
+-- The first k types are equal, so the rest of both runs compares as the whole does (`types-more`); i and j stand 2k
+-- cells behind their first formals.
 use native.Mathlib.Nat.{sub-zero}
 use Rattle.functions.proofs.Turns.{types-more, types-none}
 use Rattle.functions.specs.Rows.{typesAt}

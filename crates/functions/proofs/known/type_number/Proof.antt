@@ -1,3 +1,5 @@
+-- No row before i has this function type, so the rows from i on give the number that all of them give (`known-more`);
+-- with none left (`known-none`) the type is new, and its number is the count so far.
 use native.Mathlib.Nat.{sub-zero}
 use Rattle.functions.proofs.Turns.{known-more, known-none}
 use Rattle.functions.specs.Rows.{knownFrom, typesAt}
