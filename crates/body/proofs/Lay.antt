@@ -32,7 +32,7 @@ length-arguments-cells [] = refl
 length-arguments-cells (i ∷ is) =
     rw length-append (omega (arith, length-variables-cells (argumentsIn i), length-arguments-cells is))
 
--- One run of items behind another. --------------------------------------------------------------------------------------
+-- One run of items behind another. ------------------------------------------------------------------------------------
 
 pub arguments-count-append : (is js : List Item) → argumentsCount (is ++ js) ≡ argumentsCount is + argumentsCount js
 unfolding argumentsCount
@@ -58,7 +58,7 @@ pub items-cells-snoc : (used : ℕ) (is : List Item) (i : Item)
 unfolding itemsCells
 items-cells-snoc used is i = items-cells-append used is (i ∷ [])
 
--- An added `ret`. -------------------------------------------------------------------------------------------------------
+-- An added `ret`. -----------------------------------------------------------------------------------------------------
 
 -- it has no arguments, so that it changes neither their cells nor their count
 added-cells : (lacks : Bool) (last : ℕ) (is : List Item) → argumentsCells (pick lacks (ret last ∷ is) is) ≡ argumentsCells is

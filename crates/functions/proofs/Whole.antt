@@ -1,5 +1,5 @@
--- From a body read and its blocks linked to the whole: what was read is what the definition gives, it stands in the slices,
--- and there is room to go on.
+-- From a body read and its blocks linked to the whole: what was read is what the definition gives, it stands in the
+-- slices, and there is room to go on.
 use Prim.Native.Nat.{ℕ, _+_, _*_, _≤_}
 use mathlib.Core.Path.{_≡_, refl, ap, subst, _∙_}
 use mathlib.Core.Bool.{Bool, true}

@@ -1,3 +1,5 @@
--- What the message form says, in reading order: bytes and padded buffers, then the form itself.
+-- What the message form says, in reading order.
+-- bytes, choices and padded buffers
 pub mod Bytes
+-- the form itself
 pub mod Message

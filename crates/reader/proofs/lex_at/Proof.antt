@@ -1,5 +1,8 @@
--- `reader::lex_at` meets its contract: a walk of its MIR, by hand. The reader that `new` returns is held in a local and passed to `next`, and of what that returns the piece is handed back. All that the proof knows of `new` and of `next` is that each meets its contract.
--- In a local of a body MIR erases the lifetime of a struct's type, so the values are shown to have the types at `erased`: what a struct owns does not say the lifetime's name.
+-- `reader::lex_at` meets its contract: a walk of its MIR, by hand. The reader that `new` returns is held in a local and
+-- passed to `next`, and of what that returns the piece is handed back. All that the proof knows of `new` and of `next`
+-- is that each meets its contract.
+-- In a local of a body MIR erases the lifetime of a struct's type, so the values are shown to have the types at
+-- `erased`: what a struct owns does not say the lifetime's name.
 -- Assumes nothing.
 use mathlib.Core.Path.{_≡_, refl, ap}
 use Prim.Native.Nat.{ℕ, _<_, _^_}
@@ -175,7 +178,8 @@ module _ {M : Type 1} (𝓤 : URA M) (H : Heap 𝓤) (A : Atoms 𝓤) (W : Given
         calls-at ! fm (New 𝓤 H A mem run) known-new to-new (and-then ! (load ! (from ! (stop !)) (look ! 10 refl)) (and-then ! (load ! (from ! (stop !)) (look ! 8 refl)) (and-then ! (load ! (from ! (stop !)) (look ! 6 refl)) (no-more !)))) (λ u.
         use1 W (later (some (λ (r : Lexer). ((‵ (flft κ q) ⊛ ‵ ftrue) ⊛ ‵ (B (κ, tt) .own r (u ∷ []))) ⊛ raw (ensured 𝓤 H A new.ended (new.clauses 𝓤 H A mem run) (κ, tt) (s, (n, (m, tt))) tt r)))) (id⊢ 𝓤 _) $ await ! tt $ pick ! (λ r.
         split ! $ move ! (1 ∷ []) $ use1 W (raw (fact 𝓤 (r ≡ made))) (new-said r) $ heard ! (r ≡ made) (λ e. split ! $ rewrite ! 1 (λ (x : Lexer). ‵ (B (κ, tt) .own x (u ∷ []))) e refl $ move ! (1 ∷ []) $
-        -- [what the reader owns; the token; what the parameters own; room for _5; …; room for _4; …; _3; …; _2; …; _1; …; room for _0; …]
+        -- [what the reader owns; the token; what the parameters own; room for _5; …; room for _4; …; _3; …;
+        -- _2; …; _1; …; room for _0; …]
         peeks ! (B (κ, tt)) (Is (B (κ, tt))) (shows 𝓤 H A (B (κ, tt))) made (u ∷ []) (λ is.
         land ! (from ! (stop !)) (init ! 3 refl (LL.lawful (T.the-type αᵉ) (T′.the-laws αᵉ) 𝓤 H A W .typed made _ is .0)) $
         -- `next`

@@ -1,5 +1,7 @@
--- `Lexer::new` meets its contract: a walk of its MIR, by hand. A `Lexer` is made of the slice and the numbers passed, in the result's local.
--- A `&[u8]` is Copy, so what it owns is had twice: once for source at exit, and once inside the result, beside the facts of place and line.
+-- `Lexer::new` meets its contract: a walk of its MIR, by hand. A `Lexer` is made of the slice and the numbers passed,
+-- in the result's local.
+-- A `&[u8]` is Copy, so what it owns is had twice: once for source at exit, and once inside the result, beside the
+-- facts of place and line.
 -- Assumes nothing.
 use mathlib.Core.Path.{refl}
 use Prim.Native.Nat.{ℕ, _<_, _^_}

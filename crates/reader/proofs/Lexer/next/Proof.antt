@@ -1,5 +1,7 @@
--- `Lexer::next` meets its contract: a walk of its MIR, by hand. The struct is taken apart, `step_at` is called on the slice and the numbers, and of what it answers, with the slice, the result is made.
--- The struct is Copy: what it owns is had twice. One copy is kept whole for the exit; of the other, what source owns goes to the callee, and into the result beside what the callee's answer owns.
+-- `Lexer::next` meets its contract: a walk of its MIR, by hand. The struct is taken apart, `step_at` is called on the
+-- slice and the numbers, and of what it answers, with the slice, the result is made.
+-- The struct is Copy: what it owns is had twice. One copy is kept whole for the exit; of the other, what source owns
+-- goes to the callee, and into the result beside what the callee's answer owns.
 -- Assumes nothing.
 use mathlib.Core.Path.{_≡_, refl, ap, subst}
 use Prim.Native.Nat.{_<_, _^_}
@@ -179,7 +181,8 @@ module _ {M : Type 1} (𝓤 : URA M) (H : Heap 𝓤) (A : Atoms 𝓤) (W : Given
         calls-at ! fm (StepAt 𝓤 H A mem run) known to (and-then ! (load ! (from ! (stop !)) (look ! 8 refl)) (and-then ! (load ! (from ! (stop !)) (look ! 6 refl)) (and-then ! (load ! (from ! (stop !)) (look ! 4 refl)) (no-more !)))) (λ u.
         use1 W (later (some (λ (r : Stepped). ((‵ (flft κ q) ⊛ ‵ ftrue) ⊛ ‵ (S.the-row .own r (u ∷ []))) ⊛ raw (ensured 𝓤 H A step.ended (step.clauses 𝓤 H A mem run) (κ, tt) (d .source, (d .place, (d .line, tt))) tt r)))) (id⊢ 𝓤 _) $ await ! tt $ pick ! (λ r.
         split ! $ move ! (1 ∷ []) $ use1 W (raw (fact 𝓤 (r ≡ found))) (said r) $ heard ! (r ≡ found) (λ e. split ! $ move ! (1 ∷ []) $
-        -- [the answer; the token; what the struct owns; _6; …; _5; …; _4; …; _3; …; room for _2; …; _1; …; room for _0; …]
+        -- [the answer; the token; what the struct owns; _6; …; _5; …; _4; …; _3; …;
+        -- room for _2; …; _1; …; room for _0; …]
         peeks ! S.the-row (Is S.the-row) (shows 𝓤 H A S.the-row) r (u ∷ []) (λ is.
         use1 W (given (u ∷ [] ≡ vstruct (spelled (DS .parts) LS (vs r)) ∷ []) (‵ (all-own (DS .parts) LS (vs r)))) (own-open 𝓤 H A W DS LS (vs r) u) $ learn ! (λ eu.
         land ! (from ! (stop !)) (init ! 11 refl (LL.lawful DS LS 𝓤 H A W .typed r _ is .0)) $

@@ -1,5 +1,5 @@
--- The cells that are left of the row, by the steps that are left, give what all of them give. The cells up to the row's end
--- are as they were.
+-- The cells that are left of the row, by the steps that are left, give what all of them give. The cells up to the row's
+-- end are as they were.
 use borrow.Author.Needs.{needs}
 use native.Mathlib.Omega.{arith}
 use Prim.Native.Nat.{_+_, _≤_}
