@@ -9,9 +9,11 @@ ghost use Rattle.body.specs.Room.{Within};
 ghost use Rattle.body.specs.Turns.{itemRead, ItemHeld, callRecord, callRead, CallHeld};
 use crate::ItemRead;
 use crate::Last;
+use crate::kinds;
 use crate::records;
 use parser::Called;
 use parser::Parsed;
+use parser::VARIABLE_CELLS;
 use parser::runs;
 use pieces::Identifier;
 
@@ -35,7 +37,7 @@ fn parse_call_item(
         (now (items .entry)) (now (items .exit)) (now (arguments .entry)) (now (arguments .exit))
         (callD (tokensOf (now (tokens .entry))) word .arguments .end) ⌝ }
 {
-    match runs::parse_call(tokens, word, arguments, used * 2) {
+    match runs::parse_call(tokens, word, arguments, used * VARIABLE_CELLS) {
         Called::Refused(e) => ItemRead::Refused(e),
         Called::Done(callee, count, next) => {
             let run = Last::Run(used as u32, count as u32);
@@ -69,13 +71,33 @@ pub(crate) fn parse_item(
             ItemRead::Done(r, used, next)
         }
         Parsed::Call(word) => {
-            parse_call_item(tokens, word, 5, Identifier(0), 0, items, n, arguments, used)
+            parse_call_item(
+                tokens,
+                word,
+                kinds::CALL,
+                Identifier(0),
+                0,
+                items,
+                n,
+                arguments,
+                used,
+            )
         }
         Parsed::CallInto(v, word) => {
             let ty = v.ty;
             let dest = v.id;
             let dty = runs::type_cell(ty);
-            parse_call_item(tokens, word, 6, dest, dty, items, n, arguments, used)
+            parse_call_item(
+                tokens,
+                word,
+                kinds::CALL_INTO,
+                dest,
+                dty,
+                items,
+                n,
+                arguments,
+                used,
+            )
         }
     }
 }

@@ -1,5 +1,6 @@
 // A function's body: parse_function_body of bril-lib/src/parser.rs. Its items go to their records as they are read.
 mod item;
+pub mod kinds;
 pub mod records;
 mod turns;
 
@@ -11,6 +12,9 @@ ghost use Rattle.body.specs.Room.{Within};
 ghost use Rattle.body.specs.Answer.{functionBody, bodyRead, Held};
 use parser::Refusal;
 use pieces::Identifier;
+
+// Cells of an item's record.
+pub const ITEM_CELLS: usize = 8;
 
 // What an item's last two cells hold, by its kind.
 pub enum Last {
@@ -53,7 +57,7 @@ pub enum ItemRead {
 }
 
 // The loop's state: the next token, the next free item and argument, how many labels there are, what stands before
-// (0 the body's brace, 1 a label, 2 an operation, 3 a terminator), and the last operation's token.
+// (as turns.rt numbers it), and the last operation's token.
 pub struct Going {
     pub at: usize,
     pub items: usize,
@@ -95,7 +99,7 @@ pub fn parse_body(
         items: first,
         arguments: used,
         labels: 0,
-        before: 0,
+        before: turns::BRACE,
         last: 0,
     };
     loop {

@@ -9,8 +9,10 @@ ghost use Rattle.body.specs.Body.{operationToken};
 ghost use Rattle.body.specs.Records.{firstCell, secondCell, lastOf, itemRecord, operationRecord, recordCells};
 ghost use Rattle.body.specs.Records.{recordAt};
 ghost use Rattle.body.specs.declared.Last.the-variants as L;
+use crate::ITEM_CELLS;
 use crate::ItemRecord;
 use crate::Last;
+use crate::kinds;
 use parser::Operation;
 use parser::Variable;
 use parser::runs::type_cell;
@@ -43,7 +45,7 @@ fn put_cells(items: &mut [u32], n: usize, r: ItemRecord, first: u32, second: u32
     ensures { λ _. ⌜ now (items .exit) ≡ sets (now (items .entry)) (n * 8)
         (r .kind ∷ r .token ∷ r .dest .0 ∷ r .dty ∷ r .left .0 ∷ r .lty ∷ first ∷ second ∷ []) ⌝ }
 {
-    let at = n * 8;
+    let at = n * ITEM_CELLS;
     let a1 = at + 1;
     let a2 = at + 2;
     let a3 = at + 3;
@@ -75,9 +77,9 @@ fn last_of(kind: u32, first: u32, second: u32) -> Last
     ensures { λ r. ⌜ r ≡ lastOf kind first second ⌝ }
 {
     match kind {
-        5 => Last::Run(first, second),
-        6 => Last::Run(first, second),
-        10 => Last::Labels(Identifier(first), Identifier(second)),
+        kinds::CALL => Last::Run(first, second),
+        kinds::CALL_INTO => Last::Run(first, second),
+        kinds::BRANCH => Last::Labels(Identifier(first), Identifier(second)),
         _ => Last::Name(Identifier(first), second),
     }
 }
@@ -87,7 +89,7 @@ pub fn record_at(items: &[u32], i: usize) -> ItemRecord
     requires { ⌜ i < 2305843009213693952 ⌝ }
     ensures { λ r. ⌜ r ≡ recordAt (now (items .entry)) i ⌝ }
 {
-    let at = i * 8;
+    let at = i * ITEM_CELLS;
     let kind = cell_at(items, at);
     let token = cell_at(items, at + 1);
     let dest = cell_at(items, at + 2);
@@ -151,14 +153,28 @@ pub(crate) fn operation_record(o: Operation) -> ItemRecord
 {
     let none = Identifier(0);
     match o {
-        Operation::BinaryOp(w, v, x, y) => valued_record(2, w, v, x, y),
-        Operation::UnaryOp(w, v, x) => valued_record(3, w, v, x, none),
-        Operation::Const(w, v) => valued_record(4, w, v, none, none),
-        Operation::Print(w, x) => record_of(7, w, none, 0, x, Last::Name(none, 0)),
-        Operation::Nop(w) => record_of(8, w, none, 0, none, Last::Name(none, 0)),
-        Operation::Jump(w, l) => record_of(9, w, none, 0, none, Last::Name(l, 0)),
-        Operation::Branch(w, x, l, m) => record_of(10, w, none, 0, x, Last::Labels(l, m)),
-        Operation::Ret(w) => record_of(11, w, none, 0, none, Last::Name(none, 0)),
-        Operation::RetValue(w, x) => record_of(12, w, none, 0, x, Last::Name(none, 0)),
+        Operation::BinaryOp(w, v, x, y) => valued_record(kinds::BINARY, w, v, x, y),
+        Operation::UnaryOp(w, v, x) => valued_record(kinds::UNARY, w, v, x, none),
+        Operation::Const(w, v) => valued_record(kinds::CONST, w, v, none, none),
+        Operation::Print(w, x) => record_of(kinds::PRINT, w, none, 0, x, Last::Name(none, 0)),
+        Operation::Nop(w) => record_of(kinds::NOP, w, none, 0, none, Last::Name(none, 0)),
+        Operation::Jump(w, l) => record_of(kinds::JUMP, w, none, 0, none, Last::Name(l, 0)),
+        Operation::Branch(w, x, l, m) => record_of(
+            kinds::BRANCH,
+            w,
+            none,
+            0,
+            x,
+            Last::Labels(l, m),
+        ),
+        Operation::Ret(w) => record_of(kinds::RET, w, none, 0, none, Last::Name(none, 0)),
+        Operation::RetValue(w, x) => record_of(
+            kinds::RET_VALUE,
+            w,
+            none,
+            0,
+            x,
+            Last::Name(none, 0),
+        ),
     }
 }

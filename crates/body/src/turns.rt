@@ -14,19 +14,30 @@ use crate::ItemRecord;
 use crate::Last;
 use crate::Turn;
 use crate::item;
+use crate::kinds;
 use crate::records;
 use parser::Named;
 use parser::Refusal;
 use pieces::Identifier;
+use utils::numbers;
+
+// What stands before an item: the body's brace, a label, an operation, a terminator.
+pub(crate) const BRACE: u32 = 0;
+
+const LABEL: u32 = 1;
+
+const OPERATION: u32 = 2;
+
+const TERMINATOR: u32 = 3;
 
 // Right behind a label an operation has to stand.
 fn closes_body(before: u32, kind: u32) -> bool
     ensures { λ r. ⌜ r ≡ closes before kind ⌝ }
 {
-    if before == 1 {
+    if before == LABEL {
         return false;
     }
-    kind == 28
+    kind == pieces::kinds::RIGHT_BRACE
 }
 
 // A void function's block gets a `ret` where it has no terminator.
@@ -34,7 +45,7 @@ fn lacks_ret(void: bool, before: u32) -> bool
     ensures { λ r. ⌜ r ≡ lacksRet void before ⌝ }
 {
     if void {
-        return before == 2;
+        return before == OPERATION;
     }
     false
 }
@@ -42,10 +53,10 @@ fn lacks_ret(void: bool, before: u32) -> bool
 fn behind_kind(kind: u32) -> u32
     ensures { λ r. ⌜ r ≡ behindKind kind ⌝ }
 {
-    if 9 <= kind {
-        return 3;
+    if kinds::JUMP <= kind {
+        return TERMINATOR;
     }
-    2
+    OPERATION
 }
 
 // The next free item behind the `ret` that is lacking, or where none is.
@@ -56,7 +67,7 @@ fn add_ret(items: &mut [u32], n: usize, lacks: bool, last: u32) -> usize
 {
     if lacks {
         let r = ItemRecord {
-            kind: 11,
+            kind: kinds::RET,
             token: last,
             dest: Identifier(0),
             dty: 0,
@@ -76,7 +87,7 @@ fn refuse(read: ItemRead) -> Refusal
 {
     match read {
         ItemRead::Refused(e) => e,
-        ItemRead::Done(r, _, _) => parser::refuse(12, r.token as usize),
+        ItemRead::Done(r, _, _) => parser::refuse(numbers::NO_LABEL_FIRST, r.token as usize),
     }
 }
 
@@ -89,7 +100,7 @@ fn item_turn(tokens: &[u32], s: Going, items: &mut [u32], arguments: &mut [u32])
     let n = s.items;
     let used = s.arguments;
     let read = item::parse_item(tokens, at, items, n, arguments, used);
-    if s.before == 3 {
+    if s.before == TERMINATOR {
         return Turn::Refused(refuse(read));
     }
     match read {
@@ -118,7 +129,7 @@ fn label_turn(tokens: &[u32], void: bool, s: Going, items: &mut [u32], labels: &
         Named::At(label, next) => {
             let n = add_ret(items, s.items, lacks_ret(void, s.before), s.last);
             let r = records::record_of(
-                1,
+                kinds::LABEL,
                 at,
                 Identifier(0),
                 0,
@@ -132,7 +143,7 @@ fn label_turn(tokens: &[u32], void: bool, s: Going, items: &mut [u32], labels: &
                 items: n + 1,
                 arguments: s.arguments,
                 labels: count + 1,
-                before: 1,
+                before: LABEL,
                 last: s.last,
             })
         }
@@ -163,7 +174,7 @@ pub(crate) fn turn(
             labels: s.labels,
         });
     }
-    if t.kind == 3 {
+    if t.kind == pieces::kinds::LABEL {
         return label_turn(tokens, void, s, items, labels);
     }
     item_turn(tokens, s, items, arguments)

@@ -10,9 +10,15 @@ ghost use Rattle.checker.specs.Promise.{checking, padded, Lexed, Refuses
 ghost use Rattle.checker.specs.Promise.{sized, sizedUnit, IfSized, IfSizedUnit, Checks};
 use functions::Counts;
 use functions::ProgramRead;
+use functions::columns;
+use functions::sizes;
 use lexer::ReadAnswer;
+use lexer::sizes::NAME_CELLS;
+use lexer::sizes::TOKEN_CELLS;
 use parser::Refusal;
 use pieces::Location;
+use utils::limits;
+use utils::numbers;
 
 // What `check` answers: document 01's number, line and place, and how many records each slice has.
 #[repr(C)]
@@ -54,7 +60,7 @@ pub fn counted(tokens: u32, names: u32, n: Counts) -> CheckAnswer
     ensures { λ r. ⌜ r ≡ accepted tokens names n ⌝ }
 {
     CheckAnswer {
-        number: 0,
+        number: numbers::ACCEPTED,
         line: 0,
         place: 0,
         tokens,
@@ -83,8 +89,8 @@ pub fn refuse(
         (now (message .entry)) (now (tokens .entry)) (now (names .entry))
         res (now (message .exit)) (now (tokens .exit)) (now (names .exit)) ⌝ }
 {
-    let last = r.tokens as usize * 4;
-    let end = r.names as usize * 2;
+    let last = r.tokens as usize * TOKEN_CELLS;
+    let end = r.names as usize * NAME_CELLS;
     messages::put_message(text, &tokens[0..last], &names[0..end], e, message);
     let t = lexer::token_at(&tokens[0..last], e.token);
     utils::clear(tokens);
@@ -116,8 +122,8 @@ fn check_lexed(
         (slices (now (functions .entry)) (now (items .entry)) (now (arguments .entry)) (now (blocks .entry))
         (now (predecessors .entry))) (checkOf (now (text .entry))) ⌝ }
 {
-    let last = r.tokens as usize * 4;
-    let end = r.names as usize * 2;
+    let last = r.tokens as usize * TOKEN_CELLS;
+    let end = r.names as usize * NAME_CELLS;
     match unit::unit(
         &tokens[0..last],
         &names[0..end],
@@ -154,7 +160,7 @@ fn check_sized(
         (now (predecessors .entry))) (checkOf (now (text .entry))) ⌝ }
 {
     let r = lexer::read(text, tokens, names, message);
-    if r.number == 0 {
+    if r.number == numbers::ACCEPTED {
         return check_lexed(
             text,
             r,
@@ -176,19 +182,19 @@ fn check_sized(
 pub fn fits_unit(f: usize, i: usize, a: usize, b: usize, p: usize) -> bool
     ensures { λ r. ⌜ (r ≡ sizedUnit f i a b p) × (IfSizedUnit r f i a b p) ⌝ }
 {
-    if f < 2881 {
+    if f < columns::TABLE {
         return false;
     }
-    if i < 24576 {
+    if i < sizes::ITEMS {
         return false;
     }
-    if a < 6928 {
+    if a < sizes::ARGUMENTS {
         return false;
     }
-    if b < 8192 {
+    if b < sizes::BLOCKS {
         return false;
     }
-    if p < 2048 {
+    if p < sizes::PREDECESSORS {
         return false;
     }
     true
@@ -198,13 +204,13 @@ pub fn fits_unit(f: usize, i: usize, a: usize, b: usize, p: usize) -> bool
 pub fn fits(m: usize, t: usize, n: usize, unit: bool) -> bool
     ensures { λ r. ⌜ (r ≡ sized m t n unit) × (IfSized r unit m t n) ⌝ }
 {
-    if t < 16384 {
+    if t < lexer::sizes::TOKENS {
         return false;
     }
-    if n < 2048 {
+    if n < lexer::sizes::NAMES {
         return false;
     }
-    if m < 512 {
+    if m < limits::MESSAGE {
         return false;
     }
     unit
@@ -249,5 +255,5 @@ pub fn check(
             message,
         );
     }
-    refused(30, Location(0), 0)
+    refused(numbers::SHORT_BUFFER, Location(0), 0)
 }

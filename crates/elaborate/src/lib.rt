@@ -8,8 +8,11 @@ ghost use Rattle.elaborate.specs.Types.{calleeOf, isCall, typedLast, typ
 ghost use Rattle.elaborate.specs.Types.{typedItems, typedCalls, Elaborated};
 use body::ItemRecord;
 use body::Last;
+use body::kinds;
 use body::records;
 use functions::columns;
+use parser::VARIABLE_CELLS;
+use parser::types;
 use pieces::Identifier;
 use utils::cell_at;
 
@@ -21,7 +24,7 @@ fn callee_type(rows: &[u32], n: usize, name: Identifier) -> u32
     let mut i: usize = 0;
     while i < n {
         if rows[columns::NAME + i * columns::ROW] == name.0 {
-            return rows[columns::TYPE + i * columns::ROW] + 4;
+            return rows[columns::TYPE + i * columns::ROW] + types::FUNCTION;
         }
         i += 1;
     }
@@ -31,10 +34,10 @@ fn callee_type(rows: &[u32], n: usize, name: Identifier) -> u32
 fn is_call(kind: u32) -> bool
     ensures { λ r. ⌜ r ≡ isCall kind ⌝ }
 {
-    if kind == 5 {
+    if kind == kinds::CALL {
         return true;
     }
-    kind == 6
+    kind == kinds::CALL_INTO
 }
 
 // An item with another type of its left operand, and other last cells.
@@ -73,11 +76,11 @@ fn typed_record(r: ItemRecord, table: &[u32], rows: &[u32], n: usize) -> ItemRec
     let kind = r.kind;
     let left = r.left;
     let last = r.last;
-    if kind == 2 {
+    if kind == kinds::BINARY {
         let lty = cell_at(table, left.0 as usize);
         return with_types(r, lty, typed_last(table, last));
     }
-    if kind == 3 {
+    if kind == kinds::UNARY {
         return with_types(r, cell_at(table, left.0 as usize), last);
     }
     if is_call(kind) {
@@ -93,7 +96,7 @@ fn type_run(table: &[u32], arguments: &mut [u32], first: u32, count: u32)
     let mut at = first as usize;
     let mut left = count;
     while 0 < left {
-        let i = at * 2;
+        let i = at * VARIABLE_CELLS;
         let ty = cell_at(table, cell_at(arguments, i) as usize);
         put_cell(arguments, i + 1, ty);
         at += 1;

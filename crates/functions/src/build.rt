@@ -10,6 +10,7 @@ use crate::Building;
 use crate::Counts;
 use body::BodyRead;
 use link::Linked;
+use utils::limits;
 
 // With an array for the function's labels.
 fn build_with(
@@ -90,7 +91,7 @@ pub fn build(
         (now (predecessors .entry)) (now (predecessors .exit))
         (builtD (tokensOf (now (tokens .entry))) void name at) ⌝ }
 {
-    let mut labels = [0u32; 255];
+    let mut labels = [0u32; limits::LABELS];
     build_with(
         tokens,
         at,

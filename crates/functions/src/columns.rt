@@ -1,7 +1,10 @@
 // The header table (docs/INTERFACE.md): its cells, those of a row, and where a row's cells stand for row 0.
-pub const TABLE: usize = 2881;
+use parser::VARIABLE_CELLS;
+use utils::limits;
 
-pub const ROW: usize = 45;
+pub const TABLE: usize = 1 + limits::FUNCTIONS * ROW;
+
+pub const ROW: usize = FORMALS - TOKEN + limits::FORMALS * VARIABLE_CELLS;
 
 // The name's token, the name, the closing token.
 pub const TOKEN: usize = 1;
@@ -36,7 +39,7 @@ pub const COUNT: usize = 13;
 
 pub const FORMALS: usize = 14;
 
-pub const FORMAL_TYPE: usize = 15;
+pub const FORMAL_TYPE: usize = FORMALS + 1;
 
 // Where row 1 has its formals.
 pub const SECOND_FORMALS: usize = FORMALS + ROW;

@@ -22,7 +22,11 @@ use parser::Refusal;
 use parser::Run;
 use parser::Ty;
 use parser::TypeRead;
+use parser::types;
 use pieces::Identifier;
+use pieces::kinds;
+use utils::limits;
+use utils::numbers;
 
 // Formals in parentheses, or none.
 pub fn parse_optional_formals(tokens: &[u32], at: usize, rows: &mut [u32], used: usize) -> Run
@@ -32,7 +36,7 @@ pub fn parse_optional_formals(tokens: &[u32], at: usize, rows: &mut [u32], used:
         (variablesCells (optionalFormals (tokensOf (now (tokens .entry))) at .list)) ⌝ }
 {
     let t = lexer::token_at(tokens, at);
-    if t.kind == 25 {
+    if t.kind == kinds::LEFT_PAREN {
         return parser::runs::parse_formals(tokens, t.next, rows, used);
     }
     Run::Done(0, at)
@@ -43,7 +47,7 @@ pub fn parse_optional_type(tokens: &[u32], at: usize) -> TypeRead
     ensures { λ r. ⌜ r ≡ optionalType (tokensOf (now (tokens .entry))) at ⌝ }
 {
     let t = lexer::token_at(tokens, at);
-    if t.kind == 29 {
+    if t.kind == kinds::COLON {
         return parser::parse_type(tokens, t.next);
     }
     TypeRead::At(Ty::Void, at)
@@ -69,14 +73,14 @@ fn enter(
     let expected = known::expected_type(rows, n, name, ty);
     if expected != ty {
         return Entered::Refused(Refusal {
-            number: 15,
+            number: numbers::UNEXPECTED_TYPE,
             token,
-            wanted: 4,
-            found: 4,
+            wanted: types::FUNCTION,
+            found: types::FUNCTION,
             name,
         });
     }
-    match parser::consume(tokens, at, 27) {
+    match parser::consume(tokens, at, kinds::LEFT_BRACE) {
         Consumed::Refused(e) => Entered::Refused(e),
         Consumed::At(next) => Entered::At(ty, next),
     }
@@ -127,11 +131,11 @@ pub fn parse_header(tokens: &[u32], at: usize, n: usize, types: u32, rows: &mut 
     ensures { λ _. ⌜ HeaderHeld n (now (rows .entry)) (now (rows .exit))
         (headerD (tokensOf (now (tokens .entry))) (leb 64 n) (knownFrom (now (rows .entry)) 0 n) types at) ⌝ }
 {
-    match parser::consume_named(tokens, at, 2, 7) {
+    match parser::consume_named(tokens, at, kinds::GLOBAL, numbers::NO_GLOBAL) {
         Named::Refused(e) => HeaderRead::Refused(e),
         Named::At(name, at1) => {
-            if 64 <= n {
-                return HeaderRead::Refused(parser::refuse(35, at));
+            if limits::FUNCTIONS <= n {
+                return HeaderRead::Refused(parser::refuse(numbers::TOO_MANY_FUNCTIONS, at));
             }
             parse_signature(tokens, at, name, at1, n, types, rows)
         }

@@ -8,6 +8,7 @@ ghost use Rattle.functions.specs.Known.{typeNumber, expectedType};
 ghost use Rattle.functions.specs.Columns.{formalsAt};
 ghost use Rattle.functions.specs.Rows.{typesAt, signedAt, knownFrom};
 use crate::columns;
+use parser::VARIABLE_CELLS;
 use pieces::Identifier;
 
 // Whether the first `count` formals of rows a and b have the same types.
@@ -23,8 +24,8 @@ fn same_formals(rows: &[u32], a: usize, b: usize, count: usize) -> bool
         if rows[i + 1] != rows[j + 1] {
             return false;
         }
-        i += 2;
-        j += 2;
+        i += VARIABLE_CELLS;
+        j += VARIABLE_CELLS;
         k += 1;
     }
     true

@@ -4,6 +4,7 @@ pub mod columns;
 pub mod header;
 pub mod known;
 mod rows;
+pub mod sizes;
 
 ghost use mathlib.Core.Path.{_≡_};
 ghost use Prim.Native.Nat.{ℕ, _≤_};
@@ -17,7 +18,9 @@ ghost use Rattle.functions.specs.Rows.{knownFrom};
 ghost use Rattle.functions.specs.Laid.{AllFit};
 ghost use Rattle.functions.specs.Answer.{Room, Long, slices, functionRead, FunctionHeld, programRead, Held};
 use parser::Refusal;
+use parser::types;
 use pieces::Identifier;
+use pieces::kinds;
 
 // The number of a function type and the index behind the opening brace.
 pub enum Entered {
@@ -112,7 +115,7 @@ pub fn parse_function(
     match header::parse_header(tokens, at, n.functions, types, functions) {
         HeaderRead::Refused(e) => FunctionRead::Refused(e),
         HeaderRead::At(h) => {
-            let void = h.ret == 3;
+            let void = h.ret == types::VOID;
             match build::build(
                 tokens,
                 h.next,
@@ -167,7 +170,7 @@ pub fn parse(
     };
     loop {
         let t = lexer::token_at(tokens, at);
-        if t.kind == 38 {
+        if t.kind == kinds::END_OF_FILE {
             functions[0] = n.functions as u32;
             return ProgramRead::Done(n);
         }

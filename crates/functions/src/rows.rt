@@ -11,6 +11,7 @@ use crate::Body;
 use crate::Counts;
 use crate::Head;
 use crate::columns;
+use lexer::sizes::NAME_CELLS;
 use pieces::Identifier;
 use utils::cell_at;
 
@@ -18,7 +19,7 @@ use utils::cell_at;
 fn name_length(names: &[u32], name: Identifier) -> u32
     ensures { λ r. ⌜ r ≡ getD (now (names .entry)) (name .0 * 2 + 1) 0 ⌝ }
 {
-    cell_at(names, name.0 as usize * 2 + 1)
+    cell_at(names, name.0 as usize * NAME_CELLS + 1)
 }
 
 // The name's token, the name, the closing token, and the name's place, length and line.

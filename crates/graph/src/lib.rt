@@ -13,6 +13,7 @@ ghost use lib.Seq.{sets};
 ghost use Rattle.graph.specs.Walk.{metBlocks, blockOrder};
 ghost use Rattle.graph.specs.Records.{recorded, atMost256};
 ghost use Rattle.graph.specs.Worklist.{worklist, popped, flagged};
+use utils::limits;
 
 // Cells of a block's record.
 pub const BLOCK_CELLS: usize = 8;
@@ -49,14 +50,19 @@ pub enum Popped {
 
 impl RPOWorklist {
     // Orders a function's blocks.
-    pub fn new(blocks: &[u32], first: u32, count: u32, order: &mut [u32; 256]) -> RPOWorklist
+    pub fn new(
+        blocks: &[u32],
+        first: u32,
+        count: u32,
+        order: &mut [u32; limits::BLOCKS],
+    ) -> RPOWorklist
         ensures { λ r. ⌜ r ≡ worklist 0 (atMost256 count) ⌝ }
         ensures { λ r. ⌜ now (order .exit)
             ≡ sets (now (order .entry)) 0 (blockOrder (recorded (now (blocks .entry)) first) (atMost256 count)) ⌝ }
     {
         let n = successors::at_most_256(count);
-        let mut met = [0u8; 256];
-        let mut left = [0u32; 256];
+        let mut met = [0u8; limits::BLOCKS];
+        let mut left = [0u32; limits::BLOCKS];
         let at = walk::walk(blocks, first, n, &mut met, &mut left);
         let placed = place::put_left(&left, at, order);
         place::put_unmet(&met, n, order, placed);
@@ -67,7 +73,7 @@ impl RPOWorklist {
     }
 
     // The next block.
-    pub fn pop(self, order: &[u32; 256]) -> Popped
+    pub fn pop(self, order: &[u32; limits::BLOCKS]) -> Popped
         ensures { λ r. ⌜ r ≡ popped (now (order .entry)) self ⌝ }
     {
         let taken = self.taken;
@@ -75,7 +81,7 @@ impl RPOWorklist {
         if blocks <= taken {
             return Popped::Empty;
         }
-        if 256 <= taken {
+        if limits::MOST_BLOCKS <= taken {
             return Popped::Empty;
         }
         let i = taken as usize;
@@ -89,23 +95,23 @@ impl RPOWorklist {
 }
 
 // Which blocks a path of edges leads to from block 0: a flag for each block, 1 or 0.
-pub fn met_blocks(blocks: &[u32], first: u32, count: u32, met: &mut [u8; 256])
+pub fn met_blocks(blocks: &[u32], first: u32, count: u32, met: &mut [u8; limits::BLOCKS])
     ensures { λ r. ⌜ now (met .exit)
         ≡ sets (now (met .entry)) 0 (metBlocks (recorded (now (blocks .entry)) first) (atMost256 count)) ⌝ }
 {
     let n = successors::at_most_256(count);
-    let mut flags = [0u8; 256];
-    let mut left = [0u32; 256];
+    let mut flags = [0u8; limits::BLOCKS];
+    let mut left = [0u32; limits::BLOCKS];
     walk::walk(blocks, first, n, &mut flags, &mut left);
     place::put_flags(&flags, n, met);
 }
 
 // Whether a block's flag is set.
-pub fn is_met(met: &[u8; 256], block: BlockId) -> bool
+pub fn is_met(met: &[u8; limits::BLOCKS], block: BlockId) -> bool
     ensures { λ r. ⌜ r ≡ flagged (now (met .entry)) (block .0) ⌝ }
 {
     let v = block.0;
-    if 256 <= v {
+    if limits::MOST_BLOCKS <= v {
         return false;
     }
     let i = v as usize;

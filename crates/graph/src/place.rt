@@ -8,15 +8,16 @@ ghost use Rattle.utils.specs.Bytes.{pick};
 ghost use Rattle.graph.specs.Walk.{neverMet};
 ghost use Rattle.graph.specs.Frames.{waiting};
 use crate::BlockId;
+use utils::limits;
 
 // The blocks left stand from `at` on. How many there are.
-pub fn put_left(left: &[u32; 256], at: usize, out: &mut [u32; 256]) -> usize
+pub fn put_left(left: &[u32; limits::BLOCKS], at: usize, out: &mut [u32; limits::BLOCKS]) -> usize
     requires { ⌜ (at ≤ 256) × (length (now left) ≡ 256) ⌝ }
     ensures { λ r. ⌜ (r + at ≡ 256) × (now (out .exit) ≡ sets (now (out .entry)) 0 (drop at (now (left .entry)))) ⌝ }
 {
     let mut i: usize = 0;
     let mut k = at;
-    while k < 256 {
+    while k < limits::BLOCKS {
         out[i] = left[k];
         i += 1;
         k += 1;
@@ -25,7 +26,7 @@ pub fn put_left(left: &[u32; 256], at: usize, out: &mut [u32; 256]) -> usize
 }
 
 // Block k goes to the place `at`, if its flag is 0. The place after it.
-fn put_one(out: &mut [u32; 256], at: usize, k: BlockId, flag: u8) -> usize
+fn put_one(out: &mut [u32; limits::BLOCKS], at: usize, k: BlockId, flag: u8) -> usize
     requires { ⌜ at + pick (eqb flag 0) 1 0 ≤ 256 ⌝ }
     ensures { λ r. ⌜ (r ≡ at + pick (eqb flag 0) 1 0)
         × (now (out .exit) ≡ pick (eqb flag 0) (set (now (out .entry)) at (k .0)) (now (out .entry))) ⌝ }
@@ -47,7 +48,7 @@ fn next_block(n: u32, rest: u32) -> BlockId
 }
 
 // The blocks whose flag is 0, by rising block number, from the place `start` on.
-pub fn put_unmet(met: &[u8; 256], n: u32, out: &mut [u32; 256], start: usize)
+pub fn put_unmet(met: &[u8; limits::BLOCKS], n: u32, out: &mut [u32; limits::BLOCKS], start: usize)
     requires { ⌜ (start + waiting (take n (now met)) ≤ 256) × (n ≤ 256) × (length (now met) ≡ 256) ⌝ }
     ensures { λ _. ⌜ now (out .exit) ≡ sets (now (out .entry)) start (neverMet 0 (take n (now (met .entry)))) ⌝ }
 {
@@ -62,7 +63,7 @@ pub fn put_unmet(met: &[u8; 256], n: u32, out: &mut [u32; 256], start: usize)
 }
 
 // The flags of the n blocks.
-pub fn put_flags(flags: &[u8; 256], n: u32, out: &mut [u8; 256])
+pub fn put_flags(flags: &[u8; limits::BLOCKS], n: u32, out: &mut [u8; limits::BLOCKS])
     requires { ⌜ (n ≤ 256) × (length (now flags) ≡ 256) ⌝ }
     ensures { λ _. ⌜ now (out .exit) ≡ sets (now (out .entry)) 0 (take n (now (flags .entry))) ⌝ }
 {

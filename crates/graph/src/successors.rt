@@ -4,13 +4,14 @@ ghost use Prim.Native.Nat.{_≤_};
 ghost use lib.ListN.{length};
 ghost use Rattle.graph.specs.Records.{Loaded, atMost256};
 use crate::blocks::block_at;
+use utils::limits;
 
 // How many blocks are looked at.
 pub fn at_most_256(count: u32) -> u32
     ensures { λ r. ⌜ (r ≡ atMost256 count) × (r ≤ 256) ⌝ }
 {
-    if 256 < count {
-        return 256;
+    if limits::MOST_BLOCKS < count {
+        return limits::MOST_BLOCKS;
     }
     count
 }
@@ -20,8 +21,8 @@ pub fn load(
     blocks: &[u32],
     first: u32,
     n: u32,
-    succs: &mut [[u32; 2]; 256],
-    counts: &mut [u32; 256],
+    succs: &mut [[u32; 2]; limits::BLOCKS],
+    counts: &mut [u32; limits::BLOCKS],
 )
     requires { ⌜ (n ≤ 256) × (length (now succs) ≡ 256) × (length (now counts) ≡ 256) ⌝ }
     ensures { λ _. ⌜ Loaded (now (blocks .entry)) first n (now (succs .entry)) (now (succs .exit))

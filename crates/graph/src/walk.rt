@@ -1,5 +1,5 @@
 // The depth-first walk, with the Rust's stack in the place of recursion. An entry of `processing` is a block to walk
-// from, or, with 256 added, one to leave: the Rust tells them apart by colour, white and gray.
+// from, or, with `LEAVE` added, one to leave: the Rust tells them apart by colour, white and gray.
 ghost use mathlib.Core.Path.{_≡_};
 ghost use Prim.Native.Nat.{_+_, _<_, _≤_};
 ghost use mathlib.Core.List.{_∷_};
@@ -8,6 +8,13 @@ ghost use Rattle.graph.specs.Walk.{walked};
 ghost use Rattle.graph.specs.Records.{recorded, rowOf};
 ghost use Rattle.graph.specs.Frames.{stack, pushOne, pushAll, state, coming, Ready, Turned, Holds};
 use crate::BlockId;
+use utils::limits;
+
+// More than any block's number.
+const LEAVE: u32 = limits::MOST_BLOCKS;
+
+// Room for block 0, and for two successors of each block.
+const PROCESSING: usize = 2 * limits::BLOCKS + 1;
 
 // How many entries `processing` has, and where the blocks left begin.
 pub struct Step {
@@ -16,7 +23,7 @@ pub struct Step {
 }
 
 // A block is left: it goes in front of those left before.
-fn leave(left: &mut [u32; 256], at: usize, block: BlockId) -> usize
+fn leave(left: &mut [u32; limits::BLOCKS], at: usize, block: BlockId) -> usize
     requires { ⌜ (0 < at) × (at ≤ 256) × (length (now left) ≡ 256) ⌝ }
     ensures { λ r. ⌜ (r + 1 ≡ at) × (length (now (left .exit)) ≡ 256)
         × (drop r (now (left .exit)) ≡ block .0 ∷ drop at (now (left .entry))) ⌝ }
@@ -27,7 +34,7 @@ fn leave(left: &mut [u32; 256], at: usize, block: BlockId) -> usize
 }
 
 // A block goes on the stack, if it is one of the n.
-fn push(processing: &mut [u32; 513], top: usize, n: u32, block: BlockId) -> usize
+fn push(processing: &mut [u32; PROCESSING], top: usize, n: u32, block: BlockId) -> usize
     requires { ⌜ top < 513 ⌝ }
     ensures { λ r. ⌜ stack (now (processing .exit)) r ≡ pushOne n (block .0) (stack (now (processing .entry)) top) ⌝ }
     ensures { λ r. ⌜ r ≤ top + 1 ⌝ }
@@ -41,11 +48,11 @@ fn push(processing: &mut [u32; 513], top: usize, n: u32, block: BlockId) -> usiz
 
 // A block's successors go on the stack, the last on top.
 fn push_successors(
-    succs: &[[u32; 2]; 256],
-    counts: &[u32; 256],
+    succs: &[[u32; 2]; limits::BLOCKS],
+    counts: &[u32; limits::BLOCKS],
     n: u32,
     block: BlockId,
-    processing: &mut [u32; 513],
+    processing: &mut [u32; PROCESSING],
     top: usize,
 ) -> usize
     requires { ⌜ (block .0 < 256) × (top + 2 ≤ 513) ⌝ }
@@ -68,12 +75,12 @@ fn push_successors(
 
 // One turn of the Rust's loop.
 fn turn(
-    succs: &[[u32; 2]; 256],
-    counts: &[u32; 256],
+    succs: &[[u32; 2]; limits::BLOCKS],
+    counts: &[u32; limits::BLOCKS],
     n: u32,
-    met: &mut [u8; 256],
-    left: &mut [u32; 256],
-    processing: &mut [u32; 513],
+    met: &mut [u8; limits::BLOCKS],
+    left: &mut [u32; limits::BLOCKS],
+    processing: &mut [u32; PROCESSING],
     top: usize,
     at: usize,
 ) -> Step
@@ -84,8 +91,8 @@ fn turn(
 {
     let t = top - 1;
     let current = processing[t];
-    if 256 <= current {
-        let k = leave(left, at, BlockId(current - 256));
+    if LEAVE <= current {
+        let k = leave(left, at, BlockId(current - LEAVE));
         return Step { top: t, at: k };
     }
     let i = current as usize;
@@ -93,19 +100,19 @@ fn turn(
         return Step { top: t, at };
     }
     met[i] = 1;
-    processing[t] = current + 256;
+    processing[t] = current + LEAVE;
     let up = push_successors(succs, counts, n, BlockId(current), processing, top);
     Step { top: up, at }
 }
 
 // The Rust's loop. Where the blocks left begin.
 fn process(
-    succs: &[[u32; 2]; 256],
-    counts: &[u32; 256],
+    succs: &[[u32; 2]; limits::BLOCKS],
+    counts: &[u32; limits::BLOCKS],
     n: u32,
-    met: &mut [u8; 256],
-    left: &mut [u32; 256],
-    processing: &mut [u32; 513],
+    met: &mut [u8; limits::BLOCKS],
+    left: &mut [u32; limits::BLOCKS],
+    processing: &mut [u32; PROCESSING],
     start: usize,
 ) -> usize
     requires { ⌜ Ready n (state (now met) (now left) (now processing) start 256) ⌝ }
@@ -114,7 +121,7 @@ fn process(
         n (now (met .exit)) (now (left .exit)) r ⌝ }
 {
     let mut top = start;
-    let mut at: usize = 256;
+    let mut at: usize = limits::BLOCKS;
     while 0 < top {
         let step = turn(succs, counts, n, met, left, processing, top, at);
         top = step.top;
@@ -124,15 +131,21 @@ fn process(
 }
 
 // The walk from block 0: flags, and the blocks left, at the end of their array.
-pub fn walk(blocks: &[u32], first: u32, n: u32, met: &mut [u8; 256], left: &mut [u32; 256]) -> usize
+pub fn walk(
+    blocks: &[u32],
+    first: u32,
+    n: u32,
+    met: &mut [u8; limits::BLOCKS],
+    left: &mut [u32; limits::BLOCKS],
+) -> usize
     requires { ⌜ (n ≤ 256) × (now met ≡ replicate 256 0) × (length (now left) ≡ 256) ⌝ }
     ensures { λ r. ⌜ Holds (walked (recorded (now (blocks .entry)) first) n) n
         (now (met .exit)) (now (left .exit)) r ⌝ }
 {
-    let mut succs = [[0u32; 2]; 256];
-    let mut counts = [0u32; 256];
+    let mut succs = [[0u32; 2]; limits::BLOCKS];
+    let mut counts = [0u32; limits::BLOCKS];
     super::successors::load(blocks, first, n, &mut succs, &mut counts);
-    let mut processing = [0u32; 513];
+    let mut processing = [0u32; PROCESSING];
     let top = push(&mut processing, 0, n, BlockId(0));
     process(&succs, &counts, n, met, left, &mut processing, top)
 }

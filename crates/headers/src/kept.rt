@@ -12,11 +12,14 @@ use crate::names;
 use functions::columns;
 use functions::header;
 use functions::known;
+use lexer::sizes::TOKEN_CELLS;
 use parser::Named;
 use parser::Run;
 use parser::TypeRead;
 use parser::runs;
 use pieces::Identifier;
+use pieces::kinds;
+use utils::numbers;
 
 // The last token but one of n, the one before the end token.
 fn before_end(n: usize) -> usize
@@ -33,14 +36,14 @@ pub fn is_whole(new: &[u8], tokens: &[u32]) -> bool
     ensures { λ r. ⌜ r ≡ isWhole (now (new .entry)) (tokensOf (now (tokens .entry))) ⌝ }
 {
     let first = lexer::token_at(tokens, 0);
-    if first.kind != super::GLOBAL {
+    if first.kind != kinds::GLOBAL {
         return false;
     }
     if first.place != 0 {
         return false;
     }
-    let last = lexer::token_at(tokens, before_end(tokens.len() / 4));
-    if last.kind != super::RIGHT_BRACE {
+    let last = lexer::token_at(tokens, before_end(tokens.len() / TOKEN_CELLS));
+    if last.kind != kinds::RIGHT_BRACE {
         return false;
     }
     last.place as usize + 1 == new.len()
@@ -94,7 +97,7 @@ pub fn keeps<'t, 'c>(
     ensures { λ r. ⌜ r ≡ keeps (sameBytes (rowName (now (old .entry)) (now (rows .entry)) i))
         (signedAt (now (rows .entry)) i) (now (new .entry)) (now (names .entry)) (tokensOf (now (tokens .entry))) ⌝ }
 {
-    match parser::consume_named(tokens, 0, super::GLOBAL, super::NO_GLOBAL) {
+    match parser::consume_named(tokens, 0, kinds::GLOBAL, numbers::NO_GLOBAL) {
         Named::Refused(_) => true,
         Named::At(name, at) => keeps_behind(old, new, rows, names, i, tokens, name, at, local),
     }

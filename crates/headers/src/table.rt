@@ -3,7 +3,10 @@ ghost use mathlib.Core.Path.{_≡_};
 ghost use Prim.Native.Nat.{_≤_};
 ghost use Rattle.headers.specs.Table.{between, formalsFit, nameFits, typeFits, rowFits, rowsFit, isTable};
 use functions::columns;
+use parser::VARIABLE_CELLS;
+use parser::types;
 use utils::cell_at;
+use utils::limits;
 
 // Whether a cell is at least the one and at most the other.
 fn is_between(least: u32, most: u32, x: u32) -> bool
@@ -24,9 +27,12 @@ fn formals_fit(rows: &[u32], i: usize, n: u32) -> bool
     let mut left = n;
     while 0 < left {
         if !is_between(
-            1,
-            2,
-            cell_at(rows, columns::FORMAL_TYPE + i * columns::ROW + k * 2),
+            types::INT,
+            types::BOOL,
+            cell_at(
+                rows,
+                columns::FORMAL_TYPE + i * columns::ROW + k * VARIABLE_CELLS,
+            ),
         ) {
             return false;
         }
@@ -42,10 +48,10 @@ fn name_fits(old: &[u8], rows: &[u32], i: usize) -> bool
 {
     let place = cell_at(rows, columns::PLACE + i * columns::ROW);
     let len = cell_at(rows, columns::LENGTH + i * columns::ROW);
-    if 16384 < place {
+    if limits::MOST_BYTES < place {
         return false;
     }
-    if !is_between(2, 64, len) {
+    if !is_between(2, limits::MOST_NAME_BYTES, len) {
         return false;
     }
     if old.len() < place as usize + len as usize {
@@ -53,7 +59,7 @@ fn name_fits(old: &[u8], rows: &[u32], i: usize) -> bool
     }
     is_between(
         1,
-        super::MOST_LINES,
+        limits::MOST_LINES,
         cell_at(rows, columns::LINE + i * columns::ROW),
     )
 }
@@ -62,13 +68,21 @@ fn type_fits(rows: &[u32], i: usize) -> bool
     requires { ⌜ i ≤ 64 ⌝ }
     ensures { λ r. ⌜ r ≡ typeFits (now (rows .entry)) i ⌝ }
 {
-    if !is_between(1, 3, cell_at(rows, columns::RESULT + i * columns::ROW)) {
+    if !is_between(
+        types::INT,
+        types::VOID,
+        cell_at(rows, columns::RESULT + i * columns::ROW),
+    ) {
         return false;
     }
-    if 64 <= cell_at(rows, columns::TYPE + i * columns::ROW) {
+    if limits::MOST_FUNCTIONS <= cell_at(rows, columns::TYPE + i * columns::ROW) {
         return false;
     }
-    is_between(1, 256, cell_at(rows, columns::BLOCKS + i * columns::ROW))
+    is_between(
+        1,
+        limits::MOST_BLOCKS,
+        cell_at(rows, columns::BLOCKS + i * columns::ROW),
+    )
 }
 
 fn row_fits(old: &[u8], rows: &[u32], i: usize) -> bool
@@ -82,7 +96,7 @@ fn row_fits(old: &[u8], rows: &[u32], i: usize) -> bool
         return false;
     }
     let formals = cell_at(rows, columns::COUNT + i * columns::ROW);
-    if super::MOST_FORMALS < formals {
+    if limits::MOST_FORMALS < formals {
         return false;
     }
     formals_fit(rows, i, formals)
@@ -109,7 +123,7 @@ fn rows_fit(old: &[u8], rows: &[u32], n: u32) -> bool
 pub fn is_table(old: &[u8], table: &[u32], number: u32) -> bool
     ensures { λ r. ⌜ r ≡ isTable (now (old .entry)) (now (table .entry)) number ⌝ }
 {
-    if super::MOST_BYTES < old.len() {
+    if limits::BYTES < old.len() {
         return false;
     }
     if table.len() < columns::TABLE {
@@ -119,7 +133,7 @@ pub fn is_table(old: &[u8], table: &[u32], number: u32) -> bool
     if count <= number {
         return false;
     }
-    if super::MOST_FUNCTIONS < count {
+    if limits::MOST_FUNCTIONS < count {
         return false;
     }
     rows_fit(old, table, count)

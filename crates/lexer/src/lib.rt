@@ -1,6 +1,7 @@
 // Text to tokens and names, from bril-lib/src/lexer.rs.
 mod names;
 mod report;
+pub mod sizes;
 
 ghost use mathlib.Core.Path.{_≡_};
 ghost use mathlib.Core.List.{[]};
@@ -17,6 +18,8 @@ ghost use Rattle.lexer.specs.Steps.{nextName, nextOf, addedBy, pushed};
 ghost use Rattle.lexer.specs.Read.{lexedFrom, resultOf, tokensIn, namesIn, Held, reading, padded, readFrom};
 ghost use Rattle.lexer.specs.Read.{sized, IfSized, Reads};
 ghost use Rattle.lexer.specs.Decoded.{tokensOf, nameIn, integerIn, indexBehind, tokenAt, nameOf};
+use crate::sizes::NAME_CELLS;
+use crate::sizes::TOKEN_CELLS;
 use pieces::Cursor;
 use pieces::Identifier;
 use pieces::Lexed;
@@ -25,8 +28,11 @@ use pieces::Name;
 use pieces::Refusal;
 use pieces::Token;
 use pieces::TokenValue;
+use pieces::kinds;
 use pieces::scan;
 use pieces::tokens;
+use utils::limits;
+use utils::numbers;
 
 // A name's number, or none: the Rust's Option<Identifier>.
 pub enum Found {
@@ -135,7 +141,7 @@ fn put_token(cells: &mut [u32], count: usize, token: Token)
 {
     let value = token.value;
     let first = tokens::kinded(value);
-    let at = count * 4;
+    let at = count * TOKEN_CELLS;
     let a1 = at + 1;
     let a2 = at + 2;
     let a3 = at + 3;
@@ -150,7 +156,7 @@ fn push_token(cells: &mut [u32], count: usize, token: Token) -> bool
     requires { ⌜ (16384 ≤ length (now cells)) × (token .place < 4294967296) ⌝ }
     ensures { λ r. ⌜ (r ≡ ltb count 4096) × (now (cells .exit) ≡ pushed (now (cells .entry)) count token) ⌝ }
 {
-    if count < 4096 {
+    if count < limits::TOKENS {
         put_token(cells, count, token);
         return true;
     }
@@ -212,7 +218,7 @@ fn lex_text(text: &[u8], line: u32, tokens: &mut [u32], names: &mut [u32]) -> Le
     ensures { λ r. ⌜ Held (lexedFrom line (now (text .entry)))
         (now (tokens .entry)) (now (names .entry)) (now (tokens .exit)) (now (names .exit)) ⌝ }
 {
-    if 16384 < text.len() {
+    if limits::BYTES < text.len() {
         return LexResult::Refused(Refusal::TooManyBytes);
     }
     if !scan::is_ascii(text) {
@@ -244,13 +250,13 @@ pub fn lex_from(text: &[u8], line: u32, tokens: &mut [u32], names: &mut [u32]) -
 fn fits(tokens: usize, names: usize, message: usize) -> bool
     ensures { λ r. ⌜ (r ≡ sized tokens names message) × (IfSized r tokens names message) ⌝ }
 {
-    if tokens < 16384 {
+    if tokens < sizes::TOKENS {
         return false;
     }
-    if names < 2048 {
+    if names < sizes::NAMES {
         return false;
     }
-    if message < 512 {
+    if message < limits::MESSAGE {
         return false;
     }
     true
@@ -278,7 +284,7 @@ pub fn read_from(
         LexResult::Done(count, known) => {
             utils::clear_bytes(message);
             ReadAnswer {
-                number: 0,
+                number: numbers::ACCEPTED,
                 line: 0,
                 place: 0,
                 tokens: count,
@@ -296,7 +302,7 @@ pub fn read(text: &[u8], tokens: &mut [u32], names: &mut [u32], message: &mut [u
     if fits(tokens.len(), names.len(), message.len()) {
         return read_from(text, 1, tokens, names, message);
     }
-    report::refuse_at(30, Location(0), 0)
+    report::refuse_at(numbers::SHORT_BUFFER, Location(0), 0)
 }
 
 // The number that a name's token carries in its second cell; 0 where the kind is no name's.
@@ -306,7 +312,7 @@ fn name_in(kind: u32, carried: u32) -> Identifier
     if kind == 0 {
         return Identifier(0);
     }
-    if kind <= 3 {
+    if kind <= kinds::LABEL {
         return Identifier(carried);
     }
     Identifier(0)
@@ -316,7 +322,7 @@ fn name_in(kind: u32, carried: u32) -> Identifier
 fn integer_in(kind: u32, carried: u32) -> u32
     ensures { λ r. ⌜ r ≡ integerIn kind carried ⌝ }
 {
-    if kind == 4 {
+    if kind == kinds::INTEGER {
         return carried;
     }
     0
@@ -327,7 +333,7 @@ fn index_behind(kind: u32, at: usize) -> usize
     requires { ⌜ at < 18446744073709551615 ⌝ }
     ensures { λ r. ⌜ r ≡ indexBehind kind at ⌝ }
 {
-    if kind == 38 {
+    if kind == kinds::END_OF_FILE {
         return at;
     }
     at + 1
@@ -337,8 +343,8 @@ fn index_behind(kind: u32, at: usize) -> usize
 pub fn token_at(tokens: &[u32], at: usize) -> TokenAt
     ensures { λ r. ⌜ r ≡ tokenAt (tokensOf (now (tokens .entry))) at ⌝ }
 {
-    if at < tokens.len() / 4 {
-        let i = at * 4;
+    if at < tokens.len() / TOKEN_CELLS {
+        let i = at * TOKEN_CELLS;
         let kind = tokens[i];
         let carried = tokens[i + 1];
         return TokenAt {
@@ -351,7 +357,7 @@ pub fn token_at(tokens: &[u32], at: usize) -> TokenAt
         };
     }
     TokenAt {
-        kind: 38,
+        kind: kinds::END_OF_FILE,
         name: Identifier(0),
         integer: 0,
         line: Location(0),
@@ -364,7 +370,7 @@ pub fn token_at(tokens: &[u32], at: usize) -> TokenAt
 pub fn get_name<'t, 'n>(text: &'t [u8], names: &'n [u32], id: Identifier) -> &'t [u8]
     ensures { λ r. ⌜ now r ≡ nameOf (now (text .entry)) (now (names .entry)) (id .0) ⌝ }
 {
-    let at = id.0 as usize * 2;
+    let at = id.0 as usize * NAME_CELLS;
     let place = utils::cell_at(names, at) as usize;
     let end = place + utils::cell_at(names, at + 1) as usize;
     if end <= text.len() {

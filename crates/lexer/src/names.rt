@@ -12,7 +12,9 @@ use crate::Identified;
 use crate::Identifier;
 use crate::Name;
 use crate::Refusal;
+use crate::sizes::NAME_CELLS;
 use crate::tokens;
+use utils::limits;
 
 // Whether m bytes of the text from a are the n bytes from b.
 fn same_name(text: &[u8], a: usize, m: usize, b: usize, n: usize) -> bool
@@ -34,7 +36,7 @@ fn lookup(text: &[u8], names: &[u32], count: usize, place: usize, len: usize) ->
 {
     let mut k: usize = 0;
     while k < count {
-        let p = k * 2;
+        let p = k * NAME_CELLS;
         let q = p + 1;
         let a = names[p] as usize;
         let n = names[q] as usize;
@@ -58,16 +60,16 @@ pub(crate) fn get_identifier(text: &[u8], names: &mut [u32], count: usize, name:
         place,
         line: name.line.0,
     };
-    if 64 < len {
+    if limits::NAME_BYTES < len {
         return Identified::Refused(Refusal::NameTooLong(at));
     }
     match lookup(text, names, count, place, len) {
         Found::At(i) => Identified::Known(i),
         Found::Nothing => {
-            if 1024 <= count {
+            if limits::NAMES <= count {
                 return Identified::Refused(Refusal::TooManyNames(at));
             }
-            let p = count * 2;
+            let p = count * NAME_CELLS;
             let q = p + 1;
             names[p] = place as u32;
             names[q] = len as u32;

@@ -10,6 +10,7 @@ ghost use Rattle.lexer.specs.Read.{readRefusal, answerOf};
 use crate::ReadAnswer;
 use pieces::Location;
 use pieces::Refusal;
+use utils::numbers;
 
 pub(crate) fn refuse_at(number: u32, line: Location, place: usize) -> ReadAnswer
     requires { ⌜ place < 4294967296 ⌝ }
@@ -29,14 +30,34 @@ pub(crate) fn answer_of(refusal: Refusal) -> ReadAnswer
     ensures { λ r. ⌜ r ≡ answerOf refusal ⌝ }
 {
     match refusal {
-        Refusal::NotAscii(line) => refuse_at(1, Location(line), 0),
-        Refusal::CommentNotClosed(at) => refuse_at(2, Location(at.line), at.place),
-        Refusal::UnexpectedByte(_, at) => refuse_at(3, Location(at.line), at.place),
-        Refusal::NumberExpected(at) => refuse_at(4, Location(at.line), at.place),
-        Refusal::TooManyBytes => refuse_at(31, Location(0), 0),
-        Refusal::TooManyTokens(at) => refuse_at(32, Location(at.line), at.place),
-        Refusal::TooManyNames(at) => refuse_at(33, Location(at.line), at.place),
-        Refusal::NameTooLong(at) => refuse_at(34, Location(at.line), at.place),
+        Refusal::NotAscii(line) => refuse_at(numbers::NOT_ASCII, Location(line), 0),
+        Refusal::CommentNotClosed(at) => refuse_at(
+            numbers::COMMENT_NOT_CLOSED,
+            Location(at.line),
+            at.place,
+        ),
+        Refusal::UnexpectedByte(_, at) => refuse_at(
+            numbers::UNEXPECTED_BYTE,
+            Location(at.line),
+            at.place,
+        ),
+        Refusal::NumberExpected(at) => refuse_at(
+            numbers::NUMBER_EXPECTED,
+            Location(at.line),
+            at.place,
+        ),
+        Refusal::TooManyBytes => refuse_at(numbers::TOO_MANY_BYTES, Location(0), 0),
+        Refusal::TooManyTokens(at) => refuse_at(
+            numbers::TOO_MANY_TOKENS,
+            Location(at.line),
+            at.place,
+        ),
+        Refusal::TooManyNames(at) => refuse_at(
+            numbers::TOO_MANY_NAMES,
+            Location(at.line),
+            at.place,
+        ),
+        Refusal::NameTooLong(at) => refuse_at(numbers::NAME_TOO_LONG, Location(at.line), at.place),
     }
 }
 

@@ -9,9 +9,11 @@ ghost use Rattle.link.specs.Steps.{goesD, run, putGoes, addedD, addedCel
 use crate::Goes;
 use crate::Numbered;
 use crate::labels;
+use body::kinds;
 use graph::BlockRecord;
 use graph::blocks::put_block;
 use parser::Refusal;
+use utils::numbers;
 
 // Where the operations from the item `from` on end: at a label, or behind the last item.
 fn block_end(items: &[u32], from: usize, end: usize) -> usize
@@ -21,7 +23,7 @@ fn block_end(items: &[u32], from: usize, end: usize) -> usize
     let mut i = from;
     while i < end {
         let r = body::records::record_at(items, i);
-        if r.kind == 1 {
+        if r.kind == kinds::LABEL {
             return i;
         }
         i += 1;
@@ -112,7 +114,7 @@ pub fn link_blocks(
         (now (blocks .entry)) (now (blocks .exit)) r ⌝ }
 {
     let end = first + count;
-    let empty = parser::refuse(22, name);
+    let empty = parser::refuse(numbers::EMPTY_BLOCK, name);
     let mut from = first + before;
     let mut k = base;
     loop {

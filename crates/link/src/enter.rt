@@ -12,6 +12,7 @@ use graph::BlockId;
 use graph::blocks::block_at;
 use graph::blocks::put_block;
 use graph::successors::load;
+use utils::limits;
 
 // Whether successor i of a block is block j.
 fn enters(count: u32, i: u32, target: BlockId, j: BlockId) -> bool
@@ -38,8 +39,8 @@ fn put_source(sources: &mut [u32], at: usize, k: BlockId, is: bool) -> usize
 
 // Block k goes to the place `used` for each edge from it to block j.
 fn enter_from(
-    succs: &[[u32; 2]; 256],
-    counts: &[u32; 256],
+    succs: &[[u32; 2]; limits::BLOCKS],
+    counts: &[u32; limits::BLOCKS],
     k: BlockId,
     j: BlockId,
     sources: &mut [u32],
@@ -73,8 +74,8 @@ fn next_source(n: u32, rest: u32) -> BlockId
 
 // The sources of the edges that enter block j, from the place `used` on. The place after them.
 fn enter_edges(
-    succs: &[[u32; 2]; 256],
-    counts: &[u32; 256],
+    succs: &[[u32; 2]; limits::BLOCKS],
+    counts: &[u32; limits::BLOCKS],
     n: u32,
     j: BlockId,
     sources: &mut [u32],
@@ -126,8 +127,8 @@ fn put_entries(blocks: &mut [u32], i: usize, j: BlockId, used: usize, count: usi
 
 // The predecessors of each of n blocks, and its record with them. The place after them.
 fn enter_all(
-    succs: &[[u32; 2]; 256],
-    counts: &[u32; 256],
+    succs: &[[u32; 2]; limits::BLOCKS],
+    counts: &[u32; limits::BLOCKS],
     blocks: &mut [u32],
     base: usize,
     n: u32,
@@ -174,8 +175,8 @@ pub fn enter_blocks(
     ensures { λ r. ⌜ now (sources .exit) ≡ sets (now (sources .entry)) used
         (entriesFrom 0 (linksFrom (recorded (now (blocks .entry)) base) 0 n) n) ⌝ }
 {
-    let mut succs = [[0u32; 2]; 256];
-    let mut counts = [0u32; 256];
+    let mut succs = [[0u32; 2]; limits::BLOCKS];
+    let mut counts = [0u32; limits::BLOCKS];
     load(blocks, base as u32, n, &mut succs, &mut counts);
     enter_all(&succs, &counts, blocks, base, n, sources, used)
 }

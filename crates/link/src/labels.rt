@@ -10,9 +10,11 @@ use crate::Found;
 use crate::Goes;
 use body::ItemRecord;
 use body::Last;
+use body::kinds;
 use graph::BlockId;
 use parser::Refusal;
 use pieces::Identifier;
+use utils::numbers;
 
 // How many labels stand before the first operation: each of them names block 0.
 pub fn leading_labels(items: &[u32], first: usize, count: usize) -> usize
@@ -22,7 +24,7 @@ pub fn leading_labels(items: &[u32], first: usize, count: usize) -> usize
     let mut i: usize = 0;
     while i < count {
         let r = body::records::record_at(items, first + i);
-        if r.kind != 1 {
+        if r.kind != kinds::LABEL {
             return i;
         }
         i += 1;
@@ -63,7 +65,7 @@ fn unknown(token: usize, name: Identifier) -> Refusal
     ensures { λ r. ⌜ r ≡ missing token (name .0) ⌝ }
 {
     Refusal {
-        number: 14,
+        number: numbers::MISSING_TARGET,
         token,
         wanted: 0,
         found: 0,
@@ -107,7 +109,7 @@ fn resolve_two(
     }
 }
 
-// Where a block leads whose last operation has this record. Kind 9 is `jmp`.
+// Where a block leads whose last operation has this record.
 pub fn resolve(labels: &[u32], labelled: usize, before: usize, r: ItemRecord) -> Goes
     requires { ⌜ (labelled ≤ 255) × (labelled ≤ length (now labels)) ⌝ }
     ensures { λ res. ⌜ res ≡ goesD before (take labelled (now (labels .entry))) r ⌝ }
@@ -116,7 +118,7 @@ pub fn resolve(labels: &[u32], labelled: usize, before: usize, r: ItemRecord) ->
     let last = r.last;
     match last {
         Last::Name(next, _) => {
-            if r.kind == 9 {
+            if r.kind == kinds::JUMP {
                 return resolve_one(labels, labelled, before, token, next);
             }
             Goes::Done(0, BlockId(0), BlockId(0))

@@ -7,13 +7,15 @@ ghost use Rattle.lexer.specs.Decoded.{nameOf};
 ghost use Rattle.messages.specs.Messages.{atToken, atName, itemOf, ShortNames};
 use crate::words;
 use pieces::Identifier;
+use pieces::kinds;
+use utils::numbers;
 
 fn put_at_token(buf: &mut [u8], at: usize, kind: u32, name: Identifier, integer: u32) -> usize
     requires { ⌜ at + 26 ≤ length (now buf) ⌝ }
     ensures { λ r. ⌜ (r ≡ at + length (atToken kind name integer))
         × (now (buf .exit) ≡ sets (now (buf .entry)) at (atToken kind name integer)) × (r ≤ at + 26) ⌝ }
 {
-    if kind == 38 {
+    if kind == kinds::END_OF_FILE {
         return utils::put(buf, at, b"at end of file");
     }
     let p1 = utils::put(buf, at, b"at ");
@@ -48,19 +50,19 @@ pub(crate) fn put_item(
         (itemOf (now (text .entry)) (now (names .entry)) kind own integer number name))
         × (r ≤ at + 69) ⌝ }
 {
-    if number < 13 {
+    if number < numbers::DUPLICATE_LABEL {
         return put_at_token(buf, at, kind, own, integer);
     }
-    if number == 13 {
+    if number == numbers::DUPLICATE_LABEL {
         return put_at_name(buf, at, text, names, own);
     }
-    if number == 14 {
+    if number == numbers::MISSING_TARGET {
         return at;
     }
-    if number < 17 {
+    if number < numbers::OTHER_TYPE {
         return put_at_name(buf, at, text, names, name);
     }
-    if number < 22 {
+    if number < numbers::EMPTY_BLOCK {
         return put_at_token(buf, at, kind, own, integer);
     }
     at

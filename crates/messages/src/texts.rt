@@ -8,6 +8,7 @@ ghost use Rattle.messages.specs.Messages.{expected, missing, unexpected,
 ghost use Rattle.messages.specs.Messages.{ShortNames};
 use crate::words;
 use pieces::Identifier;
+use utils::numbers;
 
 fn put_expected(buf: &mut [u8], at: usize, kind: u32) -> usize
     requires { ⌜ at + 33 ≤ length (now buf) ⌝ }
@@ -69,30 +70,30 @@ pub(crate) fn put_fixed(buf: &mut [u8], at: usize, number: u32) -> usize
         × (now (buf .exit) ≡ sets (now (buf .entry)) at (fixed number)) × (r ≤ at + 49) ⌝ }
 {
     match number {
-        6 => utils::put(buf, at, b"Local identifier expected."),
-        7 => utils::put(buf, at, b"Global identifier expected."),
-        8 => utils::put(buf, at, b"Label identifier expected."),
-        9 => utils::put(buf, at, b"Type expected."),
-        10 => utils::put(buf, at, b"Integer or boolean constant expected."),
-        11 => utils::put(buf, at, b"Unexpected token."),
-        12 => utils::put(buf, at, b"Basic block must start with a label."),
-        13 => utils::put(buf, at, b"Duplicate label found."),
-        16 => utils::put(buf, at, b"Undefined identifier."),
-        18 => utils::put(buf, at, b"Void functions cannot return a value."),
-        19 => utils::put(buf, at, b"Non-void functions must return a value."),
-        21 => utils::put(
+        numbers::NO_LOCAL => utils::put(buf, at, b"Local identifier expected."),
+        numbers::NO_GLOBAL => utils::put(buf, at, b"Global identifier expected."),
+        numbers::NO_LABEL => utils::put(buf, at, b"Label identifier expected."),
+        numbers::NO_TYPE => utils::put(buf, at, b"Type expected."),
+        numbers::NO_CONSTANT => utils::put(buf, at, b"Integer or boolean constant expected."),
+        numbers::UNEXPECTED_TOKEN => utils::put(buf, at, b"Unexpected token."),
+        numbers::NO_LABEL_FIRST => utils::put(buf, at, b"Basic block must start with a label."),
+        numbers::DUPLICATE_LABEL => utils::put(buf, at, b"Duplicate label found."),
+        numbers::UNDEFINED => utils::put(buf, at, b"Undefined identifier."),
+        numbers::VOID_VALUE => utils::put(buf, at, b"Void functions cannot return a value."),
+        numbers::NO_VALUE => utils::put(buf, at, b"Non-void functions must return a value."),
+        numbers::NO_TERMINATOR => utils::put(
             buf,
             at,
             b"Block terminator expected to be jump, br, or ret.",
         ),
-        22 => utils::put(buf, at, b"empty block."),
-        35 => utils::put(buf, at, b"too many functions."),
-        36 => utils::put(buf, at, b"too many formals."),
-        37 => utils::put(buf, at, b"too many arguments."),
-        38 => utils::put(buf, at, b"too many labels."),
-        40 => utils::put(buf, at, b"not one function."),
-        41 => utils::put(buf, at, b"header changed."),
-        42 => utils::put(buf, at, b"bad header table."),
+        numbers::EMPTY_BLOCK => utils::put(buf, at, b"empty block."),
+        numbers::TOO_MANY_FUNCTIONS => utils::put(buf, at, b"too many functions."),
+        numbers::TOO_MANY_FORMALS => utils::put(buf, at, b"too many formals."),
+        numbers::TOO_MANY_ARGUMENTS => utils::put(buf, at, b"too many arguments."),
+        numbers::TOO_MANY_LABELS => utils::put(buf, at, b"too many labels."),
+        numbers::NOT_ONE_FUNCTION => utils::put(buf, at, b"not one function."),
+        numbers::HEADER_CHANGED => utils::put(buf, at, b"header changed."),
+        numbers::BAD_TABLE => utils::put(buf, at, b"bad header table."),
         _ => at,
     }
 }
@@ -114,11 +115,11 @@ pub(crate) fn put_text(
         × (r ≤ at + 91) ⌝ }
 {
     match number {
-        5 => put_expected(buf, at, wanted),
-        14 => put_missing(buf, at, text, names, name),
-        15 => put_unexpected(buf, at, found, wanted),
-        17 => put_other_type(buf, at, wanted, found),
-        20 => put_other_count(buf, at, wanted, found),
+        numbers::TOKEN_EXPECTED => put_expected(buf, at, wanted),
+        numbers::MISSING_TARGET => put_missing(buf, at, text, names, name),
+        numbers::UNEXPECTED_TYPE => put_unexpected(buf, at, found, wanted),
+        numbers::OTHER_TYPE => put_other_type(buf, at, wanted, found),
+        numbers::OTHER_COUNT => put_other_count(buf, at, wanted, found),
         _ => put_fixed(buf, at, number),
     }
 }

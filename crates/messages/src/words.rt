@@ -9,10 +9,16 @@ ghost use mathlib.Core.Bool.{true};
 ghost use Rattle.lexer.specs.Decoded.{nameOf};
 ghost use Rattle.messages.specs.Messages.{wordOf, signed, shown, typeWord, quoted, ShortNames};
 ghost use Rattle.messages.specs.Rows.{rowsFrom, rowsFit};
+use parser::types;
 use pieces::Identifier;
+use pieces::kinds;
 
 // The words in the order of their kinds. A row is a length, and eleven bytes for the letters.
-const WORDS: [u8; 468] = *b"\x00\0\0\0\0\0\0\0\0\0\0\0\
+const ROW: usize = 12;
+
+const ROWS: usize = 39;
+
+const WORDS: [u8; ROWS * ROW] = *b"\x00\0\0\0\0\0\0\0\0\0\0\0\
     \x06local_\0\0\0\0\0\
     \x07global_\0\0\0\0\
     \x06label_\0\0\0\0\0\
@@ -60,10 +66,10 @@ fn put_row(buf: &mut [u8], at: usize, table: &[u8], kind: u32) -> usize
         × (now (buf .exit) ≡ sets (now (buf .entry)) at (getD (rowsFrom 39 0 (now (table .entry))) kind []))
         × (r ≤ at + 11) ⌝ }
 {
-    if kind > 38 {
+    if kind > kinds::END_OF_FILE {
         return at;
     }
-    let row = kind as usize * 12;
+    let row = kind as usize * ROW;
     let start = row + 1;
     let end = start + table[row] as usize;
     utils::put(buf, at, &table[start..end])
@@ -95,10 +101,10 @@ fn put_shown(buf: &mut [u8], at: usize, kind: u32, name: Identifier, integer: u3
     ensures { λ r. ⌜ (r ≡ at + length (shown kind name integer))
         × (now (buf .exit) ≡ sets (now (buf .entry)) at (shown kind name integer)) × (r ≤ at + 21) ⌝ }
 {
-    if kind > 4 {
+    if kind > kinds::INTEGER {
         return put_word(buf, at, kind);
     }
-    if kind == 4 {
+    if kind == kinds::INTEGER {
         return put_signed(buf, at, integer);
     }
     let next = put_word(buf, at, kind);
@@ -111,10 +117,10 @@ fn put_type(buf: &mut [u8], at: usize, cell: u32) -> usize
         × (now (buf .exit) ≡ sets (now (buf .entry)) at (typeWord cell)) × (r ≤ at + 11) ⌝ }
 {
     match cell {
-        0 => utils::put(buf, at, b"placeholder"),
-        1 => utils::put(buf, at, b"int"),
-        2 => utils::put(buf, at, b"bool"),
-        3 => utils::put(buf, at, b"void"),
+        types::PLACEHOLDER => utils::put(buf, at, b"placeholder"),
+        types::INT => utils::put(buf, at, b"int"),
+        types::BOOL => utils::put(buf, at, b"bool"),
+        types::VOID => utils::put(buf, at, b"void"),
         _ => utils::put(buf, at, b"fn"),
     }
 }

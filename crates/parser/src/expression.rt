@@ -13,17 +13,19 @@ use crate::consume;
 use crate::consume_named;
 use crate::parse_type;
 use crate::refuse;
+use pieces::kinds;
+use utils::numbers;
 
 pub(crate) fn parse_defined(tokens: &[u32], at: usize) -> Defined
     ensures { λ r. ⌜ r ≡ definedD (tokensOf (now (tokens .entry))) at ⌝ }
 {
-    match consume_named(tokens, at, 1, 6) {
+    match consume_named(tokens, at, kinds::LOCAL, numbers::NO_LOCAL) {
         Named::Refused(e) => Defined::Refused(e),
-        Named::At(id, at1) => match consume(tokens, at1, 29) {
+        Named::At(id, at1) => match consume(tokens, at1, kinds::COLON) {
             Consumed::Refused(e) => Defined::Refused(e),
             Consumed::At(at2) => match parse_type(tokens, at2) {
                 TypeRead::Refused(e) => Defined::Refused(e),
-                TypeRead::At(ty, at3) => match consume(tokens, at3, 24) {
+                TypeRead::At(ty, at3) => match consume(tokens, at3, kinds::DEFINE) {
                     Consumed::Refused(e) => Defined::Refused(e),
                     Consumed::At(at4) => Defined::At(Variable { id, ty }, at4),
                 },
@@ -35,13 +37,13 @@ pub(crate) fn parse_defined(tokens: &[u32], at: usize) -> Defined
 fn is_constant(kind: u32) -> bool
     ensures { λ r. ⌜ r ≡ isConstant kind ⌝ }
 {
-    if kind == 4 {
+    if kind == kinds::INTEGER {
         return true;
     }
-    if kind == 10 {
+    if kind == kinds::TRUE {
         return true;
     }
-    kind == 11
+    kind == kinds::FALSE
 }
 
 // The Rust reports a missing constant with the word `const`, and keeps the value's token.
@@ -51,20 +53,20 @@ fn parse_const(tokens: &[u32], result: Variable, word: usize, at: usize) -> Pars
     let t = lexer::token_at(tokens, at);
     let next = t.next;
     if is_constant(t.kind) {
-        return match consume(tokens, next, 30) {
+        return match consume(tokens, next, kinds::SEMICOLON) {
             Consumed::Refused(e) => Parsed::Refused(e),
             Consumed::At(at1) => Parsed::Done(Operation::Const(at, result), at1),
         };
     }
-    Parsed::Refused(refuse(10, word))
+    Parsed::Refused(refuse(numbers::NO_CONSTANT, word))
 }
 
 fn parse_unary(tokens: &[u32], result: Variable, word: usize, at: usize) -> Parsed
     ensures { λ r. ⌜ r ≡ unaryD (tokensOf (now (tokens .entry))) result word at ⌝ }
 {
-    match consume_named(tokens, at, 1, 6) {
+    match consume_named(tokens, at, kinds::LOCAL, numbers::NO_LOCAL) {
         Named::Refused(e) => Parsed::Refused(e),
-        Named::At(x, at1) => match consume(tokens, at1, 30) {
+        Named::At(x, at1) => match consume(tokens, at1, kinds::SEMICOLON) {
             Consumed::Refused(e) => Parsed::Refused(e),
             Consumed::At(at2) => Parsed::Done(Operation::UnaryOp(word, result, x), at2),
         },
@@ -74,11 +76,11 @@ fn parse_unary(tokens: &[u32], result: Variable, word: usize, at: usize) -> Pars
 fn parse_binary(tokens: &[u32], result: Variable, word: usize, at: usize) -> Parsed
     ensures { λ r. ⌜ r ≡ binaryD (tokensOf (now (tokens .entry))) result word at ⌝ }
 {
-    match consume_named(tokens, at, 1, 6) {
+    match consume_named(tokens, at, kinds::LOCAL, numbers::NO_LOCAL) {
         Named::Refused(e) => Parsed::Refused(e),
-        Named::At(x, at1) => match consume_named(tokens, at1, 1, 6) {
+        Named::At(x, at1) => match consume_named(tokens, at1, kinds::LOCAL, numbers::NO_LOCAL) {
             Named::Refused(e) => Parsed::Refused(e),
-            Named::At(y, at2) => match consume(tokens, at2, 30) {
+            Named::At(y, at2) => match consume(tokens, at2, kinds::SEMICOLON) {
                 Consumed::Refused(e) => Parsed::Refused(e),
                 Consumed::At(at3) => Parsed::Done(Operation::BinaryOp(word, result, x, y), at3),
             },
@@ -89,31 +91,31 @@ fn parse_binary(tokens: &[u32], result: Variable, word: usize, at: usize) -> Par
 fn is_unary(kind: u32) -> bool
     ensures { λ r. ⌜ r ≡ isUnary kind ⌝ }
 {
-    if kind == 17 {
+    if kind == kinds::NOT {
         return true;
     }
-    kind == 37
+    kind == kinds::ID
 }
 
 fn is_binary(kind: u32) -> bool
     ensures { λ r. ⌜ r ≡ isBinary kind ⌝ }
 {
-    if kind <= 4 {
+    if kind <= kinds::INTEGER {
         return false;
     }
-    if kind <= 9 {
+    if kind <= kinds::MOD {
         return true;
     }
-    if kind <= 11 {
+    if kind <= kinds::FALSE {
         return false;
     }
-    if kind <= 16 {
+    if kind <= kinds::GE {
         return true;
     }
-    if kind == 18 {
+    if kind == kinds::AND {
         return true;
     }
-    kind == 19
+    kind == kinds::OR
 }
 
 pub(crate) fn parse_value(tokens: &[u32], result: Variable, at: usize) -> Parsed
@@ -122,10 +124,10 @@ pub(crate) fn parse_value(tokens: &[u32], result: Variable, at: usize) -> Parsed
     let t = lexer::token_at(tokens, at);
     let kind = t.kind;
     let next = t.next;
-    if kind == 22 {
+    if kind == kinds::CALL {
         return Parsed::CallInto(result, at);
     }
-    if kind == 34 {
+    if kind == kinds::CONST {
         return parse_const(tokens, result, at, next);
     }
     if is_unary(kind) {
@@ -134,5 +136,5 @@ pub(crate) fn parse_value(tokens: &[u32], result: Variable, at: usize) -> Parsed
     if is_binary(kind) {
         return parse_binary(tokens, result, at, next);
     }
-    Parsed::Refused(refuse(11, at))
+    Parsed::Refused(refuse(numbers::UNEXPECTED_TOKEN, at))
 }

@@ -10,6 +10,9 @@ use crate::Named;
 use crate::consume;
 use crate::consume_named;
 use crate::refuse;
+use pieces::kinds;
+use utils::limits;
+use utils::numbers;
 
 fn has_label(labels: &[u32], count: usize, name: Identifier) -> bool
     requires { ⌜ count ≤ length (now labels) ⌝ }
@@ -30,16 +33,16 @@ pub fn parse_label(tokens: &[u32], at: usize, labels: &[u32], count: usize) -> N
     requires { ⌜ count ≤ length (now labels) ⌝ }
     ensures { λ r. ⌜ r ≡ labelledD (tokensOf (now (tokens .entry))) (take count (now (labels .entry))) at ⌝ }
 {
-    match consume_named(tokens, at, 3, 8) {
+    match consume_named(tokens, at, kinds::LABEL, numbers::NO_LABEL) {
         Named::Refused(e) => Named::Refused(e),
-        Named::At(label, at1) => match consume(tokens, at1, 29) {
+        Named::At(label, at1) => match consume(tokens, at1, kinds::COLON) {
             Consumed::Refused(e) => Named::Refused(e),
             Consumed::At(at2) => {
-                if 255 <= count {
-                    return Named::Refused(refuse(38, at));
+                if limits::LABELS <= count {
+                    return Named::Refused(refuse(numbers::TOO_MANY_LABELS, at));
                 }
                 if has_label(labels, count, label) {
-                    return Named::Refused(refuse(13, at));
+                    return Named::Refused(refuse(numbers::DUPLICATE_LABEL, at));
                 }
                 Named::At(label, at2)
             }

@@ -4,12 +4,15 @@ mod expression;
 pub mod labels;
 pub mod runs;
 mod statement;
+pub mod types;
 
 ghost use mathlib.Core.Path.{_≡_};
 ghost use Rattle.lexer.specs.Decoded.{tokensOf};
 ghost use Rattle.parser.specs.Step.{refusal};
 ghost use Rattle.parser.specs.Grammar.{consumeD, namedD, typeD, definitionD, instructionD};
 use pieces::Identifier;
+use pieces::kinds;
+use utils::numbers;
 
 // Why the parser refuses: document 01's number, the token that the Rust reports with, and what the message needs: the
 // kind (5), type (15, 17) or count (20) that was wanted, the type or count that was found, or the name that it spells
@@ -31,6 +34,9 @@ pub enum Ty {
     // A function type's number: there are 64 functions at most.
     Fn(u8),
 }
+
+// Cells of a variable: its name and its type.
+pub const VARIABLE_CELLS: usize = 2;
 
 pub struct Variable {
     pub id: Identifier,
@@ -115,7 +121,7 @@ pub fn consume(tokens: &[u32], at: usize, kind: u32) -> Consumed
         return Consumed::At(t.next);
     }
     Consumed::Refused(Refusal {
-        number: 5,
+        number: numbers::TOKEN_EXPECTED,
         token: at,
         wanted: kind,
         found: 0,
@@ -139,13 +145,13 @@ pub fn parse_type(tokens: &[u32], at: usize) -> TypeRead
     ensures { λ r. ⌜ r ≡ typeD (tokensOf (now (tokens .entry))) at ⌝ }
 {
     let t = lexer::token_at(tokens, at);
-    if t.kind == 32 {
+    if t.kind == kinds::INT {
         return TypeRead::At(Ty::Int, t.next);
     }
-    if t.kind == 33 {
+    if t.kind == kinds::BOOL {
         return TypeRead::At(Ty::Bool, t.next);
     }
-    TypeRead::Refused(refuse(9, at))
+    TypeRead::Refused(refuse(numbers::NO_TYPE, at))
 }
 
 fn parse_definition(tokens: &[u32], at: usize) -> Parsed
@@ -165,12 +171,12 @@ pub fn parse_instruction(tokens: &[u32], at: usize) -> Parsed
     let kind = t.kind;
     let next = t.next;
     match kind {
-        35 => statement::parse_print(tokens, at, next),
-        23 => statement::parse_ret(tokens, at, next),
-        20 => statement::parse_jump(tokens, at, next),
-        21 => statement::parse_branch(tokens, at, next),
-        36 => statement::parse_nop(tokens, at, next),
-        22 => Parsed::Call(at),
+        kinds::PRINT => statement::parse_print(tokens, at, next),
+        kinds::RET => statement::parse_ret(tokens, at, next),
+        kinds::JMP => statement::parse_jump(tokens, at, next),
+        kinds::BR => statement::parse_branch(tokens, at, next),
+        kinds::NOP => statement::parse_nop(tokens, at, next),
+        kinds::CALL => Parsed::Call(at),
         _ => parse_definition(tokens, at),
     }
 }

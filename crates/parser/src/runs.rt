@@ -14,21 +14,26 @@ use crate::Named;
 use crate::Run;
 use crate::Ty;
 use crate::TypeRead;
+use crate::VARIABLE_CELLS;
 use crate::Variable;
 use crate::consume;
 use crate::consume_named;
 use crate::parse_type;
 use crate::refuse;
+use crate::types;
+use pieces::kinds;
+use utils::limits;
+use utils::numbers;
 
 pub fn type_cell(ty: Ty) -> u32
     ensures { λ r. ⌜ r ≡ typeCell ty ⌝ }
 {
     match ty {
-        Ty::Placeholder => 0,
-        Ty::Int => 1,
-        Ty::Bool => 2,
-        Ty::Void => 3,
-        Ty::Fn(n) => n as u32 + 4,
+        Ty::Placeholder => types::PLACEHOLDER,
+        Ty::Int => types::INT,
+        Ty::Bool => types::BOOL,
+        Ty::Void => types::VOID,
+        Ty::Fn(n) => n as u32 + types::FUNCTION,
     }
 }
 
@@ -46,13 +51,13 @@ fn put_variable(cells: &mut [u32], at: usize, v: Variable)
 fn parse_formal(tokens: &[u32], at: usize, full: bool) -> Defined
     ensures { λ r. ⌜ r ≡ formalD (tokensOf (now (tokens .entry))) full at ⌝ }
 {
-    match consume_named(tokens, at, 1, 6) {
+    match consume_named(tokens, at, kinds::LOCAL, numbers::NO_LOCAL) {
         Named::Refused(e) => Defined::Refused(e),
         Named::At(id, at1) => {
             if full {
-                return Defined::Refused(refuse(36, at));
+                return Defined::Refused(refuse(numbers::TOO_MANY_FORMALS, at));
             }
-            match consume(tokens, at1, 29) {
+            match consume(tokens, at1, kinds::COLON) {
                 Consumed::Refused(e) => Defined::Refused(e),
                 Consumed::At(at2) => match parse_type(tokens, at2) {
                     TypeRead::Refused(e) => Defined::Refused(e),
@@ -67,7 +72,7 @@ fn parse_formal(tokens: &[u32], at: usize, full: bool) -> Defined
 fn close_formals(tokens: &[u32], at: usize, n: usize) -> Run
     ensures { λ r. ⌜ r ≡ closedD (tokensOf (now (tokens .entry))) at n ⌝ }
 {
-    match consume(tokens, at, 26) {
+    match consume(tokens, at, kinds::RIGHT_PAREN) {
         Consumed::Refused(e) => Run::Refused(e),
         Consumed::At(i) => Run::Done(n, i),
     }
@@ -82,15 +87,15 @@ fn parse_formals_from(tokens: &[u32], at: usize, cells: &mut [u32], used: usize)
     let mut n: usize = 0;
     let mut here = at;
     loop {
-        match parse_formal(tokens, here, 16 <= n) {
+        match parse_formal(tokens, here, limits::FORMALS <= n) {
             Defined::Refused(e) => {
                 return Run::Refused(e);
             }
             Defined::At(v, next) => {
-                put_variable(cells, used + n * 2, v);
+                put_variable(cells, used + n * VARIABLE_CELLS, v);
                 n += 1;
                 let t = lexer::token_at(tokens, next);
-                if t.kind != 31 {
+                if t.kind != kinds::COMMA {
                     return close_formals(tokens, next, n);
                 }
                 here = t.next;
@@ -107,7 +112,7 @@ pub fn parse_formals(tokens: &[u32], at: usize, cells: &mut [u32], used: usize) 
         ≡ sets (now (cells .entry)) used (variablesCells (formalsD (tokensOf (now (tokens .entry))) at .list)) ⌝ }
 {
     let t = lexer::token_at(tokens, at);
-    if t.kind == 26 {
+    if t.kind == kinds::RIGHT_PAREN {
         return Run::Done(0, t.next);
     }
     parse_formals_from(tokens, at, cells, used)
@@ -124,19 +129,19 @@ pub fn parse_arguments(tokens: &[u32], at: usize, cells: &mut [u32], used: usize
     let mut here = at;
     loop {
         let t = lexer::token_at(tokens, here);
-        if t.kind == 30 {
+        if t.kind == kinds::SEMICOLON {
             return Run::Done(n, t.next);
         }
-        match consume_named(tokens, here, 1, 6) {
+        match consume_named(tokens, here, kinds::LOCAL, numbers::NO_LOCAL) {
             Named::Refused(e) => {
                 return Run::Refused(e);
             }
             Named::At(id, next) => {
-                if 16 <= n {
-                    return Run::Refused(refuse(37, here));
+                if limits::ARGUMENTS <= n {
+                    return Run::Refused(refuse(numbers::TOO_MANY_ARGUMENTS, here));
                 }
                 let ty = Ty::Placeholder;
-                put_variable(cells, used + n * 2, Variable { id, ty });
+                put_variable(cells, used + n * VARIABLE_CELLS, Variable { id, ty });
                 n += 1;
                 here = next;
             }
@@ -151,9 +156,9 @@ pub fn parse_call(tokens: &[u32], word: usize, cells: &mut [u32], used: usize) -
     ensures { λ r. ⌜ now (cells .exit) ≡ sets (now (cells .entry)) used
         (variablesCells (callD (tokensOf (now (tokens .entry))) word .arguments .list)) ⌝ }
 {
-    match consume(tokens, word, 22) {
+    match consume(tokens, word, kinds::CALL) {
         Consumed::Refused(e) => Called::Refused(e),
-        Consumed::At(at) => match consume_named(tokens, at, 2, 7) {
+        Consumed::At(at) => match consume_named(tokens, at, kinds::GLOBAL, numbers::NO_GLOBAL) {
             Named::Refused(e) => Called::Refused(e),
             Named::At(callee, at1) => match parse_arguments(tokens, at1, cells, used) {
                 Run::Refused(e) => Called::Refused(e),

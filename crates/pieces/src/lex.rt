@@ -12,6 +12,7 @@ use crate::OptionValue;
 use crate::Refusal;
 use crate::Token;
 use crate::TokenValue;
+use crate::kinds;
 use crate::scan;
 use crate::tokens;
 
@@ -21,17 +22,17 @@ pub(crate) fn lex_slash(text: &[u8], at: usize, line: u32) -> Lexed
     ensures { λ r. ⌜ r ≡ slashAt (now (text .entry)) at line ⌝ }
 {
     let b = scan::peek(text, at + 1);
-    if b == 47 {
+    if b == b'/' {
         let place = scan::line_end(text, at + 2);
         return Lexed::Skipped(Cursor { place, line });
     }
-    if b == 42 {
+    if b == b'*' {
         return match scan::comment_end(text, at + 2) {
             Comment::Closed(place) => Lexed::Skipped(Cursor { place, line }),
             Comment::Open => Lexed::Refused(Refusal::CommentNotClosed(Cursor { place: at, line })),
         };
     }
-    Lexed::Refused(Refusal::UnexpectedByte(47, Cursor { place: at, line }))
+    Lexed::Refused(Refusal::UnexpectedByte(b'/', Cursor { place: at, line }))
 }
 
 // At a digit. The Rust drops what its parse::<i32>() refuses, and goes on.
@@ -117,7 +118,7 @@ fn lex_word(text: &[u8], at: usize, line: u32) -> Lexed
             };
             Lexed::Token(token, Cursor { place: end, line })
         }
-        OptionValue::None => lex_name(1, text, at, line),
+        OptionValue::None => lex_name(kinds::LOCAL, text, at, line),
     }
 }
 
@@ -147,14 +148,14 @@ pub(crate) fn lex_token(text: &[u8], at: usize, line: u32) -> Lexed
     ensures { λ r. ⌜ r ≡ tokenFrom (now (text .entry)) at line ⌝ }
 {
     let b = text[at];
-    if b == 45 {
+    if b == b'-' {
         return lex_minus(text, at, line);
     }
-    if b == 64 {
-        return lex_sigil(2, text, at, line);
+    if b == b'@' {
+        return lex_sigil(kinds::GLOBAL, text, at, line);
     }
-    if b == 46 {
-        return lex_sigil(3, text, at, line);
+    if b == b'.' {
+        return lex_sigil(kinds::LABEL, text, at, line);
     }
     if scan::is_digit(b) {
         return lex_digit(text, at, line);

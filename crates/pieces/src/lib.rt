@@ -1,4 +1,5 @@
 // One piece of a text after the other, from bril-lib/src/lexer.rs.
+pub mod kinds;
 mod lex;
 pub mod scan;
 pub mod tokens;
@@ -136,7 +137,7 @@ impl Cursor {
             return Lexed::End(self);
         }
         let b = text[at];
-        if b == 10 {
+        if b == b'\n' {
             return Lexed::Skipped(Cursor {
                 place: at + 1,
                 line: line + 1,
@@ -148,11 +149,11 @@ impl Cursor {
                 line,
             });
         }
-        if b == 35 {
+        if b == b'#' {
             let place = scan::line_end(text, at + 1);
             return Lexed::Skipped(Cursor { place, line });
         }
-        if b == 47 {
+        if b == b'/' {
             return lex::lex_slash(text, at, line);
         }
         lex::lex_token(text, at, line)

@@ -12,20 +12,20 @@ use crate::Number;
 pub(crate) fn is_blank(b: u8) -> bool
     ensures { λ r. ⌜ r ≡ isBlank b ⌝ }
 {
-    if b == 32 {
+    if b == b' ' {
         return true;
     }
-    if b == 9 {
+    if b == b'\t' {
         return true;
     }
-    b == 13
+    b == b'\r'
 }
 
 pub(crate) fn is_digit(b: u8) -> bool
     ensures { λ r. ⌜ r ≡ isDigit b ⌝ }
 {
-    if 48 <= b {
-        return b <= 57;
+    if b'0' <= b {
+        return b <= b'9';
     }
     false
 }
@@ -33,11 +33,11 @@ pub(crate) fn is_digit(b: u8) -> bool
 pub(crate) fn is_letter(b: u8) -> bool
     ensures { λ r. ⌜ r ≡ isLetter b ⌝ }
 {
-    if 97 <= b {
-        return b <= 122;
+    if b'a' <= b {
+        return b <= b'z';
     }
-    if 65 <= b {
-        return b <= 90;
+    if b'A' <= b {
+        return b <= b'Z';
     }
     false
 }
@@ -51,7 +51,7 @@ fn is_name_part(b: u8) -> bool
     if is_digit(b) {
         return true;
     }
-    b == 95
+    b == b'_'
 }
 
 pub fn is_ascii(text: &[u8]) -> bool
@@ -83,7 +83,7 @@ pub(crate) fn line_end(text: &[u8], at: usize) -> usize
 {
     let mut i = at;
     while i < text.len() {
-        if text[i] == 10 {
+        if text[i] == b'\n' {
             return i + 1;
         }
         i += 1;
@@ -95,7 +95,7 @@ fn closes_comment(star: bool, b: u8) -> bool
     ensures { λ r. ⌜ r ≡ closes star b ⌝ }
 {
     if star {
-        return b == 47;
+        return b == b'/';
     }
     false
 }
@@ -107,7 +107,7 @@ fn star_after(star: bool, b: u8) -> bool
     if star {
         return false;
     }
-    b == 42
+    b == b'*'
 }
 
 // From after a comment's opening to after its closing.
@@ -132,7 +132,7 @@ fn grow(value: u64, b: u8) -> u64
     requires { ⌜ (value ≤ 2147483649) × (isDigit b ≡ true) ⌝ }
     ensures { λ r. ⌜ r ≡ capped (value * 10 + (b - 48)) ⌝ }
 {
-    let grown = value * 10 + (b - 48) as u64;
+    let grown = value * 10 + (b - b'0') as u64;
     if grown <= 2147483649 {
         return grown;
     }

@@ -11,50 +11,51 @@ use crate::Identifier;
 use crate::Kinded;
 use crate::OptionValue;
 use crate::TokenValue;
+use crate::kinds;
 
 // The kind of a value and what it carries: the first two cells of its record.
 pub fn kinded(value: TokenValue) -> Kinded
     ensures { λ r. ⌜ r ≡ kindedOf value ⌝ }
 {
     match value {
-        TokenValue::Local(i) => Kinded(1, i.0),
-        TokenValue::Global(i) => Kinded(2, i.0),
-        TokenValue::Label(i) => Kinded(3, i.0),
-        TokenValue::Integer(n) => Kinded(4, n),
-        TokenValue::Add => Kinded(5, 0),
-        TokenValue::Mul => Kinded(6, 0),
-        TokenValue::Sub => Kinded(7, 0),
-        TokenValue::Div => Kinded(8, 0),
-        TokenValue::Mod => Kinded(9, 0),
-        TokenValue::True => Kinded(10, 0),
-        TokenValue::False => Kinded(11, 0),
-        TokenValue::Equal => Kinded(12, 0),
-        TokenValue::LessThan => Kinded(13, 0),
-        TokenValue::GreaterThan => Kinded(14, 0),
-        TokenValue::LessThanOrEq => Kinded(15, 0),
-        TokenValue::GreaterThanOrEq => Kinded(16, 0),
-        TokenValue::Not => Kinded(17, 0),
-        TokenValue::And => Kinded(18, 0),
-        TokenValue::Or => Kinded(19, 0),
-        TokenValue::Jump => Kinded(20, 0),
-        TokenValue::Branch => Kinded(21, 0),
-        TokenValue::Call => Kinded(22, 0),
-        TokenValue::Return => Kinded(23, 0),
-        TokenValue::Define => Kinded(24, 0),
-        TokenValue::LeftParen => Kinded(25, 0),
-        TokenValue::RightParen => Kinded(26, 0),
-        TokenValue::LeftBrace => Kinded(27, 0),
-        TokenValue::RightBrace => Kinded(28, 0),
-        TokenValue::Colon => Kinded(29, 0),
-        TokenValue::Semicolon => Kinded(30, 0),
-        TokenValue::Comma => Kinded(31, 0),
-        TokenValue::Int => Kinded(32, 0),
-        TokenValue::Bool => Kinded(33, 0),
-        TokenValue::Const => Kinded(34, 0),
-        TokenValue::Print => Kinded(35, 0),
-        TokenValue::Nop => Kinded(36, 0),
-        TokenValue::Identity => Kinded(37, 0),
-        TokenValue::EndOfFile => Kinded(38, 0),
+        TokenValue::Local(i) => Kinded(kinds::LOCAL, i.0),
+        TokenValue::Global(i) => Kinded(kinds::GLOBAL, i.0),
+        TokenValue::Label(i) => Kinded(kinds::LABEL, i.0),
+        TokenValue::Integer(n) => Kinded(kinds::INTEGER, n),
+        TokenValue::Add => Kinded(kinds::ADD, 0),
+        TokenValue::Mul => Kinded(kinds::MUL, 0),
+        TokenValue::Sub => Kinded(kinds::SUB, 0),
+        TokenValue::Div => Kinded(kinds::DIV, 0),
+        TokenValue::Mod => Kinded(kinds::MOD, 0),
+        TokenValue::True => Kinded(kinds::TRUE, 0),
+        TokenValue::False => Kinded(kinds::FALSE, 0),
+        TokenValue::Equal => Kinded(kinds::EQ, 0),
+        TokenValue::LessThan => Kinded(kinds::LT, 0),
+        TokenValue::GreaterThan => Kinded(kinds::GT, 0),
+        TokenValue::LessThanOrEq => Kinded(kinds::LE, 0),
+        TokenValue::GreaterThanOrEq => Kinded(kinds::GE, 0),
+        TokenValue::Not => Kinded(kinds::NOT, 0),
+        TokenValue::And => Kinded(kinds::AND, 0),
+        TokenValue::Or => Kinded(kinds::OR, 0),
+        TokenValue::Jump => Kinded(kinds::JMP, 0),
+        TokenValue::Branch => Kinded(kinds::BR, 0),
+        TokenValue::Call => Kinded(kinds::CALL, 0),
+        TokenValue::Return => Kinded(kinds::RET, 0),
+        TokenValue::Define => Kinded(kinds::DEFINE, 0),
+        TokenValue::LeftParen => Kinded(kinds::LEFT_PAREN, 0),
+        TokenValue::RightParen => Kinded(kinds::RIGHT_PAREN, 0),
+        TokenValue::LeftBrace => Kinded(kinds::LEFT_BRACE, 0),
+        TokenValue::RightBrace => Kinded(kinds::RIGHT_BRACE, 0),
+        TokenValue::Colon => Kinded(kinds::COLON, 0),
+        TokenValue::Semicolon => Kinded(kinds::SEMICOLON, 0),
+        TokenValue::Comma => Kinded(kinds::COMMA, 0),
+        TokenValue::Int => Kinded(kinds::INT, 0),
+        TokenValue::Bool => Kinded(kinds::BOOL, 0),
+        TokenValue::Const => Kinded(kinds::CONST, 0),
+        TokenValue::Print => Kinded(kinds::PRINT, 0),
+        TokenValue::Nop => Kinded(kinds::NOP, 0),
+        TokenValue::Identity => Kinded(kinds::ID, 0),
+        TokenValue::EndOfFile => Kinded(kinds::END_OF_FILE, 0),
     }
 }
 
@@ -63,43 +64,43 @@ pub fn value_of(kind: u32, carried: u32) -> TokenValue
     ensures { λ r. ⌜ r ≡ valueOf kind carried ⌝ }
 {
     match kind {
-        1 => TokenValue::Local(Identifier(carried)),
-        2 => TokenValue::Global(Identifier(carried)),
-        3 => TokenValue::Label(Identifier(carried)),
-        4 => TokenValue::Integer(carried),
-        5 => TokenValue::Add,
-        6 => TokenValue::Mul,
-        7 => TokenValue::Sub,
-        8 => TokenValue::Div,
-        9 => TokenValue::Mod,
-        10 => TokenValue::True,
-        11 => TokenValue::False,
-        12 => TokenValue::Equal,
-        13 => TokenValue::LessThan,
-        14 => TokenValue::GreaterThan,
-        15 => TokenValue::LessThanOrEq,
-        16 => TokenValue::GreaterThanOrEq,
-        17 => TokenValue::Not,
-        18 => TokenValue::And,
-        19 => TokenValue::Or,
-        20 => TokenValue::Jump,
-        21 => TokenValue::Branch,
-        22 => TokenValue::Call,
-        23 => TokenValue::Return,
-        24 => TokenValue::Define,
-        25 => TokenValue::LeftParen,
-        26 => TokenValue::RightParen,
-        27 => TokenValue::LeftBrace,
-        28 => TokenValue::RightBrace,
-        29 => TokenValue::Colon,
-        30 => TokenValue::Semicolon,
-        31 => TokenValue::Comma,
-        32 => TokenValue::Int,
-        33 => TokenValue::Bool,
-        34 => TokenValue::Const,
-        35 => TokenValue::Print,
-        36 => TokenValue::Nop,
-        37 => TokenValue::Identity,
+        kinds::LOCAL => TokenValue::Local(Identifier(carried)),
+        kinds::GLOBAL => TokenValue::Global(Identifier(carried)),
+        kinds::LABEL => TokenValue::Label(Identifier(carried)),
+        kinds::INTEGER => TokenValue::Integer(carried),
+        kinds::ADD => TokenValue::Add,
+        kinds::MUL => TokenValue::Mul,
+        kinds::SUB => TokenValue::Sub,
+        kinds::DIV => TokenValue::Div,
+        kinds::MOD => TokenValue::Mod,
+        kinds::TRUE => TokenValue::True,
+        kinds::FALSE => TokenValue::False,
+        kinds::EQ => TokenValue::Equal,
+        kinds::LT => TokenValue::LessThan,
+        kinds::GT => TokenValue::GreaterThan,
+        kinds::LE => TokenValue::LessThanOrEq,
+        kinds::GE => TokenValue::GreaterThanOrEq,
+        kinds::NOT => TokenValue::Not,
+        kinds::AND => TokenValue::And,
+        kinds::OR => TokenValue::Or,
+        kinds::JMP => TokenValue::Jump,
+        kinds::BR => TokenValue::Branch,
+        kinds::CALL => TokenValue::Call,
+        kinds::RET => TokenValue::Return,
+        kinds::DEFINE => TokenValue::Define,
+        kinds::LEFT_PAREN => TokenValue::LeftParen,
+        kinds::RIGHT_PAREN => TokenValue::RightParen,
+        kinds::LEFT_BRACE => TokenValue::LeftBrace,
+        kinds::RIGHT_BRACE => TokenValue::RightBrace,
+        kinds::COLON => TokenValue::Colon,
+        kinds::SEMICOLON => TokenValue::Semicolon,
+        kinds::COMMA => TokenValue::Comma,
+        kinds::INT => TokenValue::Int,
+        kinds::BOOL => TokenValue::Bool,
+        kinds::CONST => TokenValue::Const,
+        kinds::PRINT => TokenValue::Print,
+        kinds::NOP => TokenValue::Nop,
+        kinds::ID => TokenValue::Identity,
         _ => TokenValue::EndOfFile,
     }
 }
@@ -122,7 +123,11 @@ pub fn same_bytes(a: &[u8], i: usize, b: &[u8], j: usize, n: usize) -> bool
 }
 
 // A row is a kind, a length, and five bytes for the letters.
-const KEYWORDS: [u8; 175] = *b"\x05\x03add\0\0\
+const ROW: usize = 7;
+
+const ROWS: usize = 25;
+
+const KEYWORDS: [u8; ROWS * ROW] = *b"\x05\x03add\0\0\
     \x06\x03mul\0\0\
     \x08\x03div\0\0\
     \x07\x03sub\0\0\
@@ -155,8 +160,8 @@ fn is_row(text: &[u8], at: usize, len: usize, table: &[u8], row: usize) -> bool
     ensures { λ r. ⌜ r
         ≡ sameBytes (rowAt (now (table .entry)) row .spelling) (slice at (at + len) (now (text .entry))) ⌝ }
 {
-    let size = row * 7 + 1;
-    let letters = row * 7 + 2;
+    let size = row * ROW + 1;
+    let letters = row * ROW + 2;
     if table[size] as usize != len {
         return false;
     }
@@ -171,9 +176,9 @@ fn find_word(text: &[u8], at: usize, len: usize, table: &[u8]) -> OptionValue
         ≡ wordIn (rowsFrom 25 0 (now (table .entry))) (slice at (at + len) (now (text .entry))) ⌝ }
 {
     let mut row: usize = 0;
-    while row < 25 {
+    while row < ROWS {
         if is_row(text, at, len, table, row) {
-            let kind = row * 7;
+            let kind = row * ROW;
             return OptionValue::Some(value_of(table[kind] as u32, 0));
         }
         row += 1;
@@ -192,14 +197,14 @@ pub(crate) fn from_char(b: u8) -> OptionValue
     ensures { λ r. ⌜ r ≡ symbol b ⌝ }
 {
     match b {
-        40 => OptionValue::Some(TokenValue::LeftParen),
-        41 => OptionValue::Some(TokenValue::RightParen),
-        123 => OptionValue::Some(TokenValue::LeftBrace),
-        125 => OptionValue::Some(TokenValue::RightBrace),
-        58 => OptionValue::Some(TokenValue::Colon),
-        59 => OptionValue::Some(TokenValue::Semicolon),
-        61 => OptionValue::Some(TokenValue::Define),
-        44 => OptionValue::Some(TokenValue::Comma),
+        b'(' => OptionValue::Some(TokenValue::LeftParen),
+        b')' => OptionValue::Some(TokenValue::RightParen),
+        b'{' => OptionValue::Some(TokenValue::LeftBrace),
+        b'}' => OptionValue::Some(TokenValue::RightBrace),
+        b':' => OptionValue::Some(TokenValue::Colon),
+        b';' => OptionValue::Some(TokenValue::Semicolon),
+        b'=' => OptionValue::Some(TokenValue::Define),
+        b',' => OptionValue::Some(TokenValue::Comma),
         _ => OptionValue::None,
     }
 }

@@ -6,7 +6,11 @@ ghost use Rattle.utils.specs.Bytes.{padTo};
 ghost use Rattle.functions.specs.Answer.{slices};
 ghost use Rattle.checker.specs.Check.{checkOf, checkRefusal};
 ghost use Rattle.pitchsleet.specs.CheckBytes.{cellBytes, Sizes, export, exported};
+use crate::layout;
 use checker::CheckAnswer;
+use functions::columns;
+use functions::sizes;
+use utils::numbers;
 
 // All cells, one slice after the other, and zeros.
 pub fn put_all(
@@ -28,25 +32,25 @@ pub fn put_all(
         (now (predecessors .entry)))) ⌝ }
 {
     crate::put_cells(out, 0, tokens);
-    crate::put_cells(out, 65536, names);
-    crate::put_cells(out, 73728, functions);
-    crate::put_cells(out, 85252, items);
-    crate::put_cells(out, 183556, arguments);
-    crate::put_cells(out, 211268, blocks);
-    crate::put_cells(out, 244036, predecessors);
-    crate::clear_from(out, 252228);
+    crate::put_cells(out, layout::NAMES, names);
+    crate::put_cells(out, layout::FUNCTIONS, functions);
+    crate::put_cells(out, layout::ITEMS, items);
+    crate::put_cells(out, layout::ARGUMENTS, arguments);
+    crate::put_cells(out, layout::BLOCKS, blocks);
+    crate::put_cells(out, layout::PREDECESSORS, predecessors);
+    crate::clear_from(out, layout::CHECKED);
 }
 
 // Checks into cells, and stores them as bytes. All slices have their sizes, so `check` never answers 30 here.
 pub fn check_out(
     text: &[u8],
-    tokens: &mut [u32; 16384],
-    names: &mut [u32; 2048],
-    functions: &mut [u32; 2881],
-    items: &mut [u32; 24576],
-    arguments: &mut [u32; 6928],
-    blocks: &mut [u32; 8192],
-    predecessors: &mut [u32; 2048],
+    tokens: &mut [u32; lexer::sizes::TOKENS],
+    names: &mut [u32; lexer::sizes::NAMES],
+    functions: &mut [u32; columns::TABLE],
+    items: &mut [u32; sizes::ITEMS],
+    arguments: &mut [u32; sizes::ARGUMENTS],
+    blocks: &mut [u32; sizes::BLOCKS],
+    predecessors: &mut [u32; sizes::PREDECESSORS],
     out: &mut [u8],
     message: &mut [u8],
 ) -> CheckAnswer
@@ -84,7 +88,7 @@ pub fn short() -> CheckAnswer
     ensures { λ r. ⌜ r ≡ checkRefusal 30 0 0 ⌝ }
 {
     CheckAnswer {
-        number: 30,
+        number: numbers::SHORT_BUFFER,
         line: 0,
         place: 0,
         tokens: 0,

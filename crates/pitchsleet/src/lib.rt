@@ -1,5 +1,6 @@
 // The C functions. Cells go out as little-endian bytes at the offsets of docs/INTERFACE.md.
 mod check;
+mod layout;
 mod rechecks;
 
 ghost use mathlib.Core.Path.{_≡_};
@@ -11,7 +12,11 @@ ghost use Rattle.pitchsleet.specs.Bytes.{le32, le32s, export, exported, 
 ghost use Rattle.pitchsleet.specs.CheckBytes as checks;
 ghost use Rattle.pitchsleet.specs.RecheckBytes as again;
 use checker::CheckAnswer;
+use functions::columns;
+use functions::sizes;
 use lexer::ReadAnswer;
+use utils::limits;
+use utils::numbers;
 
 // A cell as four bytes, the lowest first.
 fn put_cell(out: &mut [u8], at: usize, cell: u32)
@@ -33,7 +38,7 @@ fn put_cells(out: &mut [u8], at: usize, cells: &[u32])
 {
     let mut i: usize = 0;
     while i < cells.len() {
-        put_cell(out, at + i * 4, cells[i]);
+        put_cell(out, at + i * layout::CELL, cells[i]);
         i += 1;
     }
 }
@@ -55,7 +60,7 @@ fn short() -> ReadAnswer
     ensures { λ r. ⌜ r ≡ readRefusal 30 0 0 ⌝ }
 {
     ReadAnswer {
-        number: 30,
+        number: numbers::SHORT_BUFFER,
         line: 0,
         place: 0,
         tokens: 0,
@@ -66,8 +71,8 @@ fn short() -> ReadAnswer
 // Reads into cells, and stores them as bytes. Both slices have their sizes, so `read` never answers 30 here.
 fn read_out(
     text: &[u8],
-    tokens: &mut [u32; 16384],
-    names: &mut [u32; 2048],
+    tokens: &mut [u32; lexer::sizes::TOKENS],
+    names: &mut [u32; lexer::sizes::NAMES],
     out: &mut [u8],
     message: &mut [u8],
 ) -> ReadAnswer
@@ -78,8 +83,8 @@ fn read_out(
 {
     let answer = lexer::read(text, tokens, names, message);
     put_cells(out, 0, tokens);
-    put_cells(out, 65536, names);
-    clear_from(out, 73728);
+    put_cells(out, layout::NAMES, names);
+    clear_from(out, layout::READ);
     answer
 }
 
@@ -89,14 +94,14 @@ pub extern "C" fn pitchsleet_read(text: &[u8], out: &mut [u8], message: &mut [u8
     ensures { λ r. ⌜ Exports (now (text .entry)) (now (out .entry)) (now (message .entry))
         r (now (out .exit)) (now (message .exit)) ⌝ }
 {
-    if out.len() < 73728 {
+    if out.len() < layout::READ {
         return short();
     }
-    if message.len() < 512 {
+    if message.len() < limits::MESSAGE {
         return short();
     }
-    let mut tokens = [0u32; 16384];
-    let mut names = [0u32; 2048];
+    let mut tokens = [0u32; lexer::sizes::TOKENS];
+    let mut names = [0u32; lexer::sizes::NAMES];
     read_out(text, &mut tokens, &mut names, out, message)
 }
 
@@ -106,19 +111,19 @@ pub extern "C" fn pitchsleet_check(text: &[u8], out: &mut [u8], message: &mut [u
     ensures { λ r. ⌜ checks.Exports (now (text .entry)) (now (out .entry)) (now (message .entry))
         r (now (out .exit)) (now (message .exit)) ⌝ }
 {
-    if out.len() < 252228 {
+    if out.len() < layout::CHECKED {
         return check::short();
     }
-    if message.len() < 512 {
+    if message.len() < limits::MESSAGE {
         return check::short();
     }
-    let mut tokens = [0u32; 16384];
-    let mut names = [0u32; 2048];
-    let mut functions = [0u32; 2881];
-    let mut items = [0u32; 24576];
-    let mut arguments = [0u32; 6928];
-    let mut blocks = [0u32; 8192];
-    let mut predecessors = [0u32; 2048];
+    let mut tokens = [0u32; lexer::sizes::TOKENS];
+    let mut names = [0u32; lexer::sizes::NAMES];
+    let mut functions = [0u32; columns::TABLE];
+    let mut items = [0u32; sizes::ITEMS];
+    let mut arguments = [0u32; sizes::ARGUMENTS];
+    let mut blocks = [0u32; sizes::BLOCKS];
+    let mut predecessors = [0u32; sizes::PREDECESSORS];
     check::check_out(
         text,
         &mut tokens,
@@ -147,10 +152,10 @@ pub extern "C" fn pitchsleet_recheck<'t>(
     ensures { λ r. ⌜ again.Rechecks (now (old .entry)) (now (table .entry)) number (now (new .entry))
         (now (out .entry)) (now (message .entry)) r (now (out .exit)) (now (message .exit)) ⌝ }
 {
-    if out.len() < 252228 {
+    if out.len() < layout::CHECKED {
         return check::short();
     }
-    if message.len() < 512 {
+    if message.len() < limits::MESSAGE {
         return check::short();
     }
     rechecks::recheck_out(old, table, number, new, out, message)

@@ -7,10 +7,10 @@ ghost use Rattle.functions.specs.Answer.{slices};
 ghost use Rattle.recheck.specs.Recheck.{recheckOf};
 ghost use Rattle.pitchsleet.specs.CheckBytes.{Sizes, export, exported};
 ghost use Rattle.pitchsleet.specs.RecheckBytes.{cellAt, cellsAt, cellCount, tableOf};
+use crate::layout;
 use checker::CheckAnswer;
-
-// The cells of a header table (docs/INTERFACE.md).
-const TABLE: usize = 2881;
+use functions::columns;
+use functions::sizes;
 
 // Four bytes as a cell, the lowest first.
 fn cell_of(a: u8, b: u8, c: u8, d: u8) -> u32
@@ -33,7 +33,7 @@ fn get_cells(cells: &mut [u32], bytes: &[u8], n: usize)
 {
     let mut i: usize = 0;
     while i < n {
-        cells[i] = get_cell(bytes, i * 4);
+        cells[i] = get_cell(bytes, i * layout::CELL);
         i += 1;
     }
 }
@@ -42,11 +42,11 @@ fn get_cells(cells: &mut [u32], bytes: &[u8], n: usize)
 fn cell_count(bytes: usize) -> usize
     ensures { λ r. ⌜ r ≡ cellCount bytes ⌝ }
 {
-    let n = bytes / 4;
-    if n < TABLE {
+    let n = bytes / layout::CELL;
+    if n < columns::TABLE {
         return n;
     }
-    TABLE
+    columns::TABLE
 }
 
 // Rechecks into cells, and stores them as bytes. All slices have their sizes, so `recheck` never answers 30 here.
@@ -55,13 +55,13 @@ fn recheck_cells<'t>(
     table: &[u32],
     number: u32,
     new: &'t [u8],
-    tokens: &mut [u32; 16384],
-    names: &mut [u32; 2048],
-    functions: &mut [u32; 2881],
-    items: &mut [u32; 24576],
-    arguments: &mut [u32; 6928],
-    blocks: &mut [u32; 8192],
-    predecessors: &mut [u32; 2048],
+    tokens: &mut [u32; lexer::sizes::TOKENS],
+    names: &mut [u32; lexer::sizes::NAMES],
+    functions: &mut [u32; columns::TABLE],
+    items: &mut [u32; sizes::ITEMS],
+    arguments: &mut [u32; sizes::ARGUMENTS],
+    blocks: &mut [u32; sizes::BLOCKS],
+    predecessors: &mut [u32; sizes::PREDECESSORS],
     out: &mut [u8],
     message: &mut [u8],
 ) -> CheckAnswer
@@ -113,16 +113,16 @@ pub fn recheck_out<'t>(
         ≡ exported (now (out .entry)) (now (message .entry))
         (recheckOf (now (old .entry)) (tableOf (now (table .entry))) number (now (new .entry))) ⌝ }
 {
-    let mut cells = [0u32; 2881];
+    let mut cells = [0u32; columns::TABLE];
     let n = cell_count(table.len());
     get_cells(&mut cells, table, n);
-    let mut tokens = [0u32; 16384];
-    let mut names = [0u32; 2048];
-    let mut functions = [0u32; 2881];
-    let mut items = [0u32; 24576];
-    let mut arguments = [0u32; 6928];
-    let mut blocks = [0u32; 8192];
-    let mut predecessors = [0u32; 2048];
+    let mut tokens = [0u32; lexer::sizes::TOKENS];
+    let mut names = [0u32; lexer::sizes::NAMES];
+    let mut functions = [0u32; columns::TABLE];
+    let mut items = [0u32; sizes::ITEMS];
+    let mut arguments = [0u32; sizes::ARGUMENTS];
+    let mut blocks = [0u32; sizes::BLOCKS];
+    let mut predecessors = [0u32; sizes::PREDECESSORS];
     recheck_cells(
         old,
         &cells[0..n],

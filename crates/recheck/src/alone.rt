@@ -19,10 +19,12 @@ use functions::columns;
 use headers::Placed;
 use headers::bring;
 use headers::kept;
+use pieces::kinds;
 use sema::Checked;
 use unit::clear;
 use unit::types;
 use utils::cell_at;
+use utils::numbers;
 
 // One function from the first token on, and nothing behind it.
 fn parse_alone(
@@ -66,13 +68,13 @@ fn parse_alone(
         FunctionRead::Refused(e) => ProgramRead::Refused(e),
         FunctionRead::Done(next, _, counts) => {
             let t = lexer::token_at(tokens, next);
-            if t.kind == super::END_OF_FILE {
+            if t.kind == kinds::END_OF_FILE {
                 return ProgramRead::Done(counts);
             }
-            if t.kind == super::GLOBAL {
-                return ProgramRead::Refused(parser::refuse(super::NOT_ONE_FUNCTION, next));
+            if t.kind == kinds::GLOBAL {
+                return ProgramRead::Refused(parser::refuse(numbers::NOT_ONE_FUNCTION, next));
             }
-            ProgramRead::Refused(parser::refuse(super::NO_GLOBAL, next))
+            ProgramRead::Refused(parser::refuse(numbers::NO_GLOBAL, next))
         }
     }
 }
@@ -136,7 +138,7 @@ fn build<'t, 'c>(
     ensures { λ r. ⌜ Counted r ⌝ }
 {
     if !kept::keeps(old, new, rows, names, number, tokens, local) {
-        return ProgramRead::Refused(parser::refuse(super::HEADER_CHANGED, 0));
+        return ProgramRead::Refused(parser::refuse(numbers::HEADER_CHANGED, 0));
     }
     match parse_alone(
         tokens,

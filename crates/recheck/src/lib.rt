@@ -17,25 +17,12 @@ use functions::columns;
 use headers::kept;
 use headers::table;
 use lexer::ReadAnswer;
+use lexer::sizes::NAME_CELLS;
+use lexer::sizes::TOKEN_CELLS;
 use pieces::Location;
 use unit::clear;
 use utils::cell_at;
-
-// Document 01's numbers.
-const NO_GLOBAL: u32 = 7;
-
-const SHORT_BUFFER: u32 = 30;
-
-const NOT_ONE_FUNCTION: u32 = 40;
-
-const HEADER_CHANGED: u32 = 41;
-
-const BAD_TABLE: u32 = 42;
-
-// Kinds of tokens (docs/INTERFACE.md).
-const GLOBAL: u32 = 2;
-
-const END_OF_FILE: u32 = 38;
+use utils::numbers;
 
 // A refusal at no token: its message, and every other slice zero.
 fn refuse_all(
@@ -93,12 +80,12 @@ fn recheck_lexed<'t>(
         (now (predecessors .entry)))
         (recheckOf (now (old .entry)) (now (table .entry)) number (now (new .entry))) ⌝ }
 {
-    let last = r.tokens as usize * 4;
-    let end = r.names as usize * 2;
+    let last = r.tokens as usize * TOKEN_CELLS;
+    let end = r.names as usize * NAME_CELLS;
     if !kept::is_whole(new, &tokens[0..last]) {
         let line = Location(cell_at(table, columns::LINE + number as usize * columns::ROW));
         return refuse_all(
-            NOT_ONE_FUNCTION,
+            numbers::NOT_ONE_FUNCTION,
             line,
             tokens,
             names,
@@ -156,7 +143,7 @@ fn recheck_sized<'t>(
 {
     if !table::is_table(old, table, number) {
         return refuse_all(
-            BAD_TABLE,
+            numbers::BAD_TABLE,
             Location(0),
             tokens,
             names,
@@ -170,7 +157,7 @@ fn recheck_sized<'t>(
     }
     let line = cell_at(table, columns::LINE + number as usize * columns::ROW);
     let r = lexer::read_from(new, line, tokens, names, message);
-    if r.number == 0 {
+    if r.number == numbers::ACCEPTED {
         return recheck_lexed(
             old,
             table,
@@ -238,5 +225,5 @@ pub fn recheck<'t>(
             message,
         );
     }
-    checker::refused(SHORT_BUFFER, Location(0), 0)
+    checker::refused(numbers::SHORT_BUFFER, Location(0), 0)
 }

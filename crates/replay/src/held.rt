@@ -9,11 +9,15 @@ ghost use Rattle.replay.specs.Lists.{listAt};
 ghost use Rattle.replay.specs.Held.{oldCell, oldByte, filled, restOf, holding};
 use crate::Compared;
 use crate::lists;
+use utils::numbers;
 
 // What every lent cell and byte holds before a call, which must write over all of them, or leave all alone.
 pub const OLD_CELL: u32 = 2863311530;
 
 pub const OLD_BYTE: u8 = 170;
+
+// How much longer than its size a slice is that is lent whole.
+pub const SPARE: usize = 16;
 
 fn wide(b: u8) -> u32
     ensures { λ r. ⌜ r ≡ b ⌝ }
@@ -61,7 +65,7 @@ fn same_bytes(got: &[u8], list: &[u32], rest: u32) -> bool
 fn rest_of(number: u32, old: u32) -> u32
     ensures { λ r. ⌜ r ≡ restOf number old ⌝ }
 {
-    if number == 30 {
+    if number == numbers::SHORT_BUFFER {
         return old;
     }
     0

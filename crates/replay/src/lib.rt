@@ -38,8 +38,8 @@ pub struct Tally {
 pub(crate) fn is_digit(b: u8) -> bool
     ensures { λ r. ⌜ r ≡ isDigit b ⌝ }
 {
-    if 48 <= b {
-        return b <= 57;
+    if b'0' <= b {
+        return b <= b'9';
     }
     false
 }
@@ -48,10 +48,10 @@ pub(crate) fn is_digit(b: u8) -> bool
 fn in_comment(before: bool, b: u8) -> bool
     ensures { λ r. ⌜ r ≡ inComment before b ⌝ }
 {
-    if b == 10 {
+    if b == b'\n' {
         return false;
     }
-    if b == 35 {
+    if b == b'#' {
         return true;
     }
     before
@@ -89,7 +89,7 @@ fn with_digit(value: u32, b: u8) -> u32
     requires { ⌜ 48 ≤ b ⌝ }
     ensures { λ r. ⌜ r ≡ (value * 10 + (b - 48)) % 4294967296 ⌝ }
 {
-    ((value as u64 * 10 + (b - 48) as u64) % 4294967296) as u32
+    ((value as u64 * 10 + (b - b'0') as u64) % 4294967296) as u32
 }
 
 pub fn number_at(data: &[u8], from: usize) -> Number

@@ -12,13 +12,16 @@ use crate::Loaded;
 use crate::Number;
 use crate::number_at;
 
+// The digit 0.
+const ZERO: u32 = b'0' as u32;
+
 // The value of a hexadecimal digit.
 fn hex(b: u8) -> u32
     ensures { λ r. ⌜ r ≡ hexOf b ⌝ }
     ensures { λ r. ⌜ r ≤ 15 ⌝ }
 {
     if crate::is_digit(b) {
-        return b as u32 - 48;
+        return b as u32 - ZERO;
     }
     (b as u32 + 9) % 16
 }
@@ -54,7 +57,7 @@ fn byte_at(data: &[u8], at: usize) -> Number
         };
     }
     let b = data[at];
-    if b == 92 {
+    if b == b'\\' {
         return escaped_at(data, at);
     }
     Number {

@@ -1,6 +1,8 @@
 // What a recheck is given beside the new text.
+use functions::sizes;
 use replay::lists;
 use replay::number_at;
+use utils::limits;
 
 // Whether a case is one of recheck; how much of their room its old text and its header table take; the function's
 // number, and the place in the file after them.
@@ -25,13 +27,13 @@ fn nothing(next: usize) -> Given {
 
 // The header table that `check` writes for a text.
 fn write_table(text: &[u8], table: &mut [u32]) {
-    let mut tokens = [0u32; 16384];
-    let mut names = [0u32; 2048];
-    let mut items = [0u32; 24576];
-    let mut arguments = [0u32; 6928];
-    let mut blocks = [0u32; 8192];
-    let mut predecessors = [0u32; 2048];
-    let mut message = [0u8; 512];
+    let mut tokens = [0u32; lexer::sizes::TOKENS];
+    let mut names = [0u32; lexer::sizes::NAMES];
+    let mut items = [0u32; sizes::ITEMS];
+    let mut arguments = [0u32; sizes::ARGUMENTS];
+    let mut blocks = [0u32; sizes::BLOCKS];
+    let mut predecessors = [0u32; sizes::PREDECESSORS];
+    let mut message = [0u8; limits::MESSAGE];
     checker::check(
         text,
         &mut tokens,

@@ -3,10 +3,13 @@ use crate::given::Given;
 use crate::load::Lengths;
 use checker::CheckAnswer;
 
+// No number of an answer.
+const NO_ANSWER: u32 = 99;
+
 // No answer at all: a case that says more than the slices have.
 fn none() -> CheckAnswer {
     CheckAnswer {
-        number: 99,
+        number: NO_ANSWER,
         line: 0,
         place: 0,
         tokens: 0,

@@ -8,11 +8,15 @@ mod load;
 mod part;
 
 use compare::Outcome;
+use functions::columns;
+use functions::sizes;
 use given::Given;
 use part::Part;
 use replay::Tally;
 use replay::held::OLD_BYTE;
 use replay::held::OLD_CELL;
+use replay::held::SPARE;
+use utils::limits;
 
 fn malformed(data: &[u8]) -> Outcome {
     Outcome {
@@ -81,14 +85,14 @@ fn with_slices<'t>(
     text: &'t [u8],
     cells: &mut [u32],
 ) -> Outcome {
-    let mut tokens = [OLD_CELL; 16400];
-    let mut names = [OLD_CELL; 2064];
-    let mut functions = [OLD_CELL; 2897];
-    let mut items = [OLD_CELL; 24592];
-    let mut arguments = [OLD_CELL; 6944];
-    let mut blocks = [OLD_CELL; 8208];
-    let mut predecessors = [OLD_CELL; 2064];
-    let mut message = [OLD_BYTE; 528];
+    let mut tokens = [OLD_CELL; lexer::sizes::TOKENS + SPARE];
+    let mut names = [OLD_CELL; lexer::sizes::NAMES + SPARE];
+    let mut functions = [OLD_CELL; columns::TABLE + SPARE];
+    let mut items = [OLD_CELL; sizes::ITEMS + SPARE];
+    let mut arguments = [OLD_CELL; sizes::ARGUMENTS + SPARE];
+    let mut blocks = [OLD_CELL; sizes::BLOCKS + SPARE];
+    let mut predecessors = [OLD_CELL; sizes::PREDECESSORS + SPARE];
+    let mut message = [OLD_BYTE; limits::MESSAGE + SPARE];
     ask(
         data,
         from,
@@ -143,8 +147,8 @@ fn with_given(
 
 // A case: `again`, whether it is one of recheck.
 fn run_case(data: &[u8], from: usize, again: bool, cells: &mut [u32], text: &mut [u8]) -> Outcome {
-    let mut old = [0u8; 24592];
-    let mut table = [0u32; 2897];
+    let mut old = [0u8; sizes::ITEMS + SPARE];
+    let mut table = [0u32; columns::TABLE + SPARE];
     with_given(data, from, again, cells, &mut old, &mut table, text)
 }
 
@@ -241,9 +245,12 @@ fn start(data: &mut [u8], cells: &mut [u32], text: &mut [u8]) {
     run(&data[..got], cells, text);
 }
 
+// Room for the file of cases.
+const FILE: usize = 524288;
+
 fn main() {
-    let mut data = [0u8; 524288];
-    let mut cells = [0u32; 24592];
-    let mut text = [0u8; 24592];
+    let mut data = [0u8; FILE];
+    let mut cells = [0u32; sizes::ITEMS + SPARE];
+    let mut text = [0u8; sizes::ITEMS + SPARE];
     start(&mut data, &mut cells, &mut text);
 }

@@ -5,9 +5,12 @@ mod load;
 
 use compare::Outcome;
 use compare::Part;
+use lexer::sizes;
 use replay::Tally;
 use replay::held::OLD_BYTE;
 use replay::held::OLD_CELL;
+use replay::held::SPARE;
+use utils::limits;
 
 fn malformed(data: &[u8]) -> Outcome {
     Outcome {
@@ -64,9 +67,9 @@ fn lend(
 
 // A case with its text: the slices are made anew, longer than their sizes, and hold the old pattern.
 fn with_slices(data: &[u8], from: usize, text: &[u8], cells: &mut [u32]) -> Outcome {
-    let mut tokens = [OLD_CELL; 16400];
-    let mut names = [OLD_CELL; 2064];
-    let mut message = [OLD_BYTE; 528];
+    let mut tokens = [OLD_CELL; sizes::TOKENS + SPARE];
+    let mut names = [OLD_CELL; sizes::NAMES + SPARE];
+    let mut message = [OLD_BYTE; limits::MESSAGE + SPARE];
     lend(
         data,
         from,
@@ -149,10 +152,13 @@ fn run(data: &[u8], cells: &mut [u32], text: &mut [u8]) {
     print_tally(shorts, b" calls with a short slice: ");
 }
 
+// Room for the file of cases.
+const FILE: usize = 131072;
+
 fn main() {
-    let mut data = [0u8; 131072];
+    let mut data = [0u8; FILE];
     let got = io::read_full(0, &mut data);
-    let mut cells = [0u32; 16400];
-    let mut text = [0u8; 16400];
+    let mut cells = [0u32; sizes::TOKENS + SPARE];
+    let mut text = [0u8; sizes::TOKENS + SPARE];
     run(&data[..got], &mut cells, &mut text);
 }

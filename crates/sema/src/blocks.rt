@@ -15,9 +15,11 @@ use crate::operations;
 use crate::symbols;
 use body::ItemRecord;
 use body::Last;
+use body::kinds;
 use body::records::record_at;
 use lexer::token_at;
 use pieces::Identifier;
+use utils::numbers;
 
 // A record that is neither a call nor a `br`; x is the name in its last two cells. Labels, and operations that look
 // nothing up and enter nothing, are fine.
@@ -38,11 +40,11 @@ fn analyze_plain(
     let ty = r.dty;
     let left = r.left;
     match kind {
-        2 => operations::analyze_bin_op(table, word, w, result, ty, left, x),
-        3 => operations::analyze_unary_op(table, word, w, result, ty, left),
-        4 => operations::analyze_const(table, word, w, result, ty),
-        11 => operations::analyze_ret(ret, w),
-        12 => operations::analyze_ret_value(table, ret, w, left),
+        kinds::BINARY => operations::analyze_bin_op(table, word, w, result, ty, left, x),
+        kinds::UNARY => operations::analyze_unary_op(table, word, w, result, ty, left),
+        kinds::CONST => operations::analyze_const(table, word, w, result, ty),
+        kinds::RET => operations::analyze_ret(ret, w),
+        kinds::RET_VALUE => operations::analyze_ret_value(table, ret, w, left),
         _ => Checked::Fine,
     }
 }
@@ -71,7 +73,7 @@ fn analyze_record(
         Last::Name(x, _) => analyze_plain(tokens, ret, table, r, x),
         Last::Labels(_, _) => Checked::Fine,
         Last::Run(first, count) => {
-            if r.kind == 6 {
+            if r.kind == kinds::CALL_INTO {
                 return calls::analyze_call_into(
                     table,
                     w,
@@ -121,11 +123,11 @@ fn expect_terminator(items: &[u32], first: u32, count: u32) -> Checked
     let last = record_at(items, i);
     let kind = last.kind;
     let w = last.token as usize;
-    if kind < 9 {
-        return symbols::refuse(21, w, 0, 0, Identifier(0));
+    if kind < kinds::JUMP {
+        return symbols::refuse(numbers::NO_TERMINATOR, w, 0, 0, Identifier(0));
     }
-    if 12 < kind {
-        return symbols::refuse(21, w, 0, 0, Identifier(0));
+    if kinds::RET_VALUE < kind {
+        return symbols::refuse(numbers::NO_TERMINATOR, w, 0, 0, Identifier(0));
     }
     Checked::Fine
 }

@@ -13,8 +13,12 @@ use crate::Checked;
 use crate::FoundRow;
 use crate::symbols;
 use functions::columns;
+use parser::VARIABLE_CELLS;
+use parser::types;
 use pieces::Identifier;
 use utils::cell_at;
+use utils::limits;
+use utils::numbers;
 
 // The first function of this name among n.
 fn find_function(rows: &[u32], n: usize, name: Identifier) -> FoundRow
@@ -36,7 +40,7 @@ fn argument_at(arguments: &[u32], at: usize) -> Identifier
     requires { ⌜ at ≤ 8589934592 ⌝ }
     ensures { λ r. ⌜ r ≡ named (getD (now (arguments .entry)) (at * 2) 0) ⌝ }
 {
-    Identifier(cell_at(arguments, at * 2))
+    Identifier(cell_at(arguments, at * VARIABLE_CELLS))
 }
 
 // 16 for the first argument that has no type.
@@ -49,7 +53,7 @@ fn look_arguments(table: &[u32], token: usize, arguments: &[u32], first: u32, co
     while 0 < left {
         let name = argument_at(arguments, at);
         if symbols::get(table, name) == 0 {
-            return symbols::refuse(16, token, 0, 0, name);
+            return symbols::refuse(numbers::UNDEFINED, token, 0, 0, name);
         }
         at += 1;
         left -= 1;
@@ -85,7 +89,7 @@ fn compare_arguments(
             }
             Checked::Fine => {
                 at += 1;
-                wanted += 2;
+                wanted += VARIABLE_CELLS;
                 left -= 1;
             }
         }
@@ -97,10 +101,10 @@ fn compare_arguments(
 pub(crate) fn at_most_16(n: u32) -> u32
     ensures { λ r. ⌜ (r ≡ atMost16 n) × (r ≤ 16) ⌝ }
 {
-    if n <= 16 {
+    if n <= limits::MOST_FORMALS {
         return n;
     }
-    16
+    limits::MOST_FORMALS
 }
 
 // The arguments of a call of the function in row i.
@@ -120,7 +124,7 @@ fn analyze_arguments(
 {
     let formals = at_most_16(rows[columns::COUNT + i * columns::ROW]);
     if formals != count {
-        return symbols::refuse(20, token, formals, count, Identifier(0));
+        return symbols::refuse(numbers::OTHER_COUNT, token, formals, count, Identifier(0));
     }
     match look_arguments(table, token, arguments, first, count) {
         Checked::Refused(e) => Checked::Refused(e),
@@ -163,10 +167,10 @@ pub fn analyze_call(
         (variablesAt (now (arguments .entry)) first count) ⌝ }
 {
     match find_function(rows, n, callee) {
-        FoundRow::Absent => symbols::refuse(16, token, 0, 0, callee),
+        FoundRow::Absent => symbols::refuse(numbers::UNDEFINED, token, 0, 0, callee),
         FoundRow::At(i) => {
-            if result_type(rows, i) != 3 {
-                return symbols::refuse(19, token, 0, 0, Identifier(0));
+            if result_type(rows, i) != types::VOID {
+                return symbols::refuse(numbers::NO_VALUE, token, 0, 0, Identifier(0));
             }
             analyze_arguments(table, token, rows, i, arguments, first, count)
         }
@@ -215,11 +219,11 @@ pub fn analyze_call_into(
         (variablesAt (now (arguments .entry)) first count) ⌝ }
 {
     match find_function(rows, n, callee) {
-        FoundRow::Absent => symbols::refuse(16, token, 0, 0, callee),
+        FoundRow::Absent => symbols::refuse(numbers::UNDEFINED, token, 0, 0, callee),
         FoundRow::At(i) => {
             let ret = result_type(rows, i);
-            if ret == 3 {
-                return symbols::refuse(18, token, 0, 0, Identifier(0));
+            if ret == types::VOID {
+                return symbols::refuse(numbers::VOID_VALUE, token, 0, 0, Identifier(0));
             }
             match symbols::expect_type(token, ty, ret) {
                 Checked::Refused(e) => Checked::Refused(e),

@@ -17,7 +17,9 @@ use functions::columns;
 use graph::Popped;
 use graph::RPOWorklist;
 use graph::blocks::block_at;
+use parser::VARIABLE_CELLS;
 use pieces::Identifier;
+use utils::limits;
 
 // Enters the formals from the cell `first` on.
 fn enter_formals(table: &mut [u32], token: u32, rows: &[u32], first: usize, count: u32) -> Checked
@@ -34,7 +36,7 @@ fn enter_formals(table: &mut [u32], token: u32, rows: &[u32], first: usize, coun
                 return Checked::Refused(e);
             }
             Checked::Fine => {
-                at += 2;
+                at += VARIABLE_CELLS;
                 left -= 1;
             }
         }
@@ -96,7 +98,7 @@ fn analyze_remaining(
     arguments: &[u32],
     blocks: &[u32],
     first: u32,
-    order: &[u32; 256],
+    order: &[u32; limits::BLOCKS],
     work: RPOWorklist,
 ) -> Checked
     requires { ⌜ (n ≤ 64) × (2881 ≤ length (now rows)) × (length (now order) ≡ 256) × (work .blocks ≤ 256) ⌝ }
@@ -146,7 +148,7 @@ fn analyze_blocks(
     let ret = calls::result_type(rows, row);
     let first = rows[columns::FIRST_BLOCK + row * columns::ROW];
     let count = rows[columns::BLOCKS + row * columns::ROW];
-    let mut order = [0u32; 256];
+    let mut order = [0u32; limits::BLOCKS];
     let work = RPOWorklist::new(blocks, first, count, &mut order);
     analyze_remaining(
         tokens,

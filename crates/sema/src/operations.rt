@@ -9,7 +9,10 @@ ghost use Rattle.sema.specs.Typing.{thenThree, operandsD, typeBinaryD, o
 ghost use Rattle.sema.specs.Typing.{typeRetD, typeRetValueD};
 use crate::Checked;
 use crate::symbols;
+use parser::types;
 use pieces::Identifier;
+use pieces::kinds;
+use utils::numbers;
 
 // The result's type, then the left and the right operand's.
 fn expect_three(
@@ -31,23 +34,22 @@ fn expect_three(
     }
 }
 
-// The types are int 1 and bool 2.
 fn expect_operands(kind: u32, token: usize, result: u32, left: u32, right: u32) -> Checked
     ensures { λ r. ⌜ ((t : List ℕ) → typed t r ≡ operandsD t kind token result left right) ⌝ }
 {
-    if kind <= 9 {
-        return expect_three(token, result, left, right, 1, 1);
+    if kind <= kinds::MOD {
+        return expect_three(token, result, left, right, types::INT, types::INT);
     }
-    if kind == 12 {
+    if kind == kinds::EQ {
         return match symbols::expect_type(token, right, left) {
             Checked::Refused(e) => Checked::Refused(e),
-            Checked::Fine => symbols::expect_type(token, result, 2),
+            Checked::Fine => symbols::expect_type(token, result, types::BOOL),
         };
     }
-    if kind <= 16 {
-        return expect_three(token, result, left, right, 2, 1);
+    if kind <= kinds::GE {
+        return expect_three(token, result, left, right, types::BOOL, types::INT);
     }
-    expect_three(token, result, left, right, 2, 2)
+    expect_three(token, result, left, right, types::BOOL, types::BOOL)
 }
 
 // Operands are looked up before the result is entered.
@@ -64,11 +66,11 @@ pub fn analyze_bin_op(
 {
     let left = symbols::get(table, lhs);
     if left == 0 {
-        return symbols::refuse(16, token, 0, 0, lhs);
+        return symbols::refuse(numbers::UNDEFINED, token, 0, 0, lhs);
     }
     let right = symbols::get(table, rhs);
     if right == 0 {
-        return symbols::refuse(16, token, 0, 0, rhs);
+        return symbols::refuse(numbers::UNDEFINED, token, 0, 0, rhs);
     }
     match symbols::insert(table, token, result, ty) {
         Checked::Refused(e) => Checked::Refused(e),
@@ -80,12 +82,12 @@ pub fn analyze_bin_op(
 fn expect_operand(kind: u32, token: usize, result: u32, operand: u32) -> Checked
     ensures { λ r. ⌜ ((t : List ℕ) → typed t r ≡ operandD t kind token result operand) ⌝ }
 {
-    if kind == 37 {
+    if kind == kinds::ID {
         return symbols::expect_type(token, operand, result);
     }
-    match symbols::expect_type(token, result, 2) {
+    match symbols::expect_type(token, result, types::BOOL) {
         Checked::Refused(e) => Checked::Refused(e),
-        Checked::Fine => symbols::expect_type(token, operand, 2),
+        Checked::Fine => symbols::expect_type(token, operand, types::BOOL),
     }
 }
 
@@ -101,7 +103,7 @@ pub fn analyze_unary_op(
 {
     let found = symbols::get(table, operand);
     if found == 0 {
-        return symbols::refuse(16, token, 0, 0, operand);
+        return symbols::refuse(numbers::UNDEFINED, token, 0, 0, operand);
     }
     match symbols::insert(table, token, result, ty) {
         Checked::Refused(e) => Checked::Refused(e),
@@ -112,10 +114,10 @@ pub fn analyze_unary_op(
 fn constant_type(kind: u32) -> u32
     ensures { λ r. ⌜ r ≡ pick (eqb kind 4) 1 2 ⌝ }
 {
-    if kind == 4 {
-        return 1;
+    if kind == kinds::INTEGER {
+        return types::INT;
     }
-    2
+    types::BOOL
 }
 
 // Compared before it is entered.
@@ -137,10 +139,10 @@ pub fn analyze_const(
 pub fn analyze_ret(ret: u32, token: usize) -> Checked
     ensures { λ r. ⌜ ((t : List ℕ) → typed t r ≡ typeRetD t ret token) ⌝ }
 {
-    if ret == 3 {
+    if ret == types::VOID {
         return Checked::Fine;
     }
-    symbols::refuse(19, token, 0, 0, Identifier(0))
+    symbols::refuse(numbers::NO_VALUE, token, 0, 0, Identifier(0))
 }
 
 pub fn analyze_ret_value(table: &[u32], ret: u32, token: usize, x: Identifier) -> Checked
@@ -148,10 +150,10 @@ pub fn analyze_ret_value(table: &[u32], ret: u32, token: usize, x: Identifier) -
 {
     let found = symbols::get(table, x);
     if found == 0 {
-        return symbols::refuse(16, token, 0, 0, x);
+        return symbols::refuse(numbers::UNDEFINED, token, 0, 0, x);
     }
-    if ret == 3 {
-        return symbols::refuse(18, token, 0, 0, Identifier(0));
+    if ret == types::VOID {
+        return symbols::refuse(numbers::VOID_VALUE, token, 0, 0, Identifier(0));
     }
     symbols::expect_type(token, found, ret)
 }

@@ -9,6 +9,7 @@ use crate::Checked;
 use parser::Refusal;
 use pieces::Identifier;
 use utils::cell_at;
+use utils::numbers;
 
 // The type that a name has, or 0.
 pub fn get(table: &[u32], name: Identifier) -> u32
@@ -46,7 +47,7 @@ pub fn insert(table: &mut [u32], token: usize, name: Identifier, ty: u32) -> Che
     if known == ty {
         return Checked::Fine;
     }
-    refuse(15, token, known, ty, name)
+    refuse(numbers::UNEXPECTED_TYPE, token, known, ty, name)
 }
 
 // 17 where the types differ.
@@ -56,5 +57,5 @@ pub fn expect_type(token: usize, found: u32, wanted: u32) -> Checked
     if found == wanted {
         return Checked::Fine;
     }
-    refuse(17, token, wanted, found, Identifier(0))
+    refuse(numbers::OTHER_TYPE, token, wanted, found, Identifier(0))
 }

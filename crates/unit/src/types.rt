@@ -8,6 +8,7 @@ ghost use Rattle.lexer.specs.Decoded.{tokensOf};
 ghost use Rattle.unit.specs.Rows.{RowsFit, typedRows, RowsHeld};
 use functions::columns;
 use sema::Checked;
+use utils::limits;
 
 // A cell of a row, as an index or a count.
 fn cell(rows: &[u32], at: usize) -> usize
@@ -71,7 +72,7 @@ pub fn type_rows(
         (typedRows (tokensOf (now (tokens .entry))) (now (rows .entry)) n (now (blocks .entry))
         (padTo 1024 []) first more (now (items .entry)) (now (arguments .entry))) ⌝ }
 {
-    let mut table = [0u32; 1024];
+    let mut table = [0u32; limits::NAMES];
     type_with(
         tokens,
         rows,

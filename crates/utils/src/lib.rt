@@ -1,4 +1,7 @@
 // The message form of utils/src/lib.rs, and the reads, stores and clears of lent buffers that every crate shares.
+pub mod limits;
+pub mod numbers;
+
 ghost use mathlib.Core.Path.{_≡_};
 ghost use Prim.Native.Nat.{ℕ, _+_, _-_, _<_, _≤_};
 ghost use mathlib.Core.List.{[], _++_};
@@ -53,6 +56,9 @@ pub fn put(buf: &mut [u8], at: usize, part: &[u8]) -> usize
     at + i
 }
 
+// The digit 0.
+const ZERO: u32 = b'0' as u32;
+
 // The highest digits first, so that no digit is stored twice.
 fn put_digits(buf: &mut [u8], at: usize, n: u32, most: usize) -> usize
     requires { ⌜ at + most ≤ length (now buf) ⌝ }
@@ -63,13 +69,16 @@ fn put_digits(buf: &mut [u8], at: usize, n: u32, most: usize) -> usize
         return at;
     }
     if n < 10 {
-        buf[at] = (48 + n) as u8;
+        buf[at] = (ZERO + n) as u8;
         return at + 1;
     }
     let k = put_digits(buf, at, n / 10, most - 1);
-    buf[k] = (48 + n % 10) as u8;
+    buf[k] = (ZERO + n % 10) as u8;
     k + 1
 }
+
+// The digits of a number of 32 bits, at most.
+const DIGITS: usize = 10;
 
 // A number in decimal, and the place after it.
 pub fn put_decimal(buf: &mut [u8], at: usize, n: u32) -> usize
@@ -77,7 +86,7 @@ pub fn put_decimal(buf: &mut [u8], at: usize, n: u32) -> usize
     ensures { λ r. ⌜ (r ≡ at + length (decimal n))
         × (now (buf .exit) ≡ sets (now (buf .entry)) at (decimal n)) × (r ≤ at + 10) ⌝ }
 {
-    put_digits(buf, at, n, 10)
+    put_digits(buf, at, n, DIGITS)
 }
 
 // Everything of a message from its start, and the place after it.
