@@ -207,7 +207,8 @@ few-none : (ls : List ℕ) → length ls ≤ 255 → FewIn ls []
 unfolding labelsOf
 few-none ls h = omega arith
 
-few-label : (ls : List ℕ) (w : ℕ) (l : Identifier) (is : List Item) → FewIn (ls ++ (l .0 ∷ [])) is → FewIn ls (label w l ∷ is)
+few-label : (ls : List ℕ) (w : ℕ) (l : Identifier) (is : List Item) → FewIn (ls ++ (l .0 ∷ [])) is → FewIn ls
+    (label w l ∷ is)
 unfolding labelsOf
 few-label ls w l is h = omega (arith, h, length-append ls (l .0 ∷ []))
 

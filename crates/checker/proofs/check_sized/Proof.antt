@@ -20,7 +20,8 @@ check-lexed-requires c κs =
     let pre = back24 .before .before .before .before .before .pre in (
       is-lexed (now (a .text)) (now (a .tokens)) (now (a .names)) (now (a .message)) (read .result) (read .last .1 .0)
           (read .last .1 .1 .0) (read .last .1 .1 .1 .0) (read .ensures) (sized-read _ _ _ (pre .tokens-long)
-          (pre .names-long) (pre .message-long)) (read .kept .1 .0) (read .kept .1 .1 .0) (read .kept .1 .1 .1 .0) (if1 .taken),
+          (pre .names-long) (pre .message-long)) (read .kept .1 .0) (read .kept .1 .1 .0) (read .kept .1 .1 .1 .0)
+          (if1 .taken),
       record {
         message-long = omega (arith, pre .message-long, read .kept .1 .1 .1 .0);
         tokens-long = omega (arith, pre .tokens-long, read .kept .1 .0);
