@@ -3,3 +3,5 @@
 pub mod Bytes
 -- the form itself
 pub mod Message
+-- document 01's limits by name
+pub mod Limits
