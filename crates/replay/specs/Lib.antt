@@ -1,4 +1,4 @@
--- What a file of fixed cases holds (crates/replay_read/make.py, "The file"), in reading order.
+-- What a file of fixed cases holds (host/tests/support/case_file.rs, "The file"), in reading order.
 -- numbers, and the comments between them
 pub mod Numbers
 -- lists of numbers and of bytes

@@ -1,4 +1,4 @@
-// Decodes a file of fixed cases: numbers, and lists of numbers or bytes, in the form that crates/replay_read/make.py gives.
+// Decodes a file of fixed cases: numbers, and lists of numbers or bytes, as host/tests/support/case_file.rs has them.
 // A byte follows every number and every list of a good file. So a place that is the file's length says that the file is
 // malformed; each function here passes it on, and the caller looks once.
 ghost use mathlib.Core.Path.{_≡_};

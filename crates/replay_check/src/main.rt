@@ -1,6 +1,6 @@
 // Replays fixed cases against `checker::check` and `recheck::recheck`, and compares all that they answer and write. The
-// cases stand on standard input; host/examples/cases.rs makes them, and says what the file holds and where the expected
-// answers come from.
+// cases stand on standard input; host/examples/replay_check.rs makes them, and says what the file holds and where the
+// expected answers come from.
 mod compare;
 mod given;
 mod lend;

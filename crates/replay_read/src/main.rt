@@ -1,5 +1,6 @@
 // Replays fixed cases against `lexer::read`, and compares all that it answers and writes. The cases stand on
-// standard input; make.py makes them, and says what the file holds and where the expected answers come from.
+// standard input; host/examples/replay_read.rs makes them, and says what the file holds and where the expected answers
+// come from.
 mod compare;
 mod load;
 

@@ -38,7 +38,7 @@ impl Lent {
         let answer = raw::read(text, &mut self.read_out, &mut self.message);
         same_answer(&answer, &read_answer(&expected, &cells))?;
         same_bytes("records", &self.read_out, &cells.bytes(2))?;
-        same_bytes("message", &self.message, message_of(&expected))?;
+        same_bytes("message", &self.message, expected.message())?;
         Ok(said)
     }
 
@@ -98,7 +98,7 @@ impl Lent {
         let cells = Cells::of_check(expected);
         same_answer(answer, &check_answer(expected, &cells))?;
         same_bytes("records", &self.check_out, &cells.bytes(7))?;
-        same_bytes("message", &self.message, message_of(expected))
+        same_bytes("message", &self.message, expected.message())
     }
 }
 
@@ -141,12 +141,5 @@ fn check_answer(said: &Said, cells: &Cells) -> CheckAnswer {
         arguments: counts.arguments,
         blocks: counts.blocks,
         predecessors: counts.predecessors,
-    }
-}
-
-fn message_of(said: &Said) -> &[u8] {
-    match said {
-        Said::Accepted { .. } => &[],
-        Said::Refused { message, .. } => message,
     }
 }

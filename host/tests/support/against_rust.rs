@@ -5,7 +5,7 @@ use pitchsleet::Printable;
 
 use super::model;
 use super::oracle::{RustFunction, RustOperation, RustSaid, RustToken};
-use super::said::{Said, SaidFunction, SaidOperation, SaidToken};
+use super::said::{Said, SaidFunction, SaidName, SaidOperation, SaidToken};
 
 /// Every field that the Rust has must be equal. A place, which it has not, is right where the text has at it what the Rust
 /// speaks of. An empty block is 22 here and a panic there.
@@ -28,6 +28,7 @@ pub fn compare_with_rust(text: &[u8], said: &Said, rust: &RustSaid) -> Result<()
             }
             let spellings: Vec<&str> = names.iter().map(|name| name.spelling.as_str()).collect();
             same("list of names", &spellings, &their_names.iter().map(String::as_str).collect())?;
+            names.iter().try_for_each(|name| name_stands(text, name))?;
             rising(tokens.iter().map(|token| token.place))?;
             rising(names.iter().map(|name| name.place))?;
             same("count of functions", &functions.len(), &their_functions.len())?;
@@ -95,6 +96,15 @@ fn token_stands_at(text: &[u8], place: usize, token: &RustToken, names: &[String
         ("local" | "global" | "label", Some(number)) => word_at_front(rest) == names[number as usize].as_bytes(),
         (word, _) if word.as_bytes()[0].is_ascii_alphabetic() => word_at_front(rest) == word.as_bytes(),
         (symbol, _) => rest.starts_with(symbol.as_bytes()),
+    }
+}
+
+fn name_stands(text: &[u8], name: &SaidName) -> Result<(), String> {
+    let stands = text.get(name.place..).is_some_and(|rest| word_at_front(rest) == name.spelling.as_bytes());
+    if stands {
+        Ok(())
+    } else {
+        Err(format!("the place {}: the name {} does not stand there", name.place, name.spelling))
     }
 }
 

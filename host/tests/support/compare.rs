@@ -8,7 +8,6 @@ use super::against_model::Lent;
 use super::against_rust::compare_with_rust;
 use super::model;
 use super::oracle::{Depth, Oracle, RustSaid};
-use super::said::Said;
 
 /// How many texts the oracle is asked at once.
 const BATCH: usize = 512;
@@ -181,7 +180,7 @@ fn compare(depth: Depth, lent: &mut Lent, text: &[u8], rust: Option<&RustSaid>) 
     };
     let with = match rust {
         None => With::ModelAlone,
-        Some(_) if is_by_a_limit(&said) => With::ModelAlone,
+        Some(_) if is_by_a_limit(said.number()) => With::ModelAlone,
         Some(_) if order_is_open => With::ModelForTheOrder,
         Some(rust) => {
             compare_with_rust(text, &said, rust)?;
@@ -192,6 +191,6 @@ fn compare(depth: Depth, lent: &mut Lent, text: &[u8], rust: Option<&RustSaid>) 
 }
 
 /// The Rust knows no limits: where one decides, the model alone is compared with.
-fn is_by_a_limit(said: &Said) -> bool {
-    (31..=38).contains(&said.number())
+pub fn is_by_a_limit(number: u32) -> bool {
+    (31..=38).contains(&number)
 }

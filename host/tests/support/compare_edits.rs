@@ -8,6 +8,7 @@ use pitchsleet::Printable;
 use super::against_fresh::{Premise, Rechecked, compare_with_fresh};
 use super::against_model::Lent;
 use super::against_rust::compare_with_rust;
+use super::compare::is_by_a_limit;
 use super::demand_3::{Held, hold_to_demand_3};
 use super::edits::{Edit, Quadruple};
 use super::oracle::{Depth, Oracle};
@@ -215,9 +216,4 @@ fn compare(lent: &mut Lent, edit: &Edit) -> Result<(Rechecked, Held), String> {
         return Err(format!("the C functions come to {by_cells:?}, the model to {by_model:?}, with the text {edited}"));
     }
     Ok((rechecked, held))
-}
-
-/// The Rust knows no limits.
-fn is_by_a_limit(number: u32) -> bool {
-    (31..=38).contains(&number)
 }

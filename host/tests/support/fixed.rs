@@ -23,11 +23,16 @@ pub fn all() -> Vec<Titled> {
         limits(),
         generated(),
     ];
-    let mut seen = HashSet::new();
-    lists.into_iter().flatten().filter(|(_, text)| seen.insert(text.clone())).collect()
+    distinct(lists.concat())
 }
 
-fn titled<T: AsRef<[u8]>>(title: &str, texts: impl IntoIterator<Item = T>) -> Vec<Titled> {
+/// Each text once, with the first of its titles.
+pub fn distinct(texts: Vec<Titled>) -> Vec<Titled> {
+    let mut seen = HashSet::new();
+    texts.into_iter().filter(|(_, text)| seen.insert(text.clone())).collect()
+}
+
+pub fn titled<T: AsRef<[u8]>>(title: &str, texts: impl IntoIterator<Item = T>) -> Vec<Titled> {
     texts.into_iter().map(|text| (title.to_owned(), text.as_ref().to_vec())).collect()
 }
 
@@ -221,7 +226,7 @@ fn written() -> Vec<Titled> {
     )
 }
 
-const FACTORIAL: &str = "# The factorial, with a loop.
+pub const FACTORIAL: &str = "# The factorial, with a loop.
 @fact(n: int): int {
   one: int = const 1;
   r: int = id one;
@@ -244,7 +249,7 @@ const FACTORIAL: &str = "# The factorial, with a loop.
 }
 ";
 
-const GCD: &str = "@gcd(a: int, b: int): int {
+pub const GCD: &str = "@gcd(a: int, b: int): int {
 .loop: zero: int = const 0; c: bool = eq b zero; br c .out .step;
 .step: t: int = mod a b; a: int = id b; b: int = id t; jmp .loop;
 .out: ret a; }

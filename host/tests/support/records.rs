@@ -202,7 +202,7 @@ impl Cells {
 }
 
 /// The kinds of tokens in the order of the Rust's enum, which numbers them from 1.
-const KINDS: [&str; 38] = [
+pub const KINDS: [&str; 38] = [
     "local", "global", "label", "integer", "add", "mul", "sub", "div", "mod", "true", "false", "eq", "lt", "gt", "le",
     "ge", "not", "and", "or", "jmp", "br", "call", "ret", "=", "(", ")", "{", "}", ":", ";", ",", "int", "bool",
     "const", "print", "nop", "id", "END_OF_FILE",

@@ -1,7 +1,31 @@
-//! The edges of each rule of parsing and typing, in document 01's order: under each rule the least texts that keep it and
-//! that break it.
+//! The edges of each rule, in document 01's order: under each rule the least texts that keep it and that break it.
 
-/// The rules, each with its texts.
+/// The rules of lexing, each with its texts, several edges in a text.
+pub const LEXING: [(&str, &[&str]); 7] = [
+    ("blanks and lines", &[" \t\r", "x\n\r\n x"]),
+    (
+        "every word and every token of one byte",
+        &[
+            "add mul sub div mod true false eq lt gt le ge not and or jmp br call ret",
+            "=(){}:;,int bool const print nop id",
+            "a:int=-5,7b",
+        ],
+    ),
+    ("comments eat their newlines", &["// /*\n\nx", "/*\n\n*/\nx", "\n /*\n*"]),
+    ("numbers side by side", &["00000000007 99999999999999999999", "-0-1"]),
+    ("what begins a name, and where it ends", &["._", "x[", "x\n $", "x@y.z", "int ints Int @int .int"]),
+    ("one table for all kinds of names", &["x @x .x x", "aZ_9 aZ_ zA0 aZ_9"]),
+    (
+        "64 bytes with the sigil, and one more",
+        &[
+            "@a23456789_123456789_123456789_123456789_123456789_123456789_123",
+            "@a23456789_123456789_123456789_123456789_123456789_123456789_1234 $",
+            "\n a123456789_123456789_123456789_123456789_123456789_123456789_1234",
+        ],
+    ),
+];
+
+/// The rules of parsing and typing, each with its texts.
 pub const RULES: [(&str, &[&str]); 16] = [
     ("edges, predecessors, a dead block", &["@f { jmp .b; .a: nop; .b: br x .a .b; }", "@f { ret; .a: nop; }"]),
     (

@@ -176,6 +176,14 @@ impl Said {
     pub fn number(&self) -> u32 {
         self.verdict().number
     }
+
+    /// The message of a refusal; an accepted text has none.
+    pub fn message(&self) -> &[u8] {
+        match self {
+            Self::Accepted { .. } => &[],
+            Self::Refused { message, .. } => message,
+        }
+    }
 }
 
 /// On one line, for a person who looks for a difference.

@@ -1,7 +1,7 @@
 //! Document 01's reading, checking and rechecking, written from its sentences. It has no code in common with the proved crates or with
 //! the Rust, and it alone decides what the limits do and what an empty block is, which the Rust doesn't have.
 mod parsing;
-mod reading;
+pub mod reading;
 mod rechecking;
 mod typing;
 

@@ -49,15 +49,17 @@ pub fn read(text: &[u8]) -> Said {
 
 /// The answer to a text whose first line has a number.
 pub fn read_from(line: u32, text: &[u8]) -> Said {
-    let mut reading = Reading { text, line, place: 0, tokens: Vec::new(), names: Vec::new(), numbers: HashMap::new() };
-    match reading.whole() {
-        Err(stop) => stop.said(),
-        Ok(()) => Said::Accepted { tokens: reading.tokens, names: reading.names, functions: Vec::new() },
-    }
+    Reading::new(line, text, true).said()
+}
+
+/// The answer that a text would have if there were no limits: the Rust's own.
+pub fn read_without_limits(text: &[u8]) -> Said {
+    Reading::new(1, text, false).said()
 }
 
 struct Reading<'t> {
     text: &'t [u8],
+    is_limited: bool,
     line: u32,
     place: usize,
     tokens: Vec<SaidToken>,
@@ -66,9 +68,21 @@ struct Reading<'t> {
 }
 
 impl<'t> Reading<'t> {
+    fn new(line: u32, text: &'t [u8], is_limited: bool) -> Self {
+        let (tokens, names, numbers) = (Vec::new(), Vec::new(), HashMap::new());
+        Self { text, is_limited, line, place: 0, tokens, names, numbers }
+    }
+
+    fn said(mut self) -> Said {
+        match self.whole() {
+            Err(stop) => stop.said(),
+            Ok(()) => Said::Accepted { tokens: self.tokens, names: self.names, functions: Vec::new() },
+        }
+    }
+
     /// "Order: 31, 1, then from left to right."
     fn whole(&mut self) -> Result<(), Stop> {
-        if self.text.len() > BYTES {
+        if self.is_limited && self.text.len() > BYTES {
             return Err(Stop { number: 31, line: 0, place: 0, words: "too many bytes.".to_owned() });
         }
         if self.text.iter().any(|&byte| byte > 127) {
@@ -114,14 +128,14 @@ impl<'t> Reading<'t> {
     /// "For one name 34 comes before 33, and both before 32."
     fn name(&mut self, length: usize) -> Result<usize, Stop> {
         let spelling = &self.text[self.place..][..length];
-        if length > NAME {
+        if self.is_limited && length > NAME {
             self.stop(34, "name too long.")?;
         }
         if let Some(&known) = self.numbers.get(spelling) {
             return Ok(known);
         }
         let number = self.names.len();
-        if number == NAMES {
+        if self.is_limited && number == NAMES {
             self.stop(33, "too many names.")?;
         }
         self.numbers.insert(spelling, number);
@@ -131,7 +145,7 @@ impl<'t> Reading<'t> {
     }
 
     fn token(&mut self, kind: &'static str, value: Option<i64>) -> Result<(), Stop> {
-        if self.tokens.len() == TOKENS {
+        if self.is_limited && self.tokens.len() == TOKENS {
             self.stop(32, "too many tokens.")?;
         }
         self.tokens.push(SaidToken { kind, value, line: self.line, place: self.place });
