@@ -7,6 +7,7 @@ use lib.ListN.{length}
 use lib.Seq.{sets}
 use Rattle.lexer.specs.Decoded.{Tok}
 use Rattle.parser.specs.Step.{thenAt}
+use Rattle.utils.specs.Limits.{mostTokens, mostLabels}
 use Rattle.body.specs.Body.{Item, Body, afterBrace, bodyD, labelsOf, closedItems}
 use Rattle.body.specs.Shapes.{shapesOf}
 use Rattle.parser.specs.declared.Consumed.{Consumed}
@@ -18,7 +19,7 @@ use Rattle.body.specs.declared.BodyRead.the-variants as B
 
 -- a function's body, from after its opening brace
 abbrev pub functionBody : List Tok → ℕ → Body
-functionBody ts at = bodyD ts 4096 [] afterBrace at
+functionBody ts at = bodyD ts mostTokens [] afterBrace at
 
 -- where to go on, and how many items, arguments and labels there are; or the refusal
 unfoldable pub bodyRead : Bool → Body → BodyRead
@@ -38,7 +39,7 @@ pub record Stored (ts : List Tok) (void : Bool) (is : List Item) (at first used 
   pub items-are : items ≡ sets items₀ (first * 8) (itemsCells used (closedItems void is))
   pub arguments-are : arguments ≡ sets arguments₀ (used * 2) (argumentsCells is)
   pub labels-are : labels ≡ sets labels₀ 0 (labelsOf is)
-  pub few-labels : length (labelsOf is) ≤ 255
+  pub few-labels : length (labelsOf is) ≤ mostLabels
   pub on : Within ts next
   pub bounds : Bounds at next (length (closedItems void is)) (argumentsCount is)
       (filled true (shapesOf (closedItems void is)))

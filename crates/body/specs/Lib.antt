@@ -3,6 +3,8 @@
 pub mod Body
 -- what blocks are made of
 pub mod Shapes
+-- the kinds of items by name
+pub mod Kinds
 -- an item's record, and the argument's run
 pub mod Records
 -- how many items, arguments and blocks so many tokens make

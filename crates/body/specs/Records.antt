@@ -8,6 +8,7 @@ use mathlib.Core.List.{List, [], _∷_, _++_}
 use lib.Dec.{eqb}
 use lib.ListN.{length, getD}
 use Rattle.utils.specs.Bytes.{pick}
+use Rattle.body.specs.Kinds as K
 use Rattle.pieces.specs.declared.Identifier.{Identifier}
 use Rattle.parser.specs.Runs.{typeCell, variablesCells}
 use Rattle.body.specs.Body.{Item, label, plain, call, callInto, argumentsIn}
@@ -31,25 +32,23 @@ itemRecord k w d dt l lt z = record { kind = k; token = w; dest = d; dty = dt; l
 abbrev pub nothing : Last
 nothing = L.Name none 0
 
--- The kinds: 1 a label, 2 binary, 3 unary, 4 `const`, 5 a call, 6 a call with a result, 7 `print`, 8 `nop`, and those
--- that end a block: 9 `jmp`, 10 `br`, 11 `ret`, 12 `ret` with a value.
 unfoldable pub operationRecord : Operation → ItemRecord
-operationRecord (O.BinaryOp w v x y) = itemRecord 2 w (v .id) (typeCell (v .ty)) x 0 (L.Name y 0)
-operationRecord (O.UnaryOp w v x) = itemRecord 3 w (v .id) (typeCell (v .ty)) x 0 nothing
-operationRecord (O.Const w v) = itemRecord 4 w (v .id) (typeCell (v .ty)) none 0 nothing
-operationRecord (O.Print w x) = itemRecord 7 w none 0 x 0 nothing
-operationRecord (O.Nop w) = itemRecord 8 w none 0 none 0 nothing
-operationRecord (O.Jump w l) = itemRecord 9 w none 0 none 0 (L.Name l 0)
-operationRecord (O.Branch w x l m) = itemRecord 10 w none 0 x 0 (L.Labels l m)
-operationRecord (O.Ret w) = itemRecord 11 w none 0 none 0 nothing
-operationRecord (O.RetValue w x) = itemRecord 12 w none 0 x 0 nothing
+operationRecord (O.BinaryOp w v x y) = itemRecord K.binary w (v .id) (typeCell (v .ty)) x 0 (L.Name y 0)
+operationRecord (O.UnaryOp w v x) = itemRecord K.unary w (v .id) (typeCell (v .ty)) x 0 nothing
+operationRecord (O.Const w v) = itemRecord K.const w (v .id) (typeCell (v .ty)) none 0 nothing
+operationRecord (O.Print w x) = itemRecord K.print w none 0 x 0 nothing
+operationRecord (O.Nop w) = itemRecord K.nop w none 0 none 0 nothing
+operationRecord (O.Jump w l) = itemRecord K.jump w none 0 none 0 (L.Name l 0)
+operationRecord (O.Branch w x l m) = itemRecord K.branch w none 0 x 0 (L.Labels l m)
+operationRecord (O.Ret w) = itemRecord K.ret w none 0 none 0 nothing
+operationRecord (O.RetValue w x) = itemRecord K.retValue w none 0 x 0 nothing
 
 -- an item whose arguments, if it has any, begin at `used`
 unfoldable pub recordOf : ℕ → Item → ItemRecord
-recordOf used (label w l) = itemRecord 1 w none 0 none 0 (L.Name l 0)
+recordOf used (label w l) = itemRecord K.label w none 0 none 0 (L.Name l 0)
 recordOf used (plain o) = operationRecord o
-recordOf used (call w g xs) = itemRecord 5 w none 0 g 0 (L.Run used (length xs))
-recordOf used (callInto w v g xs) = itemRecord 6 w (v .id) (typeCell (v .ty)) g 0 (L.Run used (length xs))
+recordOf used (call w g xs) = itemRecord K.call w none 0 g 0 (L.Run used (length xs))
+recordOf used (callInto w v g xs) = itemRecord K.callInto w (v .id) (typeCell (v .ty)) g 0 (L.Run used (length xs))
 
 -- the last two cells
 abbrev pub firstCell : Last → ℕ
@@ -85,9 +84,9 @@ argumentsCount (i ∷ is) = length (argumentsIn i) + argumentsCount is
 -- what two cells hold, by the kind of their record
 unfoldable pub lastOf : ℕ → ℕ → ℕ → Last
 lastOf kind first second =
-    pick (eqb kind 5) (L.Run first second)
-    (pick (eqb kind 6) (L.Run first second)
-    (pick (eqb kind 10) (L.Labels (named first) (named second))
+    pick (eqb kind K.call) (L.Run first second)
+    (pick (eqb kind K.callInto) (L.Run first second)
+    (pick (eqb kind K.branch) (L.Labels (named first) (named second))
     (L.Name (named first) second)))
 
 -- the record at an index
@@ -104,7 +103,7 @@ recordAt cells i =
 
 -- what blocks and edges need of a record: a label's name, or an operation's token and the labels that it goes to
 unfoldable pub goesBy : ℕ → Last → List ℕ
-goesBy kind (L.Name l t) = pick (eqb kind 9) (l .0 ∷ []) []
+goesBy kind (L.Name l t) = pick (eqb kind K.jump) (l .0 ∷ []) []
 goesBy kind (L.Labels l m) = l .0 ∷ m .0 ∷ []
 goesBy kind (L.Run first count) = []
 
@@ -112,7 +111,7 @@ abbrev pub goesOf : ItemRecord → List ℕ
 goesOf r = goesBy (r .kind) (r .last)
 
 unfoldable pub recordPart : ItemRecord → Shape
-recordPart r = pick (eqb (r .kind) 1) (name (firstCell (r .last))) (operation (r .token) (goesOf r))
+recordPart r = pick (eqb (r .kind) K.label) (name (firstCell (r .last))) (operation (r .token) (goesOf r))
 
 -- the parts of `count` records from the index `first` on
 unfoldable pub partsAt : List ℕ → ℕ → ℕ → List Shape

@@ -6,8 +6,15 @@ use mathlib.Core.List.{List, [], _∷_}
 use mathlib.Core.Bool.{Bool, true, false}
 use Rattle.utils.specs.Bytes.{pick}
 use Rattle.lexer.specs.Decoded.{Tok, tokenAt}
-use Rattle.parser.specs.Kinds as T
+use Rattle.pieces.specs.Kinds as T
 use Rattle.body.specs.Shapes.{Shape, name, operation}
+
+-- the slices' cells: 3,072 items, and 3,464 arguments
+abbrev pub itemsSize : ℕ
+itemsSize = 24576
+
+abbrev pub argumentsSize : ℕ
+argumentsSize = 6928
 
 -- The end token is one of the first 4,096, and this index is not behind it.
 pub record Within (ts : List Tok) (at : ℕ) : Type 0 where

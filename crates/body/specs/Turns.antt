@@ -9,6 +9,8 @@ use lib.ListN.{length, take, set}
 use lib.Seq.{sets}
 use Rattle.utils.specs.Bytes.{pick}
 use Rattle.lexer.specs.Decoded.{Tok}
+use Rattle.utils.specs.Limits.{mostLabels}
+use Rattle.body.specs.Kinds as K
 use Rattle.pieces.specs.declared.Identifier.{Identifier}
 use Rattle.parser.specs.Step.{refusal, thenAt}
 use Rattle.parser.specs.Runs.{Calling, variablesCells}
@@ -70,7 +72,7 @@ lateRefusal (I.Refused e) = e
 
 -- what stands behind an operation, by its record's kind
 unfoldable pub behindKind : ℕ → ℕ
-behindKind kind = pick (leb 9 kind) afterTerminator afterOperation
+behindKind kind = pick (leb K.jump kind) afterTerminator afterOperation
 
 -- The state. --------------------------------------------------------------------------------------------------------
 
@@ -103,7 +105,7 @@ pub record Ready (ts : List Tok) (s : Going) : Type 0 where
   pub within : Within ts (s .at)
   pub items-few : s .items * 4 ≤ s .at * 3
   pub arguments-few : s .arguments * 19 ≤ s .at * 16
-  pub labels-few : s .labels ≤ 255
+  pub labels-few : s .labels ≤ mostLabels
 
 -- The turns. --------------------------------------------------------------------------------------------------------
 
@@ -149,7 +151,7 @@ pub record LabelTaken (ts : List Tok) (void : Bool) (s s′ : Going) (items₀ i
   pub name : Identifier
   pub goes : labelledD ts (take (s .labels) labels₀) (s .at) ≡ N.At name (s′ .at)
   pub labels-next : s′ .labels ≡ s .labels + 1
-  pub labels-few : s′ .labels ≤ 255
+  pub labels-few : s′ .labels ≤ mostLabels
   pub labels-are : labels ≡ set labels₀ (s .labels) (name .0)
   pub passed : Passed ts (s .at) (s′ .at) (label (s .at) name)
   pub taken : Taken void (label (s .at) name) s s′ items₀ items [] []
@@ -169,7 +171,7 @@ pub record Gone (ts : List Tok) (void : Bool) (s s′ : Going) (items₀ items a
   pub read : Item
   pub goes : (room : ℕ) → bodyFrom ts (suc room) s labels₀ ≡ bodyThen read (bodyFrom ts room s′ labels)
   pub labels-next : s′ .labels ≡ s .labels + length (labelsOf (read ∷ []))
-  pub labels-few : s′ .labels ≤ 255
+  pub labels-few : s′ .labels ≤ mostLabels
   pub labels-are : labels ≡ sets labels₀ (s .labels) (labelsOf (read ∷ []))
   pub passed : Passed ts (s .at) (s′ .at) read
   pub taken : Taken void read s s′ items₀ items arguments₀ arguments

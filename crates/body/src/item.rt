@@ -5,7 +5,7 @@ ghost use lib.ListN.{length};
 ghost use Rattle.lexer.specs.Decoded.{tokensOf};
 ghost use Rattle.parser.specs.Runs.{variablesCells, callD};
 ghost use Rattle.body.specs.Body.{itemD};
-ghost use Rattle.body.specs.Room.{Within};
+ghost use Rattle.body.specs.Room.{Within, argumentsSize};
 ghost use Rattle.body.specs.Turns.{itemRead, ItemHeld, callRecord, callRead, CallHeld};
 use crate::ItemRead;
 use crate::Last;
@@ -30,7 +30,7 @@ fn parse_call_item(
     used: usize,
 ) -> ItemRead
     requires { ⌜ Within (tokensOf (now tokens)) word
-        × (used ≤ 3448) × (n * 8 + 8 ≤ length (now items)) × (6928 ≤ length (now arguments)) ⌝ }
+        × (used ≤ 3448) × (n * 8 + 8 ≤ length (now items)) × (argumentsSize ≤ length (now arguments)) ⌝ }
     ensures { λ r. ⌜ r ≡ callRead kind word dest dty used (callD (tokensOf (now (tokens .entry))) word) ⌝ }
     ensures { λ _. ⌜ CallHeld n used (callRecord kind word dest dty used (callD (tokensOf (now (tokens .entry))) word))
         (variablesCells (callD (tokensOf (now (tokens .entry))) word .arguments .list))
@@ -58,7 +58,7 @@ pub(crate) fn parse_item(
     used: usize,
 ) -> ItemRead
     requires { ⌜ Within (tokensOf (now tokens)) at
-        × (used ≤ 3448) × (n * 8 + 8 ≤ length (now items)) × (6928 ≤ length (now arguments)) ⌝ }
+        × (used ≤ 3448) × (n * 8 + 8 ≤ length (now items)) × (argumentsSize ≤ length (now arguments)) ⌝ }
     ensures { λ r. ⌜ r ≡ itemRead used (itemD (tokensOf (now (tokens .entry))) at) ⌝ }
     ensures { λ _. ⌜ ItemHeld n used (now (items .entry)) (now (items .exit)) (now (arguments .entry))
         (now (arguments .exit)) (itemD (tokensOf (now (tokens .entry))) at) ⌝ }

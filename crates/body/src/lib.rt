@@ -8,7 +8,8 @@ ghost use mathlib.Core.Path.{_≡_};
 ghost use Prim.Native.Nat.{ℕ, _*_, _≤_};
 ghost use lib.ListN.{length};
 ghost use Rattle.lexer.specs.Decoded.{tokensOf};
-ghost use Rattle.body.specs.Room.{Within};
+ghost use Rattle.utils.specs.Limits.{mostLabels};
+ghost use Rattle.body.specs.Room.{Within, itemsSize, argumentsSize};
 ghost use Rattle.body.specs.Answer.{functionBody, bodyRead, Held};
 use parser::Refusal;
 use pieces::Identifier;
@@ -87,7 +88,8 @@ pub fn parse_body(
 ) -> BodyRead
     requires { ⌜ Within (tokensOf (now tokens)) at ⌝ }
     requires { ⌜ (first * 4 ≤ at * 3) × (used * 19 ≤ at * 16) ⌝ }
-    requires { ⌜ (24576 ≤ length (now items)) × (6928 ≤ length (now arguments)) × (255 ≤ length (now labels)) ⌝ }
+    requires { ⌜ (itemsSize ≤ length (now items)) × (argumentsSize ≤ length (now arguments))
+        × (mostLabels ≤ length (now labels)) ⌝ }
     ensures { λ r. ⌜ r ≡ bodyRead void (functionBody (tokensOf (now (tokens .entry))) at) ⌝ }
     ensures { λ _. ⌜ Held (tokensOf (now (tokens .entry))) void
         (functionBody (tokensOf (now (tokens .entry))) at .items) at first used

@@ -4,6 +4,8 @@ ghost use Prim.Native.Nat.{_+_, _*_, _≤_};
 ghost use lib.ListN.{length};
 ghost use lib.Seq.{sets};
 ghost use Rattle.lexer.specs.Decoded.{tokensOf};
+ghost use Rattle.utils.specs.Limits.{mostLabels};
+ghost use Rattle.body.specs.Room.{itemsSize, argumentsSize};
 ghost use Rattle.body.specs.Body.{closes, lacksRet};
 ghost use Rattle.body.specs.Records.{itemsCells};
 ghost use Rattle.body.specs.Turns.{lateRefusal, behindKind, added, Ready, ItemTurned, LabelTurned, Turned};
@@ -92,7 +94,8 @@ fn refuse(read: ItemRead) -> Refusal
 }
 
 fn item_turn(tokens: &[u32], s: Going, items: &mut [u32], arguments: &mut [u32]) -> Turn
-    requires { ⌜ Ready (tokensOf (now tokens)) s × (24576 ≤ length (now items)) × (6928 ≤ length (now arguments)) ⌝ }
+    requires { ⌜ Ready (tokensOf (now tokens)) s × (itemsSize ≤ length (now items))
+        × (argumentsSize ≤ length (now arguments)) ⌝ }
     ensures { λ r. ⌜ ItemTurned (tokensOf (now (tokens .entry))) s (now (items .entry)) (now (items .exit))
         (now (arguments .entry)) (now (arguments .exit)) r ⌝ }
 {
@@ -118,7 +121,8 @@ fn item_turn(tokens: &[u32], s: Going, items: &mut [u32], arguments: &mut [u32])
 
 // A label closes the block before it.
 fn label_turn(tokens: &[u32], void: bool, s: Going, items: &mut [u32], labels: &mut [u32]) -> Turn
-    requires { ⌜ Ready (tokensOf (now tokens)) s × (24576 ≤ length (now items)) × (255 ≤ length (now labels)) ⌝ }
+    requires { ⌜ Ready (tokensOf (now tokens)) s × (itemsSize ≤ length (now items))
+        × (mostLabels ≤ length (now labels)) ⌝ }
     ensures { λ r. ⌜ LabelTurned (tokensOf (now (tokens .entry))) void s (now (items .entry)) (now (items .exit))
         (now (labels .entry)) (now (labels .exit)) r ⌝ }
 {
@@ -158,8 +162,9 @@ pub(crate) fn turn(
     arguments: &mut [u32],
     labels: &mut [u32],
 ) -> Turn
-    requires { ⌜ Ready (tokensOf (now tokens)) s × (24576 ≤ length (now items)) × (6928 ≤ length (now arguments))
-        × (255 ≤ length (now labels)) ⌝ }
+    requires { ⌜ Ready (tokensOf (now tokens)) s × (itemsSize ≤ length (now items))
+        × (argumentsSize ≤ length (now arguments))
+        × (mostLabels ≤ length (now labels)) ⌝ }
     ensures { λ r. ⌜ Turned (tokensOf (now (tokens .entry))) void s (now (items .entry)) (now (items .exit))
         (now (arguments .entry)) (now (arguments .exit)) (now (labels .entry)) (now (labels .exit)) r ⌝ }
 {

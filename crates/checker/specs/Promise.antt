@@ -8,6 +8,11 @@ use lib.ListN.{length}
 use Rattle.utils.specs.Bytes.{pick, padTo}
 use Rattle.lexer.specs.Read.{readFrom}
 use Rattle.lexer.specs.Decoded.{Tok}
+use Rattle.functions.specs.Columns.{tableSize}
+use Rattle.body.specs.Room.{itemsSize, argumentsSize}
+use Rattle.link.specs.Steps.{blocksSize, predecessorsSize}
+use Rattle.lexer.specs.Sizes.{tokensSize, namesSize}
+use Rattle.utils.specs.Limits.{messageSize}
 use Rattle.parser.specs.declared.Refusal.{Refusal}
 use Rattle.lexer.specs.declared.ReadAnswer.{ReadAnswer}
 use Rattle.functions.specs.Answer.{Long, Slices}
@@ -27,11 +32,12 @@ padded m t n u o =
 -- the cells of each slice (docs/INTERFACE.md), and 512 message bytes
 unfoldable pub sizedUnit : ℕ → ℕ → ℕ → ℕ → ℕ → Bool
 sizedUnit f i a b p =
-    pick (ltb f 2881) false (pick (ltb i 24576) false (pick (ltb a 6928) false (pick (ltb b 8192) false
-    (pick (ltb p 2048) false true))))
+    pick (ltb f tableSize) false
+    (pick (ltb i itemsSize) false (pick (ltb a argumentsSize) false (pick (ltb b blocksSize) false
+    (pick (ltb p predecessorsSize) false true))))
 
 unfoldable pub sized : ℕ → ℕ → ℕ → Bool → Bool
-sized m t n unit = pick (ltb t 16384) false (pick (ltb n 2048) false (pick (ltb m 512) false unit))
+sized m t n unit = pick (ltb t tokensSize) false (pick (ltb n namesSize) false (pick (ltb m messageSize) false unit))
 
 abbrev pub allSized : List ℕ → List ℕ → List ℕ → Slices → Bool
 allSized m t n u =
@@ -49,11 +55,12 @@ checkDef text m t n u = gated m t n u (checkOf text)
 
 -- What the inner functions say: the sizes that the gate has seen; the slices that `read` has written.
 abbrev pub IfSizedUnit : Bool → ℕ → ℕ → ℕ → ℕ → ℕ → Type 0
-IfSizedUnit true f i a b p = (2881 ≤ f) × (24576 ≤ i) × (6928 ≤ a) × (8192 ≤ b) × (2048 ≤ p)
+IfSizedUnit true f i a b p =
+    (tableSize ≤ f) × (itemsSize ≤ i) × (argumentsSize ≤ a) × (blocksSize ≤ b) × (predecessorsSize ≤ p)
 IfSizedUnit false f i a b p = Unit
 
 abbrev pub IfSized : Bool → Bool → ℕ → ℕ → ℕ → Type 0
-IfSized true unit m t n = (512 ≤ m) × (16384 ≤ t) × (2048 ≤ n) × (unit ≡ true)
+IfSized true unit m t n = (messageSize ≤ m) × (tokensSize ≤ t) × (namesSize ≤ n) × (unit ≡ true)
 IfSized false unit m t n = Unit
 
 -- a text whose first line has this number, once it is read and accepted
@@ -73,10 +80,10 @@ pub record Refuses (text ns : List ℕ) (ts : List Tok) (e : Refusal) (m₀ t₀
   pub names : n ≡ padTo (length n₀) []
 
 pub record Sizes (m t n : List ℕ) (u : Slices) : Type 0 where
-  pub message-long : 512 ≤ length m
-  pub tokens-long : 16384 ≤ length t
-  pub names-long : 2048 ≤ length n
-  pub functions-long : 2881 ≤ length (u .functions)
+  pub message-long : messageSize ≤ length m
+  pub tokens-long : tokensSize ≤ length t
+  pub names-long : namesSize ≤ length n
+  pub functions-long : tableSize ≤ length (u .functions)
   pub long : Long (u .items) (u .arguments) (u .blocks) (u .predecessors)
 
 -- what a definition's answer d permits, by parts with names

@@ -5,6 +5,7 @@ ghost use lib.ListN.{length, take};
 ghost use Rattle.lexer.specs.Decoded.{tokensOf};
 ghost use Rattle.functions.specs.Answer.{slices};
 ghost use Rattle.messages.specs.Messages.{ShortNames};
+ghost use Rattle.utils.specs.Limits.{messageSize};
 ghost use Rattle.checker.specs.Check.{accepted, checkRefusal, checkOf};
 ghost use Rattle.checker.specs.Promise.{checking, padded, Lexed, Refuses, Sizes};
 ghost use Rattle.checker.specs.Promise.{sized, sizedUnit, IfSized, IfSizedUnit, Checks};
@@ -83,7 +84,7 @@ pub fn refuse(
     e: Refusal,
 ) -> CheckAnswer
     requires { ⌜ (r .tokens * 4 ≤ length (now tokens)) × (r .names * 2 ≤ length (now names))
-        × (512 ≤ length (now message)) × ShortNames (now text) (take (r .names * 2) (now names)) ⌝ }
+        × (messageSize ≤ length (now message)) × ShortNames (now text) (take (r .names * 2) (now names)) ⌝ }
     ensures { λ res. ⌜ Refuses (now (text .entry)) (take (r .names * 2) (now (names .entry)))
         (tokensOf (take (r .tokens * 4) (now (tokens .entry)))) e
         (now (message .entry)) (now (tokens .entry)) (now (names .entry))

@@ -21,7 +21,7 @@ use Rattle.lexer.specs.Sound.{Sound, noToken, noPart}
 use Rattle.lexer.proofs.Sound.{read-sound, end-last, end-only-last}
 use Rattle.lexer.proofs.Same.{same-bytes-true, same-bytes-refl, length-spellings, spelling-at}
 use Rattle.lexer.proofs.Cells.{cells-token-at, names-cell, cells-name}
-use Rattle.parser.specs.Kinds as T
+use Rattle.pieces.specs.Kinds as T
 use Rattle.parser.specs.Moved.{Move, Sim}
 use Rattle.headers.proofs.Named.{padded-name, accepted-named}
 use Rattle.joined.specs.Names.{Distinct}

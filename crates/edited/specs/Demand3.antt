@@ -12,7 +12,7 @@ use lib.ListN.{getD, take, drop}
 use Rattle.utils.specs.Bytes.{padTo}
 use Rattle.lexer.specs.Read.{readFrom, readOf}
 use Rattle.lexer.specs.Decoded.{tokensOf, tokenAt}
-use Rattle.functions.specs.Columns.{closeAt, placeAt, lineAt}
+use Rattle.functions.specs.Columns.{closeAt, placeAt, lineAt, tableSize}
 use Rattle.checker.specs.Check.{Checking, checkOf}
 use Rattle.recheck.specs.Recheck.{recheckOf}
 use Rattle.edited.specs.Reading.{readingOf, movedReading}
@@ -22,7 +22,7 @@ use Rattle.edited.specs.Reading.{readingOf, movedReading}
 -- the header table as check leaves it in a slice of its size. "For a table that check didn't write, only demands 1 and
 -- 2 apply."
 abbrev pub tableOf : List ℕ → List ℕ
-tableOf old = padTo 2881 (checkOf old .unit .functions)
+tableOf old = padTo tableSize (checkOf old .unit .functions)
 
 -- where function k begins: its name's place; and its line
 abbrev pub beginsAt : List ℕ → ℕ → ℕ

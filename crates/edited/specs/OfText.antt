@@ -11,6 +11,7 @@ use Rattle.lexer.specs.Decoded.{Tok, tokensOf, tokenAt}
 use Rattle.functions.specs.Rows.{signedAt}
 use Rattle.headers.specs.Spelled.{rowName}
 use Rattle.headers.specs.Kept.{isWhole, keeps}
+use Rattle.pieces.specs.Kinds as K
 use Rattle.edited.specs.Demand3.{tableOf, lineOf}
 
 -- the new text's tokens
@@ -21,7 +22,7 @@ pub record OneFunction (old : List ℕ) (k : ℕ) (new : List ℕ) : Type 0 wher
   -- "runs from its @ name to a closing brace as last byte"
   pub whole : isWhole new (newTokens old k new) ≡ true
   -- "holds no second function": no global stands right behind a closing brace
-  pub single : (i : ℕ) → tokenAt (newTokens old k new) i .kind ≡ 28
+  pub single : (i : ℕ) → tokenAt (newTokens old k new) i .kind ≡ K.rightBrace
       → tokenAt (newTokens old k new) (i + 1) .kind ≡ 2 → ⊥
   -- "keeping name, parameter types and return type"
   pub kept : keeps (sameBytes (rowName old (tableOf old) k)) (signedAt (tableOf old) k) new

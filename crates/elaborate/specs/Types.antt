@@ -11,6 +11,8 @@ use lib.ListN.{length, getD, set}
 use lib.Seq.{sets}
 use Rattle.utils.specs.Bytes.{pick}
 use Rattle.body.specs.Body.{Item, argumentsIn}
+use Rattle.body.specs.Kinds as K
+use Rattle.parser.specs.Types as Types
 use Rattle.parser.specs.declared.Variable.{Variable}
 use Rattle.body.specs.Records.{itemRecord, recordOf, recordAt, recordCells, itemsCells, argumentsCells}
 use Rattle.body.specs.declared.ItemRecord.{ItemRecord}
@@ -23,16 +25,15 @@ use Rattle.functions.specs.Columns.{nameAt, typeAt}
 abbrev pub typeOf : List ℕ → ℕ → ℕ
 typeOf table name = getD table name 0
 
--- a callee's type: a function type's cell is its number and 4
+-- a callee's type: a function type's cell
 unfoldable pub calleeIn : List Function → ℕ → ℕ
 calleeIn [] name = 0
 calleeIn (f ∷ fs) name =
     let more = calleeIn fs name in
-    pick (eqb (f .head .name .0) name) (f .head .type + 4) more
+    pick (eqb (f .head .name .0) name) (f .head .type + Types.function) more
 
--- 5 and 6 are calls (crates/body/specs/Records.antt).
 unfoldable pub isCall : ℕ → Bool
-isCall kind = pick (eqb kind 5) true (eqb kind 6)
+isCall kind = pick (eqb kind K.call) true (eqb kind K.callInto)
 
 -- a right operand with its type
 unfoldable pub typedLast : List ℕ → Last → Last
@@ -40,15 +41,15 @@ typedLast table (L.Name x t) = L.Name x (typeOf table (x .0))
 typedLast table (L.Labels l m) = L.Labels l m
 typedLast table (L.Run first count) = L.Run first count
 
--- `callees` gives a callee's type. 2 is binary, 3 unary.
+-- `callees` gives a callee's type.
 unfoldable pub typedRecord : List ℕ → (ℕ → ℕ) → ItemRecord → ItemRecord
 typedRecord table callees r =
     let k = r .kind in
     let left = typeOf table (r .left .0) in
     let right = typedLast table (r .last) in
     let callee = callees (r .left .0) in
-    pick (eqb k 2) (itemRecord k (r .token) (r .dest) (r .dty) (r .left) left right)
-    (pick (eqb k 3) (itemRecord k (r .token) (r .dest) (r .dty) (r .left) left (r .last))
+    pick (eqb k K.binary) (itemRecord k (r .token) (r .dest) (r .dty) (r .left) left right)
+    (pick (eqb k K.unary) (itemRecord k (r .token) (r .dest) (r .dty) (r .left) left (r .last))
     (pick (isCall k) (itemRecord k (r .token) (r .dest) (r .dty) (r .left) callee (r .last))
     r))
 
@@ -87,7 +88,7 @@ unfoldable pub calleeFrom : List ℕ → ℕ → ℕ → ℕ → ℕ
 calleeFrom rows i zero name = 0
 calleeFrom rows i (suc n) name =
     let more = calleeFrom rows (i + 1) n name in
-    pick (eqb (getD rows (nameAt i) 0) name) (getD rows (typeAt i) 0 + 4) more
+    pick (eqb (getD rows (nameAt i) 0) name) (getD rows (typeAt i) 0 + Types.function) more
 
 abbrev pub calleeOf : List ℕ → ℕ → ℕ → ℕ
 calleeOf rows n name = calleeFrom rows 0 n name

@@ -3,7 +3,8 @@ ghost use mathlib.Core.Path.{_≡_};
 ghost use Prim.Native.Nat.{ℕ, _+_, _*_, _≤_, _<_};
 ghost use lib.ListN.{length, getD, set};
 ghost use Rattle.body.specs.Records.{itemRecord};
-ghost use Rattle.functions.specs.Columns.{typeAt};
+ghost use Rattle.functions.specs.Columns.{typeAt, tableSize};
+ghost use Rattle.utils.specs.Limits.{mostFunctions};
 ghost use Rattle.elaborate.specs.Types.{calleeOf, isCall, typedLast, typedRecord, typedRun, typedArguments};
 ghost use Rattle.elaborate.specs.Types.{typedItems, typedCalls, Elaborated};
 use body::ItemRecord;
@@ -18,7 +19,8 @@ use utils::cell_at;
 
 // The function type of the first function of this name among n.
 fn callee_type(rows: &[u32], n: usize, name: Identifier) -> u32
-    requires { ⌜ (n ≤ 64) × (2881 ≤ length (now rows)) × ((i : ℕ) → i < n → getD (now rows) (typeAt i) 0 ≤ 64) ⌝ }
+    requires { ⌜ (n ≤ mostFunctions) × (tableSize ≤ length (now rows))
+        × ((i : ℕ) → i < n → getD (now rows) (typeAt i) 0 ≤ mostFunctions) ⌝ }
     ensures { λ r. ⌜ r ≡ calleeOf (now (rows .entry)) n (name .0) ⌝ }
 {
     let mut i: usize = 0;
@@ -70,7 +72,8 @@ fn typed_last(table: &[u32], last: Last) -> Last
 
 // An item with the types of its operands.
 fn typed_record(r: ItemRecord, table: &[u32], rows: &[u32], n: usize) -> ItemRecord
-    requires { ⌜ (n ≤ 64) × (2881 ≤ length (now rows)) × ((i : ℕ) → i < n → getD (now rows) (typeAt i) 0 ≤ 64) ⌝ }
+    requires { ⌜ (n ≤ mostFunctions) × (tableSize ≤ length (now rows))
+        × ((i : ℕ) → i < n → getD (now rows) (typeAt i) 0 ≤ mostFunctions) ⌝ }
     ensures { λ res. ⌜ res ≡ typedRecord (now (table .entry)) (calleeOf (now (rows .entry)) n) r ⌝ }
 {
     let kind = r.kind;
@@ -149,7 +152,8 @@ fn elaborate_items(
     first: usize,
     count: usize,
 )
-    requires { ⌜ (n ≤ 64) × (2881 ≤ length (now rows)) × ((i : ℕ) → i < n → getD (now rows) (typeAt i) 0 ≤ 64)
+    requires { ⌜ (n ≤ mostFunctions) × (tableSize ≤ length (now rows))
+        × ((i : ℕ) → i < n → getD (now rows) (typeAt i) 0 ≤ mostFunctions)
         × ((first + count) * 8 ≤ length (now items)) ⌝ }
     ensures { λ _. ⌜ now (items .exit)
         ≡ typedItems (now (table .entry)) (calleeOf (now (rows .entry)) n) (now (items .entry)) first count ⌝ }
@@ -175,7 +179,8 @@ pub fn elaborate(
     count: usize,
     arguments: &mut [u32],
 )
-    requires { ⌜ (n ≤ 64) × (2881 ≤ length (now rows)) × ((i : ℕ) → i < n → getD (now rows) (typeAt i) 0 ≤ 64)
+    requires { ⌜ (n ≤ mostFunctions) × (tableSize ≤ length (now rows))
+        × ((i : ℕ) → i < n → getD (now rows) (typeAt i) 0 ≤ mostFunctions)
         × ((first + count) * 8 ≤ length (now items)) ⌝ }
     ensures { λ _. ⌜ now (items .exit)
         ≡ typedItems (now (table .entry)) (calleeOf (now (rows .entry)) n) (now (items .entry)) first count ⌝ }

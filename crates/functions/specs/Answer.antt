@@ -8,10 +8,12 @@ use Rattle.lexer.specs.Decoded.{Tok}
 use Rattle.parser.specs.Step.{thenAt}
 use Rattle.body.specs.Body.{Item}
 use Rattle.link.specs.Edges.{successors}
+use Rattle.link.specs.Steps.{blocksSize, predecessorsSize}
+use Rattle.utils.specs.Limits.{mostBlocks, mostFunctions, mostFormals}
 use Rattle.parser.specs.declared.Consumed.{Consumed}
 use Rattle.parser.specs.declared.Consumed.the-variants as C
 use Rattle.body.specs.Records.{itemsCells, argumentsCells, argumentsCount}
-use Rattle.body.specs.Room.{Within}
+use Rattle.body.specs.Room.{Within, itemsSize, argumentsSize}
 use Rattle.link.specs.Cells.{blockCells, predecessorCells}
 use Rattle.functions.specs.Known.{typesAfter}
 use Rattle.functions.specs.Functions.{Function, Program, blocksIn, BuiltAt, built, notBuilt, knownOf}
@@ -68,10 +70,10 @@ pub record Room (ts : List Tok) (at : ℕ) (n : Counts) : Type 0 where
 
 -- the least lengths of the slices of items, arguments, blocks and predecessors
 pub record Long (items arguments blocks preds : List ℕ) : Type 0 where
-  pub items-long : 24576 ≤ length items
-  pub arguments-long : 6928 ≤ length arguments
-  pub blocks-long : 8192 ≤ length blocks
-  pub predecessors-long : 2048 ≤ length preds
+  pub items-long : itemsSize ≤ length items
+  pub arguments-long : argumentsSize ≤ length arguments
+  pub blocks-long : blocksSize ≤ length blocks
+  pub predecessors-long : predecessorsSize ≤ length preds
 
 unfoldable pub countsFrom : Counts → List Function → Counts
 countsFrom n [] = n
@@ -89,7 +91,7 @@ pub record Built (ts : List Tok) (n : Counts) (is : List Item) (next : ℕ)
       (blockCells (n .items) (n .predecessors) 0 (edgesIn is) (edgesIn is) (blocksIn is))
   pub predecessors-are : preds ≡ sets preds₀ (n .predecessors) (predecessorsIn is)
   pub room : Room ts next (countsAfter n is)
-  pub few-blocks : length (blocksIn is) ≤ 256
+  pub few-blocks : length (blocksIn is) ≤ mostBlocks
   pub on : 1 ≤ next
 
 abbrev pub BuildHeld : (ts : List Tok) (n : Counts)
@@ -128,13 +130,13 @@ functionRead types n (noFunction e) = F.Refused e
 
 -- It stands in the slices, later headers see it, and there is room to go on.
 pub record Taken (ts : List Tok) (names : List ℕ) (n : Counts) (f : Function) (s₀ s : Slices) : Type 0 where
-  pub few : n .functions < 64
+  pub few : n .functions < mostFunctions
   pub stored : s ≡ storedFunction ts names n s₀ f
   pub seen : knownFrom (s .functions) 0 (n .functions + 1)
       ≡ knownFrom (s₀ .functions) 0 (n .functions) ++ (knownOf (f .head) ∷ [])
   pub room : Room ts (f .next) (countsWith n f)
-  pub formals-few : length (f .head .formals) ≤ 16
-  pub few-blocks : length (blocksIn (f .items)) ≤ 256
+  pub formals-few : length (f .head .formals) ≤ mostFormals
+  pub few-blocks : length (blocksIn (f .items)) ≤ mostBlocks
 
 abbrev pub FunctionHeld : (ts : List Tok) (names : List ℕ) (n : Counts) (s₀ s : Slices) → FunctionAt → Type 0
 FunctionHeld ts names n s₀ s (function f) = Taken ts names n f s₀ s

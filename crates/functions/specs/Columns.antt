@@ -1,6 +1,9 @@
 -- The header table (docs/INTERFACE.md): the count, and then a row for each function. Where row i begins, and where its
 -- cells stand.
-use Prim.Native.Nat.{ℕ, _+_, _*_}
+use Prim.Native.Nat.{ℕ, _+_, _*_, _≤_, _<_}
+use mathlib.Core.List.{List}
+use lib.ListN.{length}
+use Rattle.utils.specs.Limits.{mostFunctions}
 
 -- a row's cells, the table's rows, and its cells
 abbrev pub rowWidth : ℕ
@@ -8,6 +11,13 @@ rowWidth = 45
 
 abbrev pub tableSize : ℕ
 tableSize = 2881
+
+-- What contracts ask of rows: the cells are a table's, and i is one of its rows, or it has room for n.
+abbrev pub IsRow : List ℕ → ℕ → Type 0
+IsRow rows i = (i < mostFunctions) × (tableSize ≤ length rows)
+
+abbrev pub HasRows : List ℕ → ℕ → Type 0
+HasRows rows n = (n ≤ mostFunctions) × (tableSize ≤ length rows)
 
 -- the name's token
 abbrev pub rowAt : ℕ → ℕ

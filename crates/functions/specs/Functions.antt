@@ -6,8 +6,10 @@ use mathlib.Core.Bool.{Bool, true, false}
 use lib.Dec.{eqb}
 use Rattle.utils.specs.Bytes.{pick}
 use Rattle.lexer.specs.Decoded.{Tok, tokenAt}
+use Rattle.parser.specs.Types as Types
+use Rattle.utils.specs.Limits.{mostFunctions}
 use Rattle.pieces.specs.declared.Identifier.{Identifier}
-use Rattle.parser.specs.Kinds as T
+use Rattle.pieces.specs.Kinds as T
 use Rattle.parser.specs.Step.{refusal, look, thenAt, thenNamed, thenType}
 use Rattle.parser.specs.Grammar.{consumeD, globalD, typeD}
 use Rattle.parser.specs.Runs.{Variables, ended, typeCell, formalsD}
@@ -122,7 +124,7 @@ thenFunction fail (function f) k = k f
 thenFunction fail (noFunction e) k = fail e
 
 abbrev pub isVoid : Ty → Bool
-isVoid ret = eqb (typeCell ret) 3
+isVoid ret = eqb (typeCell ret) Types.void
 
 unfoldable pub functionD : List Tok → Bool → List Known → ℕ → ℕ → FunctionAt
 functionD ts full known types at =
@@ -164,4 +166,4 @@ functionsD ts (suc room) known types at =
 
 -- 64 functions at most, from the first token on.
 abbrev pub programD : List Tok → Program
-programD ts = functionsD ts 64 [] 0 0
+programD ts = functionsD ts mostFunctions [] 0 0

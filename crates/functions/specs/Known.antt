@@ -6,6 +6,7 @@ use mathlib.Core.List.{List, [], _∷_}
 use lib.Dec.{eqb}
 use lib.ListN.{length}
 use Rattle.utils.specs.Bytes.{pick, sameBytes}
+use Rattle.parser.specs.Types as Types
 use Rattle.pieces.specs.declared.Identifier.{Identifier}
 use Rattle.parser.specs.Runs.{typeCell}
 use Rattle.parser.specs.declared.Refusal.{Refusal}
@@ -48,4 +49,5 @@ expectedType (k ∷ ks) name type =
 -- Unexpected type .. Expected .. (15), with the name's token. Of both types the message says that they are function
 -- types, whose cells are 4 and more.
 abbrev pub unexpected : ℕ → Identifier → Refusal
-unexpected token name = record { number = 15; token = token; wanted = 4; found = 4; name = name }
+unexpected token name =
+    record { number = 15; token = token; wanted = Types.function; found = Types.function; name = name }

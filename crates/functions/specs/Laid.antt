@@ -7,6 +7,8 @@ use Rattle.utils.specs.Bytes.{padTo}
 use Rattle.lexer.specs.Decoded.{Tok}
 use Rattle.body.specs.Records.{itemsCells, argumentsCells, argumentsCount}
 use Rattle.link.specs.Cells.{blockCells}
+use Rattle.utils.specs.Limits.{mostFunctions, mostFormals, mostBlocks}
+use Rattle.functions.specs.Columns.{rowWidth}
 use Rattle.functions.specs.Functions.{Function, Program, blocksIn}
 use Rattle.functions.specs.Rows.{rowCells}
 use Rattle.functions.specs.Answer.{edgesIn, predecessorsIn, counts, countsWith}
@@ -15,7 +17,7 @@ use Rattle.functions.specs.declared.Counts.{Counts}
 unfoldable pub rowsCells : List Tok → List ℕ → Counts → List Function → List ℕ
 rowsCells ts names n [] = []
 rowsCells ts names n (f ∷ fs) =
-    padTo 45 (rowCells ts names f (n .items) (n .blocks)) ++ rowsCells ts names (countsWith n f) fs
+    padTo rowWidth (rowCells ts names f (n .items) (n .blocks)) ++ rowsCells ts names (countsWith n f) fs
 
 unfoldable pub untypedItems : Counts → List Function → List ℕ
 untypedItems n [] = []
@@ -37,13 +39,13 @@ allPredecessors (f ∷ fs) = predecessorsIn (f .items) ++ allPredecessors fs
 
 -- A function behind those that are counted is inside document 01's limits, and its records inside the slices' sizes.
 pub record Fits (n : Counts) (f : Function) : Type 0 where
-  pub functions-few : n .functions < 64
-  pub type-few : f .head .type ≤ 64
-  pub formals-few : length (f .head .formals) ≤ 16
+  pub functions-few : n .functions < mostFunctions
+  pub type-few : f .head .type ≤ mostFunctions
+  pub formals-few : length (f .head .formals) ≤ mostFormals
   pub items-few : n .items + length (f .items) ≤ 3072
   pub arguments-few : n .arguments + argumentsCount (f .items) ≤ 3464
   pub blocks-few : n .blocks + length (blocksIn (f .items)) ≤ 1024
-  pub few-blocks : length (blocksIn (f .items)) ≤ 256
+  pub few-blocks : length (blocksIn (f .items)) ≤ mostBlocks
   pub predecessors-few : n .predecessors + length (predecessorsIn (f .items)) ≤ 2048
 
 unfoldable pub FitsFrom : Counts → List Function → Type 0

@@ -6,6 +6,7 @@ use lib.ListN.{length, getD}
 use Rattle.utils.specs.Bytes.{pick}
 use Rattle.lexer.specs.Decoded.{Tok, tokenAt}
 use Rattle.parser.specs.Runs.{typeCell, variablesCells}
+use Rattle.utils.specs.Limits.{mostFormals}
 use Rattle.functions.specs.Columns.{nameAt, retAt, typeAt, countAt, formalsAt}
 use Rattle.functions.specs.Known.{Known}
 use Rattle.functions.specs.Functions.{Function, blocksIn}
@@ -32,7 +33,7 @@ typesAt cells at (suc n) = getD cells (at + 1) 0 ∷ typesAt cells (at + 2) n
 
 -- a row has room for 16 formals
 abbrev pub atMost16 : ℕ → ℕ
-atMost16 n = pick (leb n 16) n 16
+atMost16 n = pick (leb n mostFormals) n mostFormals
 
 abbrev pub signedAt : List ℕ → ℕ → List ℕ
 signedAt cells i =

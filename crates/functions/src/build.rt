@@ -3,6 +3,7 @@ ghost use mathlib.Core.Path.{_≡_};
 ghost use Prim.Native.Nat.{ℕ, _+_, _*_, _≤_};
 ghost use lib.ListN.{length};
 ghost use Rattle.lexer.specs.Decoded.{tokensOf};
+ghost use Rattle.utils.specs.Limits.{mostLabels};
 ghost use Rattle.functions.specs.Functions.{builtD};
 ghost use Rattle.functions.specs.Answer.{Room, Long, buildRead, BuildHeld};
 use crate::Body;
@@ -25,7 +26,7 @@ fn build_with(
     predecessors: &mut [u32],
     labels: &mut [u32],
 ) -> Building
-    requires { ⌜ Room (tokensOf (now tokens)) at n × (n .blocks * 4 + 2 ≤ at) × (255 ≤ length (now labels))
+    requires { ⌜ Room (tokensOf (now tokens)) at n × (n .blocks * 4 + 2 ≤ at) × (mostLabels ≤ length (now labels))
         × Long (now items) (now arguments) (now blocks) (now predecessors) ⌝ }
     ensures { λ r. ⌜ r ≡ buildRead (builtD (tokensOf (now (tokens .entry))) void name at) ⌝ }
     ensures { λ _. ⌜ BuildHeld (tokensOf (now (tokens .entry))) n (now (items .entry)) (now (items .exit))

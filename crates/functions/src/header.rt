@@ -7,9 +7,10 @@ ghost use lib.ListN.{length};
 ghost use lib.Seq.{sets};
 ghost use Rattle.lexer.specs.Decoded.{tokensOf};
 ghost use Rattle.parser.specs.Runs.{runOf, variablesCells};
+ghost use Rattle.utils.specs.Limits.{mostFunctions, mostFormals};
 ghost use Rattle.functions.specs.Functions.{optionalFormals, optionalType, enteredD, signatureD, headerD};
 ghost use Rattle.functions.specs.Rows.{knownFrom, typesAt};
-ghost use Rattle.functions.specs.Columns.{formalsAt};
+ghost use Rattle.functions.specs.Columns.{formalsAt, IsRow, HasRows, tableSize};
 ghost use Rattle.functions.specs.Heads.{headerRead, HeaderHeld};
 use crate::Entered;
 use crate::Head;
@@ -65,7 +66,7 @@ fn enter(
     ret: u32,
     at: usize,
 ) -> Entered
-    requires { ⌜ (n < 64) × (formals ≤ 16) × (2881 ≤ length (now rows)) ⌝ }
+    requires { ⌜ (n < mostFunctions) × (formals ≤ mostFormals) × (tableSize ≤ length (now rows)) ⌝ }
     ensures { λ r. ⌜ r ≡ enteredD (tokensOf (now (tokens .entry))) (knownFrom (now (rows .entry)) 0 n) types token name
         (ret ∷ formals ∷ typesAt (now (rows .entry)) (formalsAt n) formals) at ⌝ }
 {
@@ -96,7 +97,7 @@ fn parse_signature(
     types: u32,
     rows: &mut [u32],
 ) -> HeaderRead
-    requires { ⌜ (n < 64) × (2881 ≤ length (now rows)) ⌝ }
+    requires { ⌜ IsRow (now rows) n ⌝ }
     ensures { λ r. ⌜ r ≡ headerRead (signatureD (tokensOf (now (tokens .entry)))
         (knownFrom (now (rows .entry)) 0 n) types token name at) ⌝ }
     ensures { λ _. ⌜ HeaderHeld n (now (rows .entry)) (now (rows .exit))
@@ -125,11 +126,12 @@ fn parse_signature(
 
 // 35 comes once the name is read.
 pub fn parse_header(tokens: &[u32], at: usize, n: usize, types: u32, rows: &mut [u32]) -> HeaderRead
-    requires { ⌜ (n ≤ 64) × (2881 ≤ length (now rows)) ⌝ }
-    ensures { λ r. ⌜ r ≡ headerRead (headerD (tokensOf (now (tokens .entry))) (leb 64 n)
+    requires { ⌜ HasRows (now rows) n ⌝ }
+    ensures { λ r. ⌜ r ≡ headerRead (headerD (tokensOf (now (tokens .entry))) (leb mostFunctions n)
         (knownFrom (now (rows .entry)) 0 n) types at) ⌝ }
     ensures { λ _. ⌜ HeaderHeld n (now (rows .entry)) (now (rows .exit))
-        (headerD (tokensOf (now (tokens .entry))) (leb 64 n) (knownFrom (now (rows .entry)) 0 n) types at) ⌝ }
+        (headerD (tokensOf (now (tokens .entry))) (leb mostFunctions n)
+        (knownFrom (now (rows .entry)) 0 n) types at) ⌝ }
 {
     match parser::consume_named(tokens, at, kinds::GLOBAL, numbers::NO_GLOBAL) {
         Named::Refused(e) => HeaderRead::Refused(e),

@@ -4,8 +4,9 @@ ghost use mathlib.Core.List.{_∷_};
 ghost use Prim.Native.Nat.{_≤_, _<_};
 ghost use lib.ListN.{length};
 ghost use Rattle.utils.specs.Bytes.{sameBytes};
+ghost use Rattle.utils.specs.Limits.{mostFunctions, mostFormals};
 ghost use Rattle.functions.specs.Known.{typeNumber, expectedType};
-ghost use Rattle.functions.specs.Columns.{formalsAt};
+ghost use Rattle.functions.specs.Columns.{formalsAt, HasRows, tableSize};
 ghost use Rattle.functions.specs.Rows.{typesAt, signedAt, knownFrom};
 use crate::columns;
 use parser::VARIABLE_CELLS;
@@ -13,7 +14,7 @@ use pieces::Identifier;
 
 // Whether the first `count` formals of rows a and b have the same types.
 fn same_formals(rows: &[u32], a: usize, b: usize, count: usize) -> bool
-    requires { ⌜ (a < 64) × (b < 64) × (count ≤ 16) × (2881 ≤ length (now rows)) ⌝ }
+    requires { ⌜ (a < mostFunctions) × (b < mostFunctions) × (count ≤ mostFormals) × (tableSize ≤ length (now rows)) ⌝ }
     ensures { λ r. ⌜ r ≡ sameBytes (typesAt (now (rows .entry)) (formalsAt a) count)
         (typesAt (now (rows .entry)) (formalsAt b) count) ⌝ }
 {
@@ -33,7 +34,7 @@ fn same_formals(rows: &[u32], a: usize, b: usize, count: usize) -> bool
 
 // Whether row a has the function type of a function with this result and `count` formals, which stand in row b.
 pub fn same_type(rows: &[u32], a: usize, ret: u32, count: usize, b: usize) -> bool
-    requires { ⌜ (a < 64) × (b < 64) × (count ≤ 16) × (2881 ≤ length (now rows)) ⌝ }
+    requires { ⌜ (a < mostFunctions) × (b < mostFunctions) × (count ≤ mostFormals) × (tableSize ≤ length (now rows)) ⌝ }
     ensures { λ r. ⌜ r ≡ sameBytes (signedAt (now (rows .entry)) a)
         (ret ∷ count ∷ typesAt (now (rows .entry)) (formalsAt b) count) ⌝ }
 {
@@ -48,7 +49,7 @@ pub fn same_type(rows: &[u32], a: usize, ret: u32, count: usize, b: usize) -> bo
 
 // The number of the function type of row n, whose result and formals are read: Unit::add_function_type.
 pub fn type_number(rows: &[u32], n: usize, ret: u32, count: usize, types: u32) -> u32
-    requires { ⌜ (n < 64) × (count ≤ 16) × (2881 ≤ length (now rows)) ⌝ }
+    requires { ⌜ (n < mostFunctions) × (count ≤ mostFormals) × (tableSize ≤ length (now rows)) ⌝ }
     ensures { λ r. ⌜ r ≡ typeNumber (knownFrom (now (rows .entry)) 0 n)
         (ret ∷ count ∷ typesAt (now (rows .entry)) (formalsAt n) count) types ⌝ }
 {
@@ -64,7 +65,7 @@ pub fn type_number(rows: &[u32], n: usize, ret: u32, count: usize, types: u32) -
 
 // The type that this name has among the first n functions, or the given one.
 pub fn expected_type(rows: &[u32], n: usize, name: Identifier, ty: u32) -> u32
-    requires { ⌜ (n ≤ 64) × (2881 ≤ length (now rows)) ⌝ }
+    requires { ⌜ HasRows (now rows) n ⌝ }
     ensures { λ r. ⌜ r ≡ expectedType (knownFrom (now (rows .entry)) 0 n) (name .0) ty ⌝ }
 {
     let mut i: usize = 0;

@@ -12,6 +12,8 @@ ghost use lib.Dec.{leb, eqb};
 ghost use lib.ListN.{length};
 ghost use Rattle.lexer.specs.Decoded.{tokensOf};
 ghost use Rattle.body.specs.Room.{Within};
+ghost use Rattle.utils.specs.Limits.{mostFunctions};
+ghost use Rattle.functions.specs.Columns.{tableSize};
 ghost use Rattle.functions.specs.Known.{typesAfter};
 ghost use Rattle.functions.specs.Functions.{functionD, programD};
 ghost use Rattle.functions.specs.Rows.{knownFrom};
@@ -79,7 +81,7 @@ pub enum ProgramRead {
 
 // How many function types there are once this number is given.
 fn types_after(types: u32, ty: u32) -> u32
-    requires { ⌜ types ≤ 64 ⌝ }
+    requires { ⌜ types ≤ mostFunctions ⌝ }
     ensures { λ r. ⌜ r ≡ typesAfter types ty ⌝ }
 {
     if ty == types {
@@ -100,16 +102,17 @@ pub fn parse_function(
     blocks: &mut [u32],
     predecessors: &mut [u32],
 ) -> FunctionRead
-    requires { ⌜ Room (tokensOf (now tokens)) at n × (n .functions ≤ 64) × (types ≤ n .functions)
-        × (2881 ≤ length (now functions)) × Long (now items) (now arguments) (now blocks) (now predecessors) ⌝ }
-    ensures { λ r. ⌜ r ≡ functionRead types n (functionD (tokensOf (now (tokens .entry))) (leb 64 (n .functions))
+    requires { ⌜ Room (tokensOf (now tokens)) at n × (n .functions ≤ mostFunctions) × (types ≤ n .functions)
+        × (tableSize ≤ length (now functions)) × Long (now items) (now arguments) (now blocks) (now predecessors) ⌝ }
+    ensures { λ r. ⌜ r
+        ≡ functionRead types n (functionD (tokensOf (now (tokens .entry))) (leb mostFunctions (n .functions))
         (knownFrom (now (functions .entry)) 0 (n .functions)) types at) ⌝ }
     ensures { λ _. ⌜ FunctionHeld (tokensOf (now (tokens .entry))) (now (names .entry)) n
         (slices (now (functions .entry)) (now (items .entry)) (now (arguments .entry)) (now (blocks .entry))
         (now (predecessors .entry)))
         (slices (now (functions .exit)) (now (items .exit)) (now (arguments .exit)) (now (blocks .exit))
         (now (predecessors .exit)))
-        (functionD (tokensOf (now (tokens .entry))) (leb 64 (n .functions))
+        (functionD (tokensOf (now (tokens .entry))) (leb mostFunctions (n .functions))
         (knownFrom (now (functions .entry)) 0 (n .functions)) types at) ⌝ }
 {
     match header::parse_header(tokens, at, n.functions, types, functions) {
@@ -147,7 +150,7 @@ pub fn parse(
     blocks: &mut [u32],
     predecessors: &mut [u32],
 ) -> ProgramRead
-    requires { ⌜ Within (tokensOf (now tokens)) 0 × (2881 ≤ length (now functions))
+    requires { ⌜ Within (tokensOf (now tokens)) 0 × (tableSize ≤ length (now functions))
         × Long (now items) (now arguments) (now blocks) (now predecessors) ⌝ }
     ensures { λ r. ⌜ r ≡ programRead (programD (tokensOf (now (tokens .entry)))) ⌝ }
     ensures { λ _. ⌜ Held (tokensOf (now (tokens .entry))) (now (names .entry))

@@ -5,7 +5,8 @@ ghost use Prim.Native.Nat.{_+_, _*_, _-_, _≤_, _<_};
 ghost use lib.ListN.{length, getD};
 ghost use lib.Seq.{sets};
 ghost use Rattle.lexer.specs.Decoded.{tokensOf, tokenAt};
-ghost use Rattle.functions.specs.Columns.{rowAt, retAt};
+ghost use Rattle.utils.specs.Limits.{mostFunctions, mostFormals};
+ghost use Rattle.functions.specs.Columns.{rowAt, retAt, tableSize};
 ghost use Rattle.functions.specs.Answer.{counts};
 use crate::Body;
 use crate::Counts;
@@ -32,7 +33,7 @@ pub fn put_name(
     name: Identifier,
     close: usize,
 )
-    requires { ⌜ (i < 64) × (token ≤ 4095) × (close ≤ 4095) × (2881 ≤ length (now rows)) ⌝ }
+    requires { ⌜ (i < mostFunctions) × (token ≤ 4095) × (close ≤ 4095) × (tableSize ≤ length (now rows)) ⌝ }
     ensures { λ _. ⌜ now (rows .exit) ≡ sets (now (rows .entry)) (rowAt i)
         (token ∷ name .0 ∷ close ∷ tokenAt (tokensOf (now (tokens .entry))) token .place
         ∷ getD (now (names .entry)) (name .0 * 2 + 1) 0
@@ -61,8 +62,9 @@ pub fn put_counts(
     blocks: usize,
     formals: usize,
 )
-    requires { ⌜ (i < 64) × (first ≤ 4096) × (items ≤ 4096) × (base ≤ 4096) × (blocks ≤ 4096) × (formals ≤ 16)
-        × (2881 ≤ length (now rows)) ⌝ }
+    requires { ⌜ (i < mostFunctions) × (first ≤ 4096) × (items ≤ 4096) × (base ≤ 4096) × (blocks ≤ 4096)
+        × (formals ≤ mostFormals)
+        × (tableSize ≤ length (now rows)) ⌝ }
     ensures { λ _. ⌜ now (rows .exit) ≡ sets (now (rows .entry)) (retAt i)
         (ret ∷ ty ∷ first ∷ items ∷ base ∷ blocks ∷ formals ∷ []) ⌝ }
 {
@@ -86,9 +88,9 @@ pub fn put_row(
     h: Head,
     b: Body,
 )
-    requires { ⌜ (n .functions < 64) × (token ≤ 4095) × (1 ≤ b .next) × (b .next ≤ 4096) × (n .items ≤ 4096)
-        × (b .items ≤ 4096) × (n .blocks ≤ 4096) × (b .blocks ≤ 4096) × (h .formals ≤ 16)
-        × (2881 ≤ length (now rows)) ⌝ }
+    requires { ⌜ (n .functions < mostFunctions) × (token ≤ 4095) × (1 ≤ b .next) × (b .next ≤ 4096) × (n .items ≤ 4096)
+        × (b .items ≤ 4096) × (n .blocks ≤ 4096) × (b .blocks ≤ 4096) × (h .formals ≤ mostFormals)
+        × (tableSize ≤ length (now rows)) ⌝ }
     ensures { λ _. ⌜ now (rows .exit) ≡ sets (now (rows .entry)) (rowAt (n .functions))
         (token ∷ h .name .0 ∷ (b .next - 1) ∷ tokenAt (tokensOf (now (tokens .entry))) token .place
         ∷ getD (now (names .entry)) (h .name .0 * 2 + 1) 0 ∷ tokenAt (tokensOf (now (tokens .entry))) token .line .0

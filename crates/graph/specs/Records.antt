@@ -8,6 +8,7 @@ use mathlib.Core.List.{List, [], _∷_}
 use lib.Dec.{ltb}
 use lib.ListN.{getD}
 use Rattle.utils.specs.Bytes.{pick}
+use Rattle.utils.specs.Limits.{mostBlocks}
 use Rattle.graph.specs.declared.BlockRecord.{BlockRecord}
 
 abbrev pub blockRecord : ℕ → ℕ → ℕ → ℕ → ℕ → ℕ → ℕ → ℕ → BlockRecord
@@ -67,4 +68,4 @@ pub record Loaded (cells : List ℕ) (first n : ℕ) (rows₀ rows : List (List 
 
 -- How many blocks are looked at, of so many.
 unfoldable pub atMost256 : ℕ → ℕ
-atMost256 count = pick (ltb 256 count) 256 count
+atMost256 count = pick (ltb mostBlocks count) mostBlocks count

@@ -7,6 +7,7 @@ use lib.Dec.{ltb, eqb}
 use lib.ListN.{getD}
 use lib.Seq.{slice}
 use Rattle.utils.specs.Bytes.{pick}
+use Rattle.utils.specs.Limits.{mostBlocks}
 use Rattle.graph.specs.declared.RPOWorklist.{RPOWorklist}
 use Rattle.graph.specs.declared.Popped.{Popped}
 use Rattle.graph.specs.declared.Popped.the-variants as P
@@ -23,8 +24,8 @@ remaining order w = slice (w .taken) (w .blocks) order
 unfoldable pub popped : List ℕ → RPOWorklist → Popped
 popped order w =
     let next = P.Block (record { 0 = getD order (w .taken) 0 }) (worklist (w .taken + 1) (w .blocks)) in
-    pick (ltb (w .taken) (w .blocks)) (pick (ltb (w .taken) 256) next P.Empty) P.Empty
+    pick (ltb (w .taken) (w .blocks)) (pick (ltb (w .taken) mostBlocks) next P.Empty) P.Empty
 
 -- Whether block v's flag is set; there are at most 256.
 unfoldable pub flagged : List ℕ → ℕ → Bool
-flagged flags v = pick (ltb v 256) (eqb (getD flags v 0) 1) false
+flagged flags v = pick (ltb v mostBlocks) (eqb (getD flags v 0) 1) false

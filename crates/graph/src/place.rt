@@ -5,6 +5,7 @@ ghost use lib.Dec.{eqb};
 ghost use lib.ListN.{length, take, drop, set};
 ghost use lib.Seq.{sets};
 ghost use Rattle.utils.specs.Bytes.{pick};
+ghost use Rattle.utils.specs.Limits.{mostBlocks};
 ghost use Rattle.graph.specs.Walk.{neverMet};
 ghost use Rattle.graph.specs.Frames.{waiting};
 use crate::BlockId;
@@ -12,8 +13,9 @@ use utils::limits;
 
 // The blocks left stand from `at` on. How many there are.
 pub fn put_left(left: &[u32; limits::BLOCKS], at: usize, out: &mut [u32; limits::BLOCKS]) -> usize
-    requires { ⌜ (at ≤ 256) × (length (now left) ≡ 256) ⌝ }
-    ensures { λ r. ⌜ (r + at ≡ 256) × (now (out .exit) ≡ sets (now (out .entry)) 0 (drop at (now (left .entry)))) ⌝ }
+    requires { ⌜ (at ≤ mostBlocks) × (length (now left) ≡ mostBlocks) ⌝ }
+    ensures { λ r. ⌜ (r + at ≡ mostBlocks)
+        × (now (out .exit) ≡ sets (now (out .entry)) 0 (drop at (now (left .entry)))) ⌝ }
 {
     let mut i: usize = 0;
     let mut k = at;
@@ -27,7 +29,7 @@ pub fn put_left(left: &[u32; limits::BLOCKS], at: usize, out: &mut [u32; limits:
 
 // Block k goes to the place `at`, if its flag is 0. The place after it.
 fn put_one(out: &mut [u32; limits::BLOCKS], at: usize, k: BlockId, flag: u8) -> usize
-    requires { ⌜ at + pick (eqb flag 0) 1 0 ≤ 256 ⌝ }
+    requires { ⌜ at + pick (eqb flag 0) 1 0 ≤ mostBlocks ⌝ }
     ensures { λ r. ⌜ (r ≡ at + pick (eqb flag 0) 1 0)
         × (now (out .exit) ≡ pick (eqb flag 0) (set (now (out .entry)) at (k .0)) (now (out .entry))) ⌝ }
 {
@@ -49,7 +51,8 @@ fn next_block(n: u32, rest: u32) -> BlockId
 
 // The blocks whose flag is 0, by rising block number, from the place `start` on.
 pub fn put_unmet(met: &[u8; limits::BLOCKS], n: u32, out: &mut [u32; limits::BLOCKS], start: usize)
-    requires { ⌜ (start + waiting (take n (now met)) ≤ 256) × (n ≤ 256) × (length (now met) ≡ 256) ⌝ }
+    requires { ⌜ (start + waiting (take n (now met)) ≤ mostBlocks) × (n ≤ mostBlocks)
+        × (length (now met) ≡ mostBlocks) ⌝ }
     ensures { λ _. ⌜ now (out .exit) ≡ sets (now (out .entry)) start (neverMet 0 (take n (now (met .entry)))) ⌝ }
 {
     let mut at = start;
@@ -64,7 +67,7 @@ pub fn put_unmet(met: &[u8; limits::BLOCKS], n: u32, out: &mut [u32; limits::BLO
 
 // The flags of the n blocks.
 pub fn put_flags(flags: &[u8; limits::BLOCKS], n: u32, out: &mut [u8; limits::BLOCKS])
-    requires { ⌜ (n ≤ 256) × (length (now flags) ≡ 256) ⌝ }
+    requires { ⌜ (n ≤ mostBlocks) × (length (now flags) ≡ mostBlocks) ⌝ }
     ensures { λ _. ⌜ now (out .exit) ≡ sets (now (out .entry)) 0 (take n (now (flags .entry))) ⌝ }
 {
     let mut k: u32 = 0;

@@ -2,13 +2,14 @@
 ghost use mathlib.Core.Path.{_≡_};
 ghost use Prim.Native.Nat.{_≤_};
 ghost use lib.ListN.{length};
+ghost use Rattle.utils.specs.Limits.{mostBlocks};
 ghost use Rattle.graph.specs.Records.{Loaded, atMost256};
 use crate::blocks::block_at;
 use utils::limits;
 
 // How many blocks are looked at.
 pub fn at_most_256(count: u32) -> u32
-    ensures { λ r. ⌜ (r ≡ atMost256 count) × (r ≤ 256) ⌝ }
+    ensures { λ r. ⌜ (r ≡ atMost256 count) × (r ≤ mostBlocks) ⌝ }
 {
     if limits::MOST_BLOCKS < count {
         return limits::MOST_BLOCKS;
@@ -24,7 +25,7 @@ pub fn load(
     succs: &mut [[u32; 2]; limits::BLOCKS],
     counts: &mut [u32; limits::BLOCKS],
 )
-    requires { ⌜ (n ≤ 256) × (length (now succs) ≡ 256) × (length (now counts) ≡ 256) ⌝ }
+    requires { ⌜ (n ≤ mostBlocks) × (length (now succs) ≡ mostBlocks) × (length (now counts) ≡ mostBlocks) ⌝ }
     ensures { λ _. ⌜ Loaded (now (blocks .entry)) first n (now (succs .entry)) (now (succs .exit))
         (now (counts .entry)) (now (counts .exit)) ⌝ }
 {

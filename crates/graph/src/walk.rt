@@ -4,6 +4,7 @@ ghost use mathlib.Core.Path.{_≡_};
 ghost use Prim.Native.Nat.{_+_, _<_, _≤_};
 ghost use mathlib.Core.List.{_∷_};
 ghost use lib.ListN.{length, drop, replicate};
+ghost use Rattle.utils.specs.Limits.{mostBlocks};
 ghost use Rattle.graph.specs.Walk.{walked};
 ghost use Rattle.graph.specs.Records.{recorded, rowOf};
 ghost use Rattle.graph.specs.Frames.{stack, pushOne, pushAll, state, coming, Ready, Turned, Holds};
@@ -24,8 +25,8 @@ pub struct Step {
 
 // A block is left: it goes in front of those left before.
 fn leave(left: &mut [u32; limits::BLOCKS], at: usize, block: BlockId) -> usize
-    requires { ⌜ (0 < at) × (at ≤ 256) × (length (now left) ≡ 256) ⌝ }
-    ensures { λ r. ⌜ (r + 1 ≡ at) × (length (now (left .exit)) ≡ 256)
+    requires { ⌜ (0 < at) × (at ≤ mostBlocks) × (length (now left) ≡ mostBlocks) ⌝ }
+    ensures { λ r. ⌜ (r + 1 ≡ at) × (length (now (left .exit)) ≡ mostBlocks)
         × (drop r (now (left .exit)) ≡ block .0 ∷ drop at (now (left .entry))) ⌝ }
 {
     let k = at - 1;
@@ -55,7 +56,7 @@ fn push_successors(
     processing: &mut [u32; PROCESSING],
     top: usize,
 ) -> usize
-    requires { ⌜ (block .0 < 256) × (top + 2 ≤ 513) ⌝ }
+    requires { ⌜ (block .0 < mostBlocks) × (top + 2 ≤ 513) ⌝ }
     ensures { λ r. ⌜ stack (now (processing .exit)) r ≡ pushAll n
         (rowOf (now (succs .entry)) (now (counts .entry)) (block .0)) (stack (now (processing .entry)) top) ⌝ }
 {
@@ -115,9 +116,9 @@ fn process(
     processing: &mut [u32; PROCESSING],
     start: usize,
 ) -> usize
-    requires { ⌜ Ready n (state (now met) (now left) (now processing) start 256) ⌝ }
+    requires { ⌜ Ready n (state (now met) (now left) (now processing) start mostBlocks) ⌝ }
     ensures { λ r. ⌜ Holds (coming (rowOf (now (succs .entry)) (now (counts .entry))) n
-        (state (now (met .entry)) (now (left .entry)) (now (processing .entry)) start 256))
+        (state (now (met .entry)) (now (left .entry)) (now (processing .entry)) start mostBlocks))
         n (now (met .exit)) (now (left .exit)) r ⌝ }
 {
     let mut top = start;
@@ -138,7 +139,7 @@ pub fn walk(
     met: &mut [u8; limits::BLOCKS],
     left: &mut [u32; limits::BLOCKS],
 ) -> usize
-    requires { ⌜ (n ≤ 256) × (now met ≡ replicate 256 0) × (length (now left) ≡ 256) ⌝ }
+    requires { ⌜ (n ≤ mostBlocks) × (now met ≡ replicate mostBlocks 0) × (length (now left) ≡ mostBlocks) ⌝ }
     ensures { λ r. ⌜ Holds (walked (recorded (now (blocks .entry)) first) n) n
         (now (met .exit)) (now (left .exit)) r ⌝ }
 {

@@ -6,9 +6,10 @@ use mathlib.Core.Path.{_≡_}
 use mathlib.Core.List.{List, [], _∷_}
 use lib.ListN.{getD, set}
 use lib.Seq.{sets}
+use Rattle.utils.specs.Limits.{mostFunctions}
 use Rattle.lexer.specs.declared.Found.{Found}
 use Rattle.lexer.specs.declared.Found.the-variants as F
-use Rattle.functions.specs.Columns.{rowAt, nameAt}
+use Rattle.functions.specs.Columns.{rowAt, nameAt, rowWidth}
 use Rattle.headers.specs.Spelled.{rowName, nameSpelled}
 use Rattle.headers.specs.declared.Placed.{Placed}
 
@@ -19,7 +20,7 @@ cellsFrom cells at (suc n) = getD cells at 0 ∷ cellsFrom cells (at + 1) n
 
 -- row n, as row i of the old table but for its name, the number x
 unfoldable pub rowPut : List ℕ → ℕ → List ℕ → ℕ → ℕ → List ℕ
-rowPut out n rows i x = set (sets out (rowAt n) (cellsFrom rows (rowAt i) 45)) (nameAt n) x
+rowPut out n rows i x = set (sets out (rowAt n) (cellsFrom rows (rowAt i) rowWidth)) (nameAt n) x
 
 -- a table, and how many rows it has
 pub record Brought : Type 0 where
@@ -52,4 +53,4 @@ pub record Brings (old rows new names : List ℕ) (known number : ℕ) (out₀ :
   where
     pub table : brought out (r .count) ≡ headersBrought old rows new names known out₀
     pub place : r .place ≡ broughtFrom old rows new names known 0 number (brought out₀ 0) .count
-    pub few : r .count ≤ 64
+    pub few : r .count ≤ mostFunctions

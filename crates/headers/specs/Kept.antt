@@ -6,7 +6,7 @@ use lib.Dec.{eqb}
 use lib.ListN.{length}
 use Rattle.utils.specs.Bytes.{pick, sameBytes}
 use Rattle.lexer.specs.Decoded.{Tok, tokenAt, nameOf}
-use Rattle.parser.specs.Kinds as T
+use Rattle.pieces.specs.Kinds as T
 use Rattle.parser.specs.Step.{thenNamed, thenType}
 use Rattle.parser.specs.Grammar.{globalD}
 use Rattle.pieces.specs.declared.Identifier.{Identifier}

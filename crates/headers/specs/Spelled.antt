@@ -8,6 +8,8 @@ use lib.ListN.{length, getD}
 use lib.Seq.{slice}
 use Rattle.utils.specs.Bytes.{pick, sameBytes}
 use Rattle.lexer.specs.Decoded.{nameOf}
+use Rattle.parser.specs.Types as Types
+use Rattle.utils.specs.Limits.{mostFunctions}
 use Rattle.lexer.specs.declared.Found.{Found}
 use Rattle.lexer.specs.declared.Found.the-variants as F
 use Rattle.functions.specs.Columns.{typeAt, placeAt, lengthAt}
@@ -32,7 +34,7 @@ spelledAs old new rows names (L.Name x) = nameOf new names (x .0)
 
 -- a table has 64 rows at most
 abbrev pub InTable : Looked → Type 0
-InTable (L.Header i) = i ≤ 64
+InTable (L.Header i) = i ≤ mostFunctions
 InTable (L.Name x) = Unit
 
 -- the first of the new text's n names, from name x on, that is spelled so
@@ -59,7 +61,7 @@ globalsSpelled old rows new names x = globalOf rows (calleeRow old rows new name
 
 -- and the cell of that type: its number and 4
 abbrev pub typeCellOf : List ℕ → FoundRow → ℕ
-typeCellOf rows (W.At i) = getD rows (typeAt i) 0 + 4
+typeCellOf rows (W.At i) = getD rows (typeAt i) 0 + Types.function
 typeCellOf rows W.Absent = 0
 
 abbrev pub calleesSpelled : List ℕ → List ℕ → List ℕ → List ℕ → ℕ → ℕ

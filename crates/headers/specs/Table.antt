@@ -8,7 +8,9 @@ use mathlib.Core.Bool.{Bool, true, false}
 use lib.Dec.{ltb, leb}
 use lib.ListN.{length, getD}
 use Rattle.utils.specs.Bytes.{pick}
-use Rattle.functions.specs.Columns.{retAt, typeAt, countAt, blockCountAt, placeAt, lengthAt, lineAt, formalTypeAt}
+use Rattle.functions.specs.Columns.{retAt, typeAt, countAt, blockCountAt, placeAt, lengthAt, lineAt, formalTypeAt, tableSize}
+use Rattle.parser.specs.Types as Types
+use Rattle.utils.specs.Limits.{mostBytes, mostLines, mostNameBytes, mostFunctions, mostFormals, mostBlocks}
 
 -- a cell is at least the one and at most the other
 unfoldable pub between : ℕ → ℕ → ℕ → Bool
@@ -19,28 +21,29 @@ unfoldable pub formalsFit : List ℕ → ℕ → ℕ → ℕ → Bool
 formalsFit rows i k zero = true
 formalsFit rows i k (suc n) =
     let more = formalsFit rows i (k + 1) n in
-    pick (between 1 2 (getD rows (formalTypeAt i k) 0)) more false
+    pick (between Types.int Types.bool (getD rows (formalTypeAt i k) 0)) more false
 
 -- the name of row i lies in the old text, and its line is one that a text of that size has
 unfoldable pub nameFits : List ℕ → List ℕ → ℕ → Bool
 nameFits old rows i =
     let place = getD rows (placeAt i) 0 in
     let len = getD rows (lengthAt i) 0 in
-    pick (leb place 16384)
-    (pick (between 2 64 len)
-    (pick (leb (place + len) (length old)) (between 1 16385 (getD rows (lineAt i) 0)) false) false) false
+    pick (leb place mostBytes)
+    (pick (between 2 mostNameBytes len)
+    (pick (leb (place + len) (length old)) (between 1 mostLines (getD rows (lineAt i) 0)) false) false) false
 
 -- its result type, its function type's number, how many blocks it has
 unfoldable pub typeFits : List ℕ → ℕ → Bool
 typeFits rows i =
-    pick (between 1 3 (getD rows (retAt i) 0))
-    (pick (ltb (getD rows (typeAt i) 0) 64) (between 1 256 (getD rows (blockCountAt i) 0)) false) false
+    pick (between Types.int Types.void (getD rows (retAt i) 0))
+    (pick (ltb (getD rows (typeAt i) 0) mostFunctions)
+    (between 1 mostBlocks (getD rows (blockCountAt i) 0)) false) false
 
 unfoldable pub rowFits : List ℕ → List ℕ → ℕ → Bool
 rowFits old rows i =
     let formals = getD rows (countAt i) 0 in
     pick (nameFits old rows i)
-    (pick (typeFits rows i) (pick (leb formals 16) (formalsFit rows i 0 formals) false) false) false
+    (pick (typeFits rows i) (pick (leb formals mostFormals) (formalsFit rows i 0 formals) false) false) false
 
 -- n rows, from row i on
 unfoldable pub rowsFit : List ℕ → List ℕ → ℕ → ℕ → Bool
@@ -54,6 +57,6 @@ unfoldable pub isTable : List ℕ → List ℕ → ℕ → Bool
 isTable old table number =
     let count = getD table 0 0 in
     let rows = rowsFit old table 0 count in
-    pick (ltb 16384 (length old)) false
-    (pick (ltb (length table) 2881) false
-    (pick (ltb number count) (pick (leb count 64) rows false) false))
+    pick (ltb mostBytes (length old)) false
+    (pick (ltb (length table) tableSize) false
+    (pick (ltb number count) (pick (leb count mostFunctions) rows false) false))

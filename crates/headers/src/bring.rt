@@ -3,7 +3,8 @@ ghost use mathlib.Core.Path.{_≡_};
 ghost use Prim.Native.Nat.{_+_, _≤_, _<_};
 ghost use lib.ListN.{length, getD};
 ghost use lib.Seq.{sets};
-ghost use Rattle.functions.specs.Columns.{rowAt};
+ghost use Rattle.functions.specs.Columns.{rowAt, tableSize};
+ghost use Rattle.utils.specs.Limits.{mostFunctions};
 ghost use Rattle.headers.specs.Spelled.{rowName, nameSpelled};
 ghost use Rattle.headers.specs.Brought.{cellsFrom, rowPut, brought, broughtAs, broughtFrom, Brings};
 use crate::Placed;
@@ -15,7 +16,7 @@ use utils::cell_at;
 
 // Row n as row i of the old table.
 pub fn copy_row(out: &mut [u32], n: usize, rows: &[u32], i: usize)
-    requires { ⌜ (n < 64) × (i < 64) × (2881 ≤ length (now out)) ⌝ }
+    requires { ⌜ (n < mostFunctions) × (i < mostFunctions) × (tableSize ≤ length (now out)) ⌝ }
     ensures { λ r. ⌜ now (out .exit)
         ≡ sets (now (out .entry)) (rowAt n) (cellsFrom (now (rows .entry)) (rowAt i) 45) ⌝ }
 {
@@ -31,7 +32,7 @@ pub fn copy_row(out: &mut [u32], n: usize, rows: &[u32], i: usize)
 
 // Row n as row i of the old table, but with the name x.
 fn put_row(out: &mut [u32], n: usize, rows: &[u32], i: usize, x: Identifier)
-    requires { ⌜ (n < 64) × (i < 64) × (2881 ≤ length (now out)) ⌝ }
+    requires { ⌜ (n < mostFunctions) × (i < mostFunctions) × (tableSize ≤ length (now out)) ⌝ }
     ensures { λ r. ⌜ now (out .exit) ≡ rowPut (now (out .entry)) n (now (rows .entry)) i (x .0) ⌝ }
 {
     copy_row(out, n, rows, i);
@@ -50,7 +51,7 @@ fn bring_row<'t, 'c>(
     names: &'c [u32],
     known: u32,
 ) -> usize
-    requires { ⌜ (n < 64) × (i < 64) × (2881 ≤ length (now out)) ⌝ }
+    requires { ⌜ (n < mostFunctions) × (i < mostFunctions) × (tableSize ≤ length (now out)) ⌝ }
     ensures { λ r. ⌜ brought (now (out .exit)) r
         ≡ broughtAs (brought (now (out .entry)) n) (now (rows .entry)) i
         (nameSpelled (now (new .entry)) (now (names .entry)) 0 known
@@ -78,7 +79,7 @@ fn bring_rows<'t, 'c>(
     names: &'c [u32],
     known: u32,
 ) -> usize
-    requires { ⌜ (n ≤ i) × (i + left ≤ 64) × (2881 ≤ length (now out)) ⌝ }
+    requires { ⌜ (n ≤ i) × (i + left ≤ mostFunctions) × (tableSize ≤ length (now out)) ⌝ }
     ensures { λ r. ⌜ brought (now (out .exit)) r
         ≡ broughtFrom (now (old .entry)) (now (rows .entry)) (now (new .entry)) (now (names .entry)) known i left
         (brought (now (out .entry)) n) ⌝ }
@@ -105,7 +106,8 @@ pub fn bring<'t, 'c>(
     names: &'c [u32],
     known: u32,
 ) -> Placed
-    requires { ⌜ (number < getD (now rows) 0 0) × (getD (now rows) 0 0 ≤ 64) × (2881 ≤ length (now out)) ⌝ }
+    requires { ⌜ (number < getD (now rows) 0 0) × (getD (now rows) 0 0 ≤ mostFunctions)
+        × (tableSize ≤ length (now out)) ⌝ }
     ensures { λ r. ⌜ Brings (now (old .entry)) (now (rows .entry)) (now (new .entry)) (now (names .entry)) known number
         (now (out .entry)) r (now (out .exit)) ⌝ }
 {

@@ -1,10 +1,10 @@
 // Before the new text is parsed: whether it begins and ends as one function (40), and keeps the replaced one's header (41).
 ghost use mathlib.Core.Path.{_≡_};
-ghost use Prim.Native.Nat.{_-_, _≤_, _<_};
-ghost use lib.ListN.{length};
+ghost use Prim.Native.Nat.{_-_};
 ghost use Rattle.utils.specs.Bytes.{sameBytes};
 ghost use Rattle.lexer.specs.Decoded.{tokensOf};
 ghost use Rattle.functions.specs.Rows.{signedAt};
+ghost use Rattle.functions.specs.Columns.{IsRow};
 ghost use Rattle.headers.specs.Spelled.{rowName};
 ghost use Rattle.headers.specs.Kept.{isWhole, keepsBehind, keeps};
 use crate::bring;
@@ -62,7 +62,7 @@ fn keeps_behind<'t, 'c>(
     at: usize,
     local: &mut [u32],
 ) -> bool
-    requires { ⌜ (i < 64) × (2881 ≤ length (now local)) ⌝ }
+    requires { ⌜ IsRow (now local) i ⌝ }
     ensures { λ r. ⌜ r ≡ keepsBehind (sameBytes (rowName (now (old .entry)) (now (rows .entry)) i))
         (signedAt (now (rows .entry)) i) (now (new .entry)) (now (names .entry)) (tokensOf (now (tokens .entry)))
         name at ⌝ }
@@ -93,7 +93,7 @@ pub fn keeps<'t, 'c>(
     tokens: &[u32],
     local: &mut [u32],
 ) -> bool
-    requires { ⌜ (i < 64) × (2881 ≤ length (now local)) ⌝ }
+    requires { ⌜ IsRow (now local) i ⌝ }
     ensures { λ r. ⌜ r ≡ keeps (sameBytes (rowName (now (old .entry)) (now (rows .entry)) i))
         (signedAt (now (rows .entry)) i) (now (new .entry)) (now (names .entry)) (tokensOf (now (tokens .entry))) ⌝ }
 {

@@ -3,6 +3,7 @@ ghost use mathlib.Core.Path.{_≡_};
 ghost use Prim.Native.Nat.{_≤_};
 ghost use Rattle.utils.specs.Bytes.{sameBytes};
 ghost use Rattle.lexer.specs.Decoded.{nameOf};
+ghost use Rattle.utils.specs.Limits.{mostFunctions};
 ghost use Rattle.headers.specs.Spelled.{rowName, spelledAs, InTable, nameSpelled};
 use crate::Looked;
 use functions::columns;
@@ -13,7 +14,7 @@ use utils::cell_at;
 
 // The part of the old text that row i of the header table names.
 fn row_name<'t, 'c>(old: &'t [u8], rows: &'c [u32], i: usize) -> &'t [u8]
-    requires { ⌜ i ≤ 64 ⌝ }
+    requires { ⌜ i ≤ mostFunctions ⌝ }
     ensures { λ r. ⌜ now r ≡ rowName (now (old .entry)) (now (rows .entry)) i ⌝ }
 {
     let place = cell_at(rows, columns::PLACE + i * columns::ROW) as usize;
@@ -61,7 +62,7 @@ pub fn is_spelled<'t, 'c>(
     i: usize,
     x: Identifier,
 ) -> bool
-    requires { ⌜ i ≤ 64 ⌝ }
+    requires { ⌜ i ≤ mostFunctions ⌝ }
     ensures { λ r. ⌜ r ≡ sameBytes (rowName (now (old .entry)) (now (rows .entry)) i)
         (nameOf (now (new .entry)) (now (names .entry)) (x .0)) ⌝ }
 {
@@ -79,7 +80,7 @@ pub fn find_name<'t, 'c>(
     names: &'c [u32],
     count: u32,
 ) -> Found
-    requires { ⌜ i ≤ 64 ⌝ }
+    requires { ⌜ i ≤ mostFunctions ⌝ }
     ensures { λ r. ⌜ r ≡ nameSpelled (now (new .entry)) (now (names .entry)) 0 count
         (rowName (now (old .entry)) (now (rows .entry)) i) ⌝ }
 {

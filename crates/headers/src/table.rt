@@ -1,6 +1,7 @@
 // 42: whether a header table is one that check may have written, with its text.
 ghost use mathlib.Core.Path.{_≡_};
 ghost use Prim.Native.Nat.{_≤_};
+ghost use Rattle.utils.specs.Limits.{mostFunctions, mostFormals};
 ghost use Rattle.headers.specs.Table.{between, formalsFit, nameFits, typeFits, rowFits, rowsFit, isTable};
 use functions::columns;
 use parser::VARIABLE_CELLS;
@@ -20,7 +21,7 @@ fn is_between(least: u32, most: u32, x: u32) -> bool
 
 // Whether each of the n formals of row i has a type.
 fn formals_fit(rows: &[u32], i: usize, n: u32) -> bool
-    requires { ⌜ (i ≤ 64) × (n ≤ 16) ⌝ }
+    requires { ⌜ (i ≤ mostFunctions) × (n ≤ mostFormals) ⌝ }
     ensures { λ r. ⌜ r ≡ formalsFit (now (rows .entry)) i 0 n ⌝ }
 {
     let mut k: usize = 0;
@@ -43,7 +44,7 @@ fn formals_fit(rows: &[u32], i: usize, n: u32) -> bool
 }
 
 fn name_fits(old: &[u8], rows: &[u32], i: usize) -> bool
-    requires { ⌜ i ≤ 64 ⌝ }
+    requires { ⌜ i ≤ mostFunctions ⌝ }
     ensures { λ r. ⌜ r ≡ nameFits (now (old .entry)) (now (rows .entry)) i ⌝ }
 {
     let place = cell_at(rows, columns::PLACE + i * columns::ROW);
@@ -65,7 +66,7 @@ fn name_fits(old: &[u8], rows: &[u32], i: usize) -> bool
 }
 
 fn type_fits(rows: &[u32], i: usize) -> bool
-    requires { ⌜ i ≤ 64 ⌝ }
+    requires { ⌜ i ≤ mostFunctions ⌝ }
     ensures { λ r. ⌜ r ≡ typeFits (now (rows .entry)) i ⌝ }
 {
     if !is_between(
@@ -86,7 +87,7 @@ fn type_fits(rows: &[u32], i: usize) -> bool
 }
 
 fn row_fits(old: &[u8], rows: &[u32], i: usize) -> bool
-    requires { ⌜ i ≤ 64 ⌝ }
+    requires { ⌜ i ≤ mostFunctions ⌝ }
     ensures { λ r. ⌜ r ≡ rowFits (now (old .entry)) (now (rows .entry)) i ⌝ }
 {
     if !name_fits(old, rows, i) {
@@ -104,7 +105,7 @@ fn row_fits(old: &[u8], rows: &[u32], i: usize) -> bool
 
 // Whether each of n rows fits.
 fn rows_fit(old: &[u8], rows: &[u32], n: u32) -> bool
-    requires { ⌜ n ≤ 64 ⌝ }
+    requires { ⌜ n ≤ mostFunctions ⌝ }
     ensures { λ r. ⌜ r ≡ rowsFit (now (old .entry)) (now (rows .entry)) 0 n ⌝ }
 {
     let mut i: usize = 0;

@@ -5,6 +5,8 @@ use mathlib.Core.List.{List, [], _∷_, _++_}
 use lib.ListN.{length, getD}
 use Rattle.pieces.specs.Tokens.{kindOf}
 use Rattle.pieces.specs.Pieces.{Pieces, token}
+use Rattle.pieces.specs.Kinds as K
+use Rattle.utils.specs.Limits.{mostNameBytes}
 use Rattle.pieces.specs.declared.Cursor.{Cursor}
 use Rattle.pieces.specs.declared.Token.{Token}
 use Rattle.pieces.specs.declared.TokenValue.the-variants as T
@@ -24,7 +26,8 @@ pub data Both {A B : Type 0} (R : A → B → Type 0) : List A → List B → Ty
 -- The token t stands for an item of the text s: a name's carries the number of its spelling in the table.
 abbrev pub Stands : List ℕ → List (List ℕ) → Item → Token → Type 0
 Stands s ws (Item.spelled n) t =
-    (k : ℕ) × (k < length ws) × (getD ws k [] ≡ spellingOf s n) × (n .len ≤ 64) × (t ≡ named n (record { 0 = k }))
+    (k : ℕ) × (k < length ws) × (getD ws k [] ≡ spellingOf s n) × (n .len ≤ mostNameBytes)
+    × (t ≡ named n (record { 0 = k }))
 Stands s ws (Item.plain u) t = t ≡ u
 
 -- the words of items: the spellings of their names
@@ -80,8 +83,8 @@ renamed ws ws′ x = foundOr (length ws + x) (indexOf (getD ws′ x []) ws 0)
 
 -- An item lies in a text of n bytes; a name is of a kind from 1 to 3, and a token of a kind from 4 to 37.
 abbrev pub Inside : ℕ → Item → Type 0
-Inside n (Item.spelled x) = (x .place + x .len ≤ n) × (1 ≤ x .kind) × (x .kind ≤ 3)
-Inside n (Item.plain t) = (4 ≤ kindOf (t .value)) × (kindOf (t .value) < 38)
+Inside n (Item.spelled x) = (x .place + x .len ≤ n) × (K.local ≤ x .kind) × (x .kind ≤ K.label)
+Inside n (Item.plain t) = (K.integer ≤ kindOf (t .value)) × (kindOf (t .value) < K.endOfFile)
 
 abbrev pub AllInside : ℕ → List Item → Type 0
 AllInside n [] = Unit

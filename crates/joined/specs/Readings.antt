@@ -6,6 +6,7 @@ use mathlib.Core.List.{List, [], _++_}
 use lib.ListN.{length, getD}
 use Rattle.utils.specs.Bytes.{padTo}
 use Rattle.pieces.specs.Tokens.{kindOf}
+use Rattle.pieces.specs.Kinds as K
 use Rattle.pieces.specs.declared.Token.{Token}
 use Rattle.lexer.specs.Numbered.{Part, spellings, tokensCells}
 use Rattle.lexer.specs.Decoded.{Tok, tokensOf}
@@ -35,7 +36,8 @@ pub record Readings (pre f post new : List ℕ) (line first : ℕ) (e : Edit pre
       → getD (spellings (pre ++ (new ++ post)) ns) x [] ≡ getD (spellings (pre ++ (f ++ post)) (e .old-names)) x []
   pub front-same : (i : ℕ) → i < e .opening → getD ts i noToken ≡ getD (e .old-tokens) i noToken
   -- so they are related as they stand, where the last of them is a closing brace or there is none
-  pub front-still : ((i : ℕ) → i + 1 ≡ e .opening → kindOf (getD (e .old-tokens) i noToken .value) ≡ 28) → (w w′ : ℕ)
+  pub front-still : ((i : ℕ) → i + 1 ≡ e .opening → kindOf (getD (e .old-tokens) i noToken .value) ≡ K.rightBrace)
+      → (w w′ : ℕ)
       → Sim (still front-names) (e .opening) (held w ts) (held w′ (e .old-tokens))
   -- then the new text's, without its end token: moved by the tokens and the bytes of pre, on the same lines, and
   -- renamed by spelling

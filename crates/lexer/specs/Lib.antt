@@ -1,4 +1,6 @@
 -- What reading a text means, in reading order. The pieces of a text are those of the crate pieces.
+-- records and slices by their cells
+pub mod Sizes
 -- names numbered, limits applied
 pub mod Numbered
 -- one turn of the reader

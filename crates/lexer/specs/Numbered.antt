@@ -7,6 +7,7 @@ use lib.Seq.{slice}
 use Rattle.utils.specs.Bytes.{pick, sameBytes}
 use Rattle.pieces.specs.Tokens.{valueOf, tokenCells}
 use Rattle.pieces.specs.Pieces.{Pieces, cursor, token, pieces}
+use Rattle.utils.specs.Limits.{mostNames, mostNameBytes, mostTokens}
 use Rattle.pieces.specs.declared.Cursor.{Cursor}
 use Rattle.pieces.specs.declared.Identifier.{Identifier}
 use Rattle.pieces.specs.declared.Token.{Token}
@@ -51,12 +52,12 @@ atName n = cursor (n .place) (n .line .0)
 abbrev pub onFound : ℕ → Name → Found → Identified
 onFound count n (F.At i) = I.Known i
 onFound count n F.Nothing =
-    pick (ltb count 1024) (I.New (record { 0 = count })) (I.Refused (R.TooManyNames (atName n)))
+    pick (ltb count mostNames) (I.New (record { 0 = count })) (I.Refused (R.TooManyNames (atName n)))
 
 -- 64 bytes a name with its sigil. For one name 34 comes before 33.
 unfoldable pub identified : List ℕ → List Part → Name → Identified
 identified s names n =
-    pick (ltb 64 (n .len)) (I.Refused (R.NameTooLong (atName n)))
+    pick (ltb mostNameBytes (n .len)) (I.Refused (R.NameTooLong (atName n)))
     (onFound (length names) n (indexOf (spellingOf s n) (spellings s names) 0))
 
 -- the token of a name that has its number
@@ -77,7 +78,7 @@ thenIdentified names n (I.Refused r) k = refused r
 
 -- 4,096 tokens with the end token; the token one too many is 32.
 unfoldable pub thenRoom : List Token → Token → Outcome → Outcome
-thenRoom tokens t more = pick (ltb (length tokens) 4096) more (refused (R.TooManyTokens (atToken t)))
+thenRoom tokens t more = pick (ltb (length tokens) mostTokens) more (refused (R.TooManyTokens (atToken t)))
 
 -- The tokens and the names so far, and the pieces that are left. For one name 34 and 33 come before 32.
 unfoldable pub numberedFrom : List ℕ → List Token → List Part → Pieces → Outcome

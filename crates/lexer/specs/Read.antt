@@ -8,6 +8,8 @@ use lib.ListN.{length}
 use Rattle.utils.specs.Bytes.{pick, padTo}
 use Rattle.pieces.specs.Classes.{isAscii}
 use Rattle.pieces.specs.Refusals.{factsOf, messageOf}
+use Rattle.utils.specs.Limits.{mostBytes, messageSize}
+use Rattle.lexer.specs.Sizes.{tokensSize, namesSize}
 use Rattle.lexer.specs.Numbered.{Outcome, numbered, tokensCells, namesCells}
 use Rattle.pieces.specs.declared.Refusal.{Refusal}
 use Rattle.pieces.specs.declared.Refusal.the-variants as R
@@ -42,7 +44,7 @@ refused r = reading (answerOf r) [] [] (messageOf r)
 -- Order: 31, 1, then from left to right. A text whose first line has this number.
 unfoldable pub lexedFrom : ℕ → List ℕ → Outcome
 lexedFrom line text =
-    pick (ltb 16384 (length text)) (Outcome.refused R.TooManyBytes)
+    pick (ltb mostBytes (length text)) (Outcome.refused R.TooManyBytes)
     (pick (isAscii text) (numbered text line) (Outcome.refused (R.NotAscii line)))
 
 abbrev pub readingOf : Outcome → Reading
@@ -61,7 +63,7 @@ readOf text = readFrom 1 text
 
 -- 4,096 token records of 4 cells, 1,024 name records of 2 cells, 512 message bytes
 unfoldable pub sized : ℕ → ℕ → ℕ → Bool
-sized t n m = pick (ltb t 16384) false (pick (ltb n 2048) false (pick (ltb m 512) false true))
+sized t n m = pick (ltb t tokensSize) false (pick (ltb n namesSize) false (pick (ltb m messageSize) false true))
 
 abbrev pub padded : List ℕ → List ℕ → List ℕ → Reading → Reading
 padded t n m o =
@@ -101,7 +103,7 @@ Held (Outcome.refused r) t₀ n₀ t n = Unit
 Held Outcome.cut t₀ n₀ t n = Unit
 
 abbrev pub IfSized : Bool → ℕ → ℕ → ℕ → Type 0
-IfSized true t n m = (16384 ≤ t) × (2048 ≤ n) × (512 ≤ m)
+IfSized true t n m = (tokensSize ≤ t) × (namesSize ≤ n) × (messageSize ≤ m)
 IfSized false t n m = Unit
 
 -- THE PROMISE of `read`, by parts with names.

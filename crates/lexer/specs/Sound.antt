@@ -10,6 +10,8 @@ use Rattle.pieces.specs.Classes.{isAscii}
 use Rattle.pieces.specs.Tokens.{kindOf, carried}
 use Rattle.pieces.specs.Refusals.{factsOf}
 use Rattle.pieces.specs.Pieces.{token}
+use Rattle.pieces.specs.Kinds as K
+use Rattle.utils.specs.Limits.{mostBytes, mostTokens, mostNames, mostNameBytes}
 use Rattle.lexer.specs.Numbered.{Part, part}
 use Rattle.pieces.specs.declared.Token.{Token}
 use Rattle.pieces.specs.declared.TokenValue.the-variants as T
@@ -38,14 +40,15 @@ partOf ns t = getD ns (carried (t .value)) noPart
 
 -- Of a token. A name's, of a kind from 1 to 3, carries the number of a name, and the text has that name's bytes there.
 abbrev pub HasNumber : List Part → Token → Type 0
-HasNumber ns t = kindOf (t .value) ≤ 3 → carried (t .value) < length ns
+HasNumber ns t = kindOf (t .value) ≤ K.label → carried (t .value) < length ns
 
 abbrev pub HasSpelling : List ℕ → List Part → Token → Type 0
-HasSpelling s ns t = kindOf (t .value) ≤ 3 → spelling s (part (t .place) (partOf ns t .len)) ≡ spelling s (partOf ns t)
+HasSpelling s ns t =
+    kindOf (t .value) ≤ K.label → spelling s (part (t .place) (partOf ns t .len)) ≡ spelling s (partOf ns t)
 
 -- A global or a label, of kind 2 or 3, has a letter behind its sigil.
 abbrev pub HasLetter : List Part → Token → Type 0
-HasLetter ns t = 2 ≤ kindOf (t .value) → kindOf (t .value) ≤ 3 → 2 ≤ partOf ns t .len
+HasLetter ns t = K.global ≤ kindOf (t .value) → kindOf (t .value) ≤ K.label → 2 ≤ partOf ns t .len
 
 -- No line comes before the first, a byte adds a line at most, and no token begins past the text's end.
 abbrev pub InRange : List ℕ → ℕ → Token → Type 0
@@ -57,23 +60,23 @@ Rises t u = (t .place < u .place) × (t .line .0 ≤ u .line .0)
 
 -- Of a name: it lies in the text, 1 to 64 bytes long. Of two names: they differ.
 abbrev pub InText : List ℕ → Part → Type 0
-InText s p = (1 ≤ p .len) × (p .len ≤ 64) × (p .place + p .len ≤ length s)
+InText s p = (1 ≤ p .len) × (p .len ≤ mostNameBytes) × (p .place + p .len ≤ length s)
 
 abbrev pub Differ : List ℕ → Part → Part → Type 0
 Differ s p q = spelling s p ≡ spelling s q → ⊥
 
 -- The text s, the number of its first line, its tokens and its names.
 pub record Sound (s : List ℕ) (line : ℕ) (ts : List Token) (ns : List Part) : Type 0 where
-  pub short : length s ≤ 16384
+  pub short : length s ≤ mostBytes
   pub ascii : isAscii s ≡ true
   -- The last token is the end token, at the text's length, and no other is one.
   pub front : List Token
   pub last-line : ℕ
   pub ends : ts ≡ front ++ (token T.EndOfFile last-line (length s) ∷ [])
-  pub inner : Each noToken (λ t. kindOf (t .value) < 38) front
+  pub inner : Each noToken (λ t. kindOf (t .value) < K.endOfFile) front
   pub some : 1 ≤ length ts
-  pub few : length ts ≤ 4096
-  pub few-names : length ns ≤ 1024
+  pub few : length ts ≤ mostTokens
+  pub few-names : length ns ≤ mostNames
   pub numbered : Each noToken (HasNumber ns) ts
   pub spelled : Each noToken (HasSpelling s ns) ts
   pub lettered : Each noToken (HasLetter ns) ts
@@ -85,5 +88,5 @@ pub record Sound (s : List ℕ) (line : ℕ) (ts : List Token) (ns : List Part) 
 -- Of a refusal: where it stands.
 pub record SoundRefusal (s : List ℕ) (line : ℕ) (r : Refusal) : Type 0 where
   pub place-in : factsOf r .place ≤ length s
-  pub place-small : factsOf r .place ≤ 16384
+  pub place-small : factsOf r .place ≤ mostBytes
   pub line-to : factsOf r .line ≤ line + factsOf r .place

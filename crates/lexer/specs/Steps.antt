@@ -8,6 +8,8 @@ use lib.Seq.{sets}
 use Rattle.utils.specs.Bytes.{pick}
 use Rattle.pieces.specs.Tokens.{tokenCells}
 use Rattle.pieces.specs.Pieces.{token}
+use Rattle.utils.specs.Limits.{mostNames, mostTokens}
+use Rattle.lexer.specs.Sizes.{namesSize, tokenWidth, nameWidth}
 use Rattle.lexer.specs.Numbered.{Part, part, identified, named}
 use Rattle.pieces.specs.declared.Cursor.{Cursor}
 use Rattle.pieces.specs.declared.Token.{Token}
@@ -33,12 +35,12 @@ Within n (p ∷ ps) = (p .place + p .len ≤ n) × Within n ps
 
 -- the first `count` names that cells hold
 abbrev pub firstNames : ℕ → List ℕ → List Part
-firstNames count cells = partsOf (take (count * 2) cells)
+firstNames count cells = partsOf (take (count * nameWidth) cells)
 
 -- what the code may rely on of the table of names
 pub record Table (text cells : List ℕ) (count : ℕ) : Type 0 where
-  pub few : count ≤ 1024
-  pub room : 2048 ≤ length cells
+  pub few : count ≤ mostNames
+  pub room : namesSize ≤ length cells
   pub small : length text < 4294967296
   pub within : Within (length text) (firstNames count cells)
 
@@ -71,4 +73,4 @@ addedBy s names (L.Refused r) = []
 
 -- the tokens' cells with one token more, where there is room for it
 unfoldable pub pushed : List ℕ → ℕ → Token → List ℕ
-pushed cells count t = pick (ltb count 4096) (sets cells (count * 4) (tokenCells t)) cells
+pushed cells count t = pick (ltb count mostTokens) (sets cells (count * tokenWidth) (tokenCells t)) cells

@@ -12,6 +12,8 @@ ghost use lib.Seq.{sets};
 ghost use Rattle.utils.specs.Bytes.{pick, padTo};
 ghost use Rattle.pieces.specs.Pieces.{pieceAt};
 ghost use Rattle.pieces.specs.Tokens.{tokenCells};
+ghost use Rattle.utils.specs.Limits.{mostBytes, mostTokens, messageSize};
+ghost use Rattle.lexer.specs.Sizes.{tokenWidth, tokensSize, namesSize};
 ghost use Rattle.lexer.specs.Numbered.{atToken, identified, named, numbered};
 ghost use Rattle.lexer.specs.Steps.{firstNames, Table, newCells};
 ghost use Rattle.lexer.specs.Steps.{nextName, nextOf, addedBy, pushed};
@@ -136,8 +138,8 @@ fn next_token(text: &[u8], names: &mut [u32], count: usize, at: Cursor) -> Next
 
 // Stores a token's four cells, after `count` records.
 fn put_token(cells: &mut [u32], count: usize, token: Token)
-    requires { ⌜ (count * 4 + 4 ≤ length (now cells)) × (token .place < 4294967296) ⌝ }
-    ensures { λ r. ⌜ now (cells .exit) ≡ sets (now (cells .entry)) (count * 4) (tokenCells token) ⌝ }
+    requires { ⌜ (count * tokenWidth + tokenWidth ≤ length (now cells)) × (token .place < 4294967296) ⌝ }
+    ensures { λ r. ⌜ now (cells .exit) ≡ sets (now (cells .entry)) (count * tokenWidth) (tokenCells token) ⌝ }
 {
     let value = token.value;
     let first = tokens::kinded(value);
@@ -153,8 +155,8 @@ fn put_token(cells: &mut [u32], count: usize, token: Token)
 
 // Stores a token behind `count` others, where there is room for it.
 fn push_token(cells: &mut [u32], count: usize, token: Token) -> bool
-    requires { ⌜ (16384 ≤ length (now cells)) × (token .place < 4294967296) ⌝ }
-    ensures { λ r. ⌜ (r ≡ ltb count 4096) × (now (cells .exit) ≡ pushed (now (cells .entry)) count token) ⌝ }
+    requires { ⌜ (tokensSize ≤ length (now cells)) × (token .place < 4294967296) ⌝ }
+    ensures { λ r. ⌜ (r ≡ ltb count mostTokens) × (now (cells .exit) ≡ pushed (now (cells .entry)) count token) ⌝ }
 {
     if count < limits::TOKENS {
         put_token(cells, count, token);
@@ -165,8 +167,8 @@ fn push_token(cells: &mut [u32], count: usize, token: Token) -> bool
 
 // The cells of tokens and names, from cleared slices. On a refusal the caller clears them again.
 fn lex_all(text: &[u8], line: u32, tokens: &mut [u32], names: &mut [u32]) -> LexResult
-    requires { ⌜ (length (now text) ≤ 16384) × (line ≤ 2147483648)
-        × (16384 ≤ length (now tokens)) × (2048 ≤ length (now names)) ⌝ }
+    requires { ⌜ (length (now text) ≤ mostBytes) × (line ≤ 2147483648)
+        × (tokensSize ≤ length (now tokens)) × (namesSize ≤ length (now names)) ⌝ }
     ensures { λ r. ⌜ r ≡ resultOf (numbered (now (text .entry)) line) ⌝ }
     ensures { λ r. ⌜ Held (numbered (now (text .entry)) line)
         (now (tokens .entry)) (now (names .entry)) (now (tokens .exit)) (now (names .exit)) ⌝ }
@@ -213,7 +215,7 @@ fn too_many(token: Token) -> Refusal
 
 // 31, then 1, then from left to right.
 fn lex_text(text: &[u8], line: u32, tokens: &mut [u32], names: &mut [u32]) -> LexResult
-    requires { ⌜ (line ≤ 2147483648) × (16384 ≤ length (now tokens)) × (2048 ≤ length (now names)) ⌝ }
+    requires { ⌜ (line ≤ 2147483648) × (tokensSize ≤ length (now tokens)) × (namesSize ≤ length (now names)) ⌝ }
     ensures { λ r. ⌜ r ≡ resultOf (lexedFrom line (now (text .entry))) ⌝ }
     ensures { λ r. ⌜ Held (lexedFrom line (now (text .entry)))
         (now (tokens .entry)) (now (names .entry)) (now (tokens .exit)) (now (names .exit)) ⌝ }
@@ -229,7 +231,7 @@ fn lex_text(text: &[u8], line: u32, tokens: &mut [u32], names: &mut [u32]) -> Le
 
 // The tokens and names of a text whose first line has this number. A refusal leaves both slices zero.
 pub fn lex_from(text: &[u8], line: u32, tokens: &mut [u32], names: &mut [u32]) -> LexResult
-    requires { ⌜ (line ≤ 2147483648) × (16384 ≤ length (now tokens)) × (2048 ≤ length (now names)) ⌝ }
+    requires { ⌜ (line ≤ 2147483648) × (tokensSize ≤ length (now tokens)) × (namesSize ≤ length (now names)) ⌝ }
     ensures { λ r. ⌜ r ≡ resultOf (lexedFrom line (now (text .entry))) ⌝ }
     ensures { λ r. ⌜ now (tokens .exit)
         ≡ padTo (length (now (tokens .entry))) (tokensIn (lexedFrom line (now (text .entry)))) ⌝ }
@@ -270,8 +272,8 @@ pub fn read_from(
     names: &mut [u32],
     message: &mut [u8],
 ) -> ReadAnswer
-    requires { ⌜ (line ≤ 2147483648) × (16384 ≤ length (now tokens)) × (2048 ≤ length (now names))
-        × (512 ≤ length (now message)) ⌝ }
+    requires { ⌜ (line ≤ 2147483648) × (tokensSize ≤ length (now tokens)) × (namesSize ≤ length (now names))
+        × (messageSize ≤ length (now message)) ⌝ }
     ensures { λ r. ⌜ reading r (now (tokens .exit)) (now (names .exit)) (now (message .exit))
         ≡ padded (now (tokens .entry)) (now (names .entry)) (now (message .entry))
         (readFrom line (now (text .entry))) ⌝ }

@@ -4,6 +4,7 @@ ghost use Prim.Native.Nat.{ℕ, _+_, _-_, _*_, _≤_, _<_};
 ghost use lib.ListN.{length, take};
 ghost use lib.Seq.{slice, sets};
 ghost use Rattle.utils.specs.Bytes.{sameBytes};
+ghost use Rattle.lexer.specs.Sizes.{nameWidth};
 ghost use Rattle.lexer.specs.Numbered.{indexOf, spellings, identified};
 ghost use Rattle.lexer.specs.Steps.{firstNames, Table, newCells};
 use crate::Cursor;
@@ -52,7 +53,7 @@ fn lookup(text: &[u8], names: &[u32], count: usize, place: usize, len: usize) ->
 pub(crate) fn get_identifier(text: &[u8], names: &mut [u32], count: usize, name: Name) -> Identified
     requires { ⌜ Table (now text) (now names) count × (name .place + name .len ≤ length (now text)) ⌝ }
     ensures { λ r. ⌜ r ≡ identified (now (text .entry)) (firstNames count (now (names .entry))) name ⌝ }
-    ensures { λ r. ⌜ now (names .exit) ≡ sets (now (names .entry)) (count * 2) (newCells name r) ⌝ }
+    ensures { λ r. ⌜ now (names .exit) ≡ sets (now (names .entry)) (count * nameWidth) (newCells name r) ⌝ }
 {
     let place = name.place;
     let len = name.len;

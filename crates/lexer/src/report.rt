@@ -6,6 +6,7 @@ ghost use mathlib.Core.List.{[]};
 ghost use Rattle.utils.specs.Bytes.{padTo};
 ghost use Rattle.utils.specs.Message.{reported};
 ghost use Rattle.pieces.specs.Refusals.{factsOf, messageOf, unexpected};
+ghost use Rattle.utils.specs.Limits.{messageSize};
 ghost use Rattle.lexer.specs.Read.{readRefusal, answerOf};
 use crate::ReadAnswer;
 use pieces::Location;
@@ -62,7 +63,7 @@ pub(crate) fn answer_of(refusal: Refusal) -> ReadAnswer
 }
 
 fn report_unexpected(message: &mut [u8], line: Location, b: u8)
-    requires { ⌜ 512 ≤ length (now message) ⌝ }
+    requires { ⌜ messageSize ≤ length (now message) ⌝ }
     ensures { λ r. ⌜ now (message .exit)
         ≡ padTo (length (now (message .entry))) (reported (line .0) [] (unexpected b)) ⌝ }
 {
@@ -73,7 +74,7 @@ fn report_unexpected(message: &mut [u8], line: Location, b: u8)
 
 // The message of a refusal, and zeros after it.
 pub(crate) fn report(message: &mut [u8], refusal: Refusal)
-    requires { ⌜ 512 ≤ length (now message) ⌝ }
+    requires { ⌜ messageSize ≤ length (now message) ⌝ }
     ensures { λ r. ⌜ now (message .exit) ≡ padTo (length (now (message .entry))) (messageOf refusal) ⌝ }
 {
     match refusal {

@@ -8,6 +8,8 @@ use lib.ListN.{length, getD, take}
 use lib.Seq.{sets}
 use Rattle.utils.specs.Bytes.{pick}
 use Rattle.graph.specs.Records.{blockRecord, cellsOf, blockAt}
+use Rattle.body.specs.Kinds as K
+use Rattle.utils.specs.Limits.{mostLabels}
 use Rattle.graph.specs.declared.BlockId.{BlockId}
 use Rattle.graph.specs.declared.BlockRecord.{BlockRecord}
 use Rattle.body.specs.Shapes.{Shape, name, operation, namesIn}
@@ -28,31 +30,38 @@ use Rattle.link.specs.declared.Goes.the-variants as G
 use Rattle.link.specs.declared.Numbered.{Numbered}
 use Rattle.link.specs.declared.Numbered.the-variants as N
 
+-- the slices' cells: 1,024 blocks, and two predecessors for each
+abbrev pub blocksSize : ℕ
+blocksSize = 8192
+
+abbrev pub predecessorsSize : ℕ
+predecessorsSize = 2048
+
 -- What `link` asks: the items and the labels of a function as its body left them, and room for its blocks and edges.
 pub record Ready (items : List ℕ) (first count : ℕ) (labels : List ℕ) (labelled : ℕ) (blocks : List ℕ) (base : ℕ)
     (preds : List ℕ) (used : ℕ) : Type 0 where
   pub items-there : (first + count) * 8 ≤ length items
   pub few-items : first + count ≤ 3072
-  pub few-labels : labelled ≤ 255
+  pub few-labels : labelled ≤ mostLabels
   pub labels-there : labelled ≤ length labels
   pub labels-are : take labelled labels ≡ namesIn (partsAt items first count)
   pub few-blocks : base + filled true (partsAt items first count) ≤ 1024
-  pub blocks-there : 8192 ≤ length blocks
+  pub blocks-there : blocksSize ≤ length blocks
   pub few-before : used ≤ base * 2
-  pub predecessors-there : 2048 ≤ length preds
+  pub predecessors-there : predecessorsSize ≤ length preds
 
 -- What cutting the items into blocks needs of it, with how many labels stand before the first operation.
 pub record Cut (items : List ℕ) (first count : ℕ) (labels : List ℕ) (labelled before : ℕ) (blocks : List ℕ) (base : ℕ)
     : Type 0 where
   pub items-there : (first + count) * 8 ≤ length items
   pub few-items : first + count ≤ 3072
-  pub few-labels : labelled ≤ 255
+  pub few-labels : labelled ≤ mostLabels
   pub labels-there : labelled ≤ length labels
   pub labels-are : take labelled labels ≡ namesIn (partsAt items first count)
   pub before-are : before ≡ leading (partsAt items first count)
   pub before-few : before ≤ count
   pub few-blocks : base + filled true (partsAt items first count) ≤ 1024
-  pub blocks-there : 8192 ≤ length blocks
+  pub blocks-there : blocksSize ≤ length blocks
 
 -- Labels. -----------------------------------------------------------------------------------------------------------
 
@@ -83,7 +92,7 @@ twoD before names token l m =
 -- where a block leads whose last operation has this record: by its kind and its last two cells
 unfoldable pub leadsBy : ℕ → List ℕ → ℕ → ℕ → Last → Goes
 leadsBy before names kind token (L.Name l t) =
-    pick (eqb kind 9) (oneD before names token (l .0)) (G.Done 0 (blockId 0) (blockId 0))
+    pick (eqb kind K.jump) (oneD before names token (l .0)) (G.Done 0 (blockId 0) (blockId 0))
 leadsBy before names kind token (L.Labels l m) = twoD before names token (l .0) (m .0)
 leadsBy before names kind token (L.Run first count) = G.Done 0 (blockId 0) (blockId 0)
 

@@ -3,9 +3,10 @@ ghost use mathlib.Core.Path.{_≡_};
 ghost use Prim.Native.Nat.{_+_, _-_, _*_, _≤_, _<_};
 ghost use lib.ListN.{length, take};
 ghost use Rattle.body.specs.Records.{recordAt, partsAt};
+ghost use Rattle.utils.specs.Limits.{mostLabels};
 ghost use Rattle.link.specs.Blocks.{blocksOf};
 ghost use Rattle.link.specs.Edges.{resolveD};
-ghost use Rattle.link.specs.Steps.{goesD, run, putGoes, addedD, addedCells, Cut, numberedBy, ClosedHeld};
+ghost use Rattle.link.specs.Steps.{goesD, run, putGoes, addedD, addedCells, Cut, numberedBy, ClosedHeld, blocksSize};
 use crate::Goes;
 use crate::Numbered;
 use crate::labels;
@@ -42,7 +43,7 @@ fn close_block(
     blocks: &mut [u32],
     k: usize,
 ) -> Goes
-    requires { ⌜ (from < stop) × (stop ≤ 3072) × (stop * 8 ≤ length (now items)) × (labelled ≤ 255)
+    requires { ⌜ (from < stop) × (stop ≤ 3072) × (stop * 8 ≤ length (now items)) × (labelled ≤ mostLabels)
         × (labelled ≤ length (now labels)) × (k * 8 + 8 ≤ length (now blocks)) ⌝ }
     ensures { λ r. ⌜ (r ≡ goesD before (take labelled (now (labels .entry))) (recordAt (now (items .entry)) (stop - 1)))
         × (now (blocks .exit) ≡ putGoes (now (blocks .entry)) k from (stop - from) r) ⌝ }
@@ -80,8 +81,8 @@ fn add_block(
     blocks: &mut [u32],
     k: usize,
 ) -> Numbered
-    requires { ⌜ (from ≤ stop) × (stop ≤ 3072) × (stop * 8 ≤ length (now items)) × (labelled ≤ 255)
-        × (labelled ≤ length (now labels)) × (8192 ≤ length (now blocks)) × (from < stop → k < 1024) ⌝ }
+    requires { ⌜ (from ≤ stop) × (stop ≤ 3072) × (stop * 8 ≤ length (now items)) × (labelled ≤ mostLabels)
+        × (labelled ≤ length (now labels)) × (blocksSize ≤ length (now blocks)) × (from < stop → k < 1024) ⌝ }
     ensures { λ r. ⌜ r ≡ addedD before (take labelled (now (labels .entry))) (now (items .entry)) from stop empty k ⌝ }
     ensures { λ r. ⌜ now (blocks .exit) ≡ addedCells before (take labelled (now (labels .entry))) (now (items .entry))
         from stop (now (blocks .entry)) k ⌝ }

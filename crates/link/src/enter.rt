@@ -5,9 +5,10 @@ ghost use Prim.Native.Nat.{_+_, _-_, _*_, _≤_, _<_};
 ghost use lib.ListN.{length, set};
 ghost use lib.Seq.{sets};
 ghost use Rattle.utils.specs.Bytes.{pick};
+ghost use Rattle.utils.specs.Limits.{mostBlocks};
 ghost use Rattle.link.specs.Edges.{entering, predecessors};
 ghost use Rattle.graph.specs.Records.{blockAt, cellsOf, recorded, rowOf};
-ghost use Rattle.link.specs.Steps.{entersD, linksFrom, entriesFrom, markOf, enteredBy, putEntered};
+ghost use Rattle.link.specs.Steps.{entersD, linksFrom, entriesFrom, markOf, enteredBy, putEntered, blocksSize, predecessorsSize};
 use graph::BlockId;
 use graph::blocks::block_at;
 use graph::blocks::put_block;
@@ -46,7 +47,7 @@ fn enter_from(
     sources: &mut [u32],
     used: usize,
 ) -> usize
-    requires { ⌜ (k .0 < 256)
+    requires { ⌜ (k .0 < mostBlocks)
         × (used + length (entering (j .0) (k .0) (rowOf (now succs) (now counts) (k .0)) []) ≤ length (now sources)) ⌝ }
     ensures { λ r. ⌜ (r ≡ used
         + length (entering (j .0) (k .0) (rowOf (now (succs .entry)) (now (counts .entry)) (k .0)) []))
@@ -81,7 +82,7 @@ fn enter_edges(
     sources: &mut [u32],
     used: usize,
 ) -> usize
-    requires { ⌜ (n ≤ 256)
+    requires { ⌜ (n ≤ mostBlocks)
         × (used + length (predecessors (j .0) 0 (linksFrom (rowOf (now succs) (now counts)) 0 n))
         ≤ length (now sources)) ⌝ }
     ensures { λ r. ⌜ (r ≡ used
@@ -135,9 +136,9 @@ fn enter_all(
     sources: &mut [u32],
     used: usize,
 ) -> usize
-    requires { ⌜ (n ≤ 256) × (base + n ≤ 1024) × (8192 ≤ length (now blocks))
+    requires { ⌜ (n ≤ mostBlocks) × (base + n ≤ 1024) × (blocksSize ≤ length (now blocks))
         × (used + length (entriesFrom 0 (linksFrom (rowOf (now succs) (now counts)) 0 n) n) ≤ 2048)
-        × (2048 ≤ length (now sources)) ⌝ }
+        × (predecessorsSize ≤ length (now sources)) ⌝ }
     ensures { λ r. ⌜ r ≡ used
         + length (entriesFrom 0 (linksFrom (rowOf (now (succs .entry)) (now (counts .entry))) 0 n) n) ⌝ }
     ensures { λ r. ⌜ now (blocks .exit)
@@ -166,9 +167,9 @@ pub fn enter_blocks(
     sources: &mut [u32],
     used: usize,
 ) -> usize
-    requires { ⌜ (n ≤ 256) × (base + n ≤ 1024) × (8192 ≤ length (now blocks))
+    requires { ⌜ (n ≤ mostBlocks) × (base + n ≤ 1024) × (blocksSize ≤ length (now blocks))
         × (used + length (entriesFrom 0 (linksFrom (recorded (now blocks) base) 0 n) n) ≤ 2048)
-        × (2048 ≤ length (now sources)) ⌝ }
+        × (predecessorsSize ≤ length (now sources)) ⌝ }
     ensures { λ r. ⌜ r ≡ used + length (entriesFrom 0 (linksFrom (recorded (now (blocks .entry)) base) 0 n) n) ⌝ }
     ensures { λ r. ⌜ now (blocks .exit) ≡ putEntered 0 used (linksFrom (recorded (now (blocks .entry)) base) 0 n)
         (now (blocks .entry)) base n ⌝ }

@@ -3,6 +3,7 @@ ghost use mathlib.Core.Path.{_≡_};
 ghost use Prim.Native.Nat.{_+_, _*_, _≤_};
 ghost use lib.ListN.{length, take};
 ghost use Rattle.body.specs.Records.{partsAt};
+ghost use Rattle.utils.specs.Limits.{mostLabels};
 ghost use Rattle.link.specs.Table.{leading, blockOf, labelPlace};
 ghost use Rattle.link.specs.Steps.{blockId, foundOf, oneD, twoD, goesD};
 ghost use Rattle.link.specs.Edges.{missing};
@@ -34,7 +35,7 @@ pub fn leading_labels(items: &[u32], first: usize, count: usize) -> usize
 
 // The block that label i opens or names.
 fn block_of(before: usize, i: usize) -> BlockId
-    requires { ⌜ i ≤ 255 ⌝ }
+    requires { ⌜ i ≤ mostLabels ⌝ }
     ensures { λ r. ⌜ r ≡ blockId (blockOf before i) ⌝ }
 {
     if i < before {
@@ -46,7 +47,7 @@ fn block_of(before: usize, i: usize) -> BlockId
 
 // The block of the first label of this name, in text order.
 fn get(labels: &[u32], labelled: usize, before: usize, name: Identifier) -> Found
-    requires { ⌜ (labelled ≤ 255) × (labelled ≤ length (now labels)) ⌝ }
+    requires { ⌜ (labelled ≤ mostLabels) × (labelled ≤ length (now labels)) ⌝ }
     ensures { λ r. ⌜ r ≡ foundOf (labelPlace before 0 (take labelled (now (labels .entry))) (name .0)) ⌝ }
 {
     let mut rest = labelled;
@@ -80,7 +81,7 @@ fn resolve_one(
     token: usize,
     next: Identifier,
 ) -> Goes
-    requires { ⌜ (labelled ≤ 255) × (labelled ≤ length (now labels)) ⌝ }
+    requires { ⌜ (labelled ≤ mostLabels) × (labelled ≤ length (now labels)) ⌝ }
     ensures { λ r. ⌜ r ≡ oneD before (take labelled (now (labels .entry))) token (next .0) ⌝ }
 {
     match get(labels, labelled, before, next) {
@@ -97,7 +98,7 @@ fn resolve_two(
     then: Identifier,
     els: Identifier,
 ) -> Goes
-    requires { ⌜ (labelled ≤ 255) × (labelled ≤ length (now labels)) ⌝ }
+    requires { ⌜ (labelled ≤ mostLabels) × (labelled ≤ length (now labels)) ⌝ }
     ensures { λ r. ⌜ r ≡ twoD before (take labelled (now (labels .entry))) token (then .0) (els .0) ⌝ }
 {
     match get(labels, labelled, before, then) {
@@ -111,7 +112,7 @@ fn resolve_two(
 
 // Where a block leads whose last operation has this record.
 pub fn resolve(labels: &[u32], labelled: usize, before: usize, r: ItemRecord) -> Goes
-    requires { ⌜ (labelled ≤ 255) × (labelled ≤ length (now labels)) ⌝ }
+    requires { ⌜ (labelled ≤ mostLabels) × (labelled ≤ length (now labels)) ⌝ }
     ensures { λ res. ⌜ res ≡ goesD before (take labelled (now (labels .entry))) r ⌝ }
 {
     let token = r.token as usize;

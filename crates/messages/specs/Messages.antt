@@ -8,9 +8,11 @@ use lib.ListN.{length, getD}
 use Rattle.utils.specs.Bytes.{pick, bytes}
 use Rattle.utils.specs.Message.{decimal, reported}
 use Rattle.lexer.specs.Decoded.{Tok, tokenAt, nameOf}
+use Rattle.parser.specs.Types as Types
+use Rattle.utils.specs.Limits.{mostNameBytes}
 use Rattle.lexer.specs.declared.TokenAt.{TokenAt}
 use Rattle.pieces.specs.declared.Identifier.{Identifier}
-use Rattle.parser.specs.Kinds as T
+use Rattle.pieces.specs.Kinds as T
 use Rattle.parser.specs.declared.Refusal.{Refusal}
 
 -- Words. --------------------------------------------------------------------------------------------------------------
@@ -77,10 +79,10 @@ shown kind name integer =
 -- Display for Type (ir.rs), by a type's cell
 unfoldable pub typeWord : ℕ → List ℕ
 typeWord cell =
-    pick (eqb cell 0) (bytes "placeholder")
-    (pick (eqb cell 1) (bytes "int")
-    (pick (eqb cell 2) (bytes "bool")
-    (pick (eqb cell 3) (bytes "void")
+    pick (eqb cell Types.placeholder) (bytes "placeholder")
+    (pick (eqb cell Types.int) (bytes "int")
+    (pick (eqb cell Types.bool) (bytes "bool")
+    (pick (eqb cell Types.void) (bytes "void")
     (bytes "fn"))))
 
 abbrev pub quoted : List ℕ → List ℕ
@@ -188,4 +190,4 @@ messageOf text ts names e = messageAt text names (tokenAt ts (e .token)) e
 
 -- What the code asks of the names' cells: no name is longer than 64 bytes (document 01's limit).
 abbrev pub ShortNames : List ℕ → List ℕ → Type 0
-ShortNames text names = (i : ℕ) → length (nameOf text names i) ≤ 64
+ShortNames text names = (i : ℕ) → length (nameOf text names i) ≤ mostNameBytes

@@ -11,6 +11,7 @@ ghost use lib.Seq.{sets};
 ghost use Rattle.utils.specs.Bytes.{padTo};
 ghost use Rattle.utils.specs.Message.{reported};
 ghost use Rattle.lexer.specs.Decoded.{tokensOf};
+ghost use Rattle.utils.specs.Limits.{messageSize};
 ghost use Rattle.messages.specs.Messages.{ShortNames, behindError, fixed, messageAt, messageOf};
 use lexer::TokenAt;
 use parser::Refusal;
@@ -54,7 +55,7 @@ fn put_at(buf: &mut [u8], at: usize, text: &[u8], names: &[u32], t: TokenAt, e: 
 
 // The message of a refusal, and zeros after it.
 pub fn put_message(text: &[u8], tokens: &[u32], names: &[u32], e: Refusal, message: &mut [u8])
-    requires { ⌜ (512 ≤ length (now message)) × ShortNames (now text) (now names) ⌝ }
+    requires { ⌜ (messageSize ≤ length (now message)) × ShortNames (now text) (now names) ⌝ }
     ensures { λ r. ⌜ now (message .exit) ≡ padTo (length (now (message .entry)))
         (messageOf (now (text .entry)) (tokensOf (now (tokens .entry))) (now (names .entry)) e) ⌝ }
 {
@@ -79,7 +80,7 @@ fn put_without_item(buf: &mut [u8], line: u32, number: u32) -> usize
 
 // A refusal at no token: the message of its number, and zeros after it.
 pub fn report(message: &mut [u8], line: Location, number: u32)
-    requires { ⌜ 512 ≤ length (now message) ⌝ }
+    requires { ⌜ messageSize ≤ length (now message) ⌝ }
     ensures { λ _. ⌜ now (message .exit)
         ≡ padTo (length (now (message .entry))) (reported (line .0) [] (fixed number)) ⌝ }
 {

@@ -7,6 +7,7 @@ ghost use lib.ListN.{length, getD};
 ghost use lib.Seq.{sets};
 ghost use mathlib.Core.Bool.{true};
 ghost use Rattle.lexer.specs.Decoded.{nameOf};
+ghost use Rattle.utils.specs.Limits.{mostNameBytes};
 ghost use Rattle.messages.specs.Messages.{wordOf, signed, shown, typeWord, quoted, ShortNames};
 ghost use Rattle.messages.specs.Rows.{rowsFrom, rowsFit};
 use parser::types;
@@ -152,10 +153,10 @@ pub(crate) fn put_quoted_type(buf: &mut [u8], at: usize, cell: u32) -> usize
 }
 
 fn put_name(buf: &mut [u8], at: usize, text: &[u8], names: &[u32], name: Identifier) -> usize
-    requires { ⌜ (at + 64 ≤ length (now buf)) × ShortNames (now text) (now names) ⌝ }
+    requires { ⌜ (at + mostNameBytes ≤ length (now buf)) × ShortNames (now text) (now names) ⌝ }
     ensures { λ r. ⌜ (r ≡ at + length (nameOf (now (text .entry)) (now (names .entry)) (name .0)))
         × (now (buf .exit) ≡ sets (now (buf .entry)) at (nameOf (now (text .entry)) (now (names .entry)) (name .0)))
-        × (r ≤ at + 64) ⌝ }
+        × (r ≤ at + mostNameBytes) ⌝ }
 {
     let part = lexer::get_name(text, names, name);
     utils::put(buf, at, part)

@@ -8,7 +8,8 @@ use lib.Dec.{leb, eqb}
 use lib.ListN.{length}
 use Rattle.utils.specs.Bytes.{pick}
 use Rattle.lexer.specs.Decoded.{Tok}
-use Rattle.parser.specs.Kinds as T
+use Rattle.pieces.specs.Kinds as T
+use Rattle.utils.specs.Limits.{mostLabels}
 use Rattle.parser.specs.Step.{refusal, thenAt, thenNamed}
 use Rattle.parser.specs.Grammar.{consumeD, labelD}
 use Rattle.parser.specs.declared.Named.{Named}
@@ -23,6 +24,6 @@ unfoldable pub labelledD : List Tok → List ℕ → ℕ → Named
 labelledD ts labels at =
     thenNamed N.Refused (labelD ts at) (λ l at1.
     thenAt N.Refused (consumeD ts at1 T.colon) (λ at2.
-    pick (leb 255 (length labels)) (N.Refused (refusal 38 at 0))
+    pick (leb mostLabels (length labels)) (N.Refused (refusal 38 at 0))
     (pick (has labels (l .0)) (N.Refused (refusal 13 at 0))
     (N.At l at2))))

@@ -1,10 +1,10 @@
 -- What the parser takes a token for, in reading order.
--- the kinds of tokens by name
-pub mod Kinds
 -- refusals, and what follows a step
 pub mod Step
 -- the grammar of one operation
 pub mod Grammar
+-- the cells of types by name
+pub mod Types
 -- the formals of a header, the arguments of a call
 pub mod Runs
 -- a label in a body

@@ -10,7 +10,7 @@ use Rattle.utils.specs.Bytes.{pick}
 use Rattle.lexer.specs.Decoded.{Tok, isName, tokenAt}
 use Rattle.lexer.specs.declared.TokenAt.{TokenAt}
 use Rattle.pieces.specs.declared.Identifier.{Identifier}
-use Rattle.parser.specs.Kinds as T
+use Rattle.pieces.specs.Kinds as T
 use Rattle.parser.specs.Step.{refusal}
 use Rattle.parser.specs.Runs.{Variables, stopped, Calling, calling}
 use Rattle.parser.specs.declared.Refusal.{Refusal}

@@ -7,8 +7,10 @@ use lib.Dec.{eqb}
 use lib.ListN.{length}
 use Rattle.utils.specs.Bytes.{pick}
 use Rattle.lexer.specs.Decoded.{Tok, tokenAt}
+use Rattle.utils.specs.Limits.{mostFormals, mostArguments}
+use Rattle.parser.specs.Types as Types
 use Rattle.pieces.specs.declared.Identifier.{Identifier}
-use Rattle.parser.specs.Kinds as T
+use Rattle.pieces.specs.Kinds as T
 use Rattle.parser.specs.Step.{refusal, look, thenAt, thenNamed, thenType, thenDefined}
 use Rattle.parser.specs.Grammar.{consumeD, localD, globalD, typeD}
 use Rattle.parser.specs.declared.Refusal.{Refusal}
@@ -24,13 +26,13 @@ use Rattle.parser.specs.declared.Called.the-variants as L
 use Rattle.parser.specs.declared.Run.{Run}
 use Rattle.parser.specs.declared.Run.the-variants as U
 
--- a type's cell: 0 placeholder, 1 int, 2 bool, 3 void, 4 and more a function type's number
+-- a type's cell
 abbrev pub typeCell : Ty → ℕ
-typeCell Y.Placeholder = 0
-typeCell Y.Int = 1
-typeCell Y.Bool = 2
-typeCell Y.Void = 3
-typeCell (Y.Fn n) = n + 4
+typeCell Y.Placeholder = Types.placeholder
+typeCell Y.Int = Types.int
+typeCell Y.Bool = Types.bool
+typeCell Y.Void = Types.void
+typeCell (Y.Fn n) = n + Types.function
 
 -- a variable's two cells
 abbrev pub variableCells : Variable → List ℕ
@@ -85,7 +87,8 @@ closedD ts at n = thenAt U.Refused (consumeD ts at T.rightParen) (λ i. U.Done n
 
 -- From after the opening parenthesis.
 unfoldable pub formalsD : List Tok → ℕ → Variables
-formalsD ts at = look (tokenAt ts at) (λ k next. pick (eqb k T.rightParen) (ended (C.At next)) (formalsFromD ts 16 at))
+formalsD ts at =
+    look (tokenAt ts at) (λ k next. pick (eqb k T.rightParen) (ended (C.At next)) (formalsFromD ts mostFormals at))
 
 -- Arguments, locals up to the semicolon. Their types are not known yet.
 unfoldable pub argumentsD : List Tok → ℕ → ℕ → Variables
@@ -113,7 +116,7 @@ unfoldable pub callD : List Tok → ℕ → Calling
 callD ts word =
     thenAt uncalled (consumeD ts word T.call) (λ at.
     thenNamed uncalled (globalD ts at) (λ g at1.
-    calling g (argumentsD ts 16 at1)))
+    calling g (argumentsD ts mostArguments at1)))
 
 -- the callee, how many arguments there are and where to go on, or the refusal
 unfoldable pub calledOf : Calling → Called

@@ -5,6 +5,7 @@ ghost use lib.Dec.{leb};
 ghost use lib.ListN.{length};
 ghost use lib.Seq.{sets};
 ghost use Rattle.lexer.specs.Decoded.{tokensOf};
+ghost use Rattle.utils.specs.Limits.{mostFormals, mostArguments};
 ghost use Rattle.parser.specs.Runs.{typeCell, variableCells, variablesCells, runOf};
 ghost use Rattle.parser.specs.Runs.{formalD, closedD, formalsFromD, formalsD, argumentsD, callD, calledOf};
 use crate::Called;
@@ -80,9 +81,9 @@ fn close_formals(tokens: &[u32], at: usize, n: usize) -> Run
 
 fn parse_formals_from(tokens: &[u32], at: usize, cells: &mut [u32], used: usize) -> Run
     requires { ⌜ used + 32 ≤ length (now cells) ⌝ }
-    ensures { λ r. ⌜ r ≡ runOf (formalsFromD (tokensOf (now (tokens .entry))) 16 at) ⌝ }
+    ensures { λ r. ⌜ r ≡ runOf (formalsFromD (tokensOf (now (tokens .entry))) mostFormals at) ⌝ }
     ensures { λ r. ⌜ now (cells .exit) ≡ sets (now (cells .entry)) used
-        (variablesCells (formalsFromD (tokensOf (now (tokens .entry))) 16 at .list)) ⌝ }
+        (variablesCells (formalsFromD (tokensOf (now (tokens .entry))) mostFormals at .list)) ⌝ }
 {
     let mut n: usize = 0;
     let mut here = at;
@@ -121,9 +122,10 @@ pub fn parse_formals(tokens: &[u32], at: usize, cells: &mut [u32], used: usize) 
 // Locals up to the semicolon. 37 comes once the local is read.
 pub fn parse_arguments(tokens: &[u32], at: usize, cells: &mut [u32], used: usize) -> Run
     requires { ⌜ used + 32 ≤ length (now cells) ⌝ }
-    ensures { λ r. ⌜ r ≡ runOf (argumentsD (tokensOf (now (tokens .entry))) 16 at) ⌝ }
+    ensures { λ r. ⌜ r ≡ runOf (argumentsD (tokensOf (now (tokens .entry))) mostArguments at) ⌝ }
     ensures { λ r. ⌜ now (cells .exit)
-        ≡ sets (now (cells .entry)) used (variablesCells (argumentsD (tokensOf (now (tokens .entry))) 16 at .list)) ⌝ }
+        ≡ sets (now (cells .entry)) used
+        (variablesCells (argumentsD (tokensOf (now (tokens .entry))) mostArguments at .list)) ⌝ }
 {
     let mut n: usize = 0;
     let mut here = at;

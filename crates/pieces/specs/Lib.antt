@@ -3,6 +3,8 @@
 pub mod Classes
 -- token values, their kinds, the words and the one-byte tokens
 pub mod Tokens
+-- the kinds of tokens by name
+pub mod Kinds
 -- a refusal's number, line, place and text
 pub mod Refusals
 -- one piece of a text, and all of them

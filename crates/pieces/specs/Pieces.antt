@@ -7,6 +7,7 @@ use lib.Dec.{leb, eqb}
 use lib.ListN.{getD, length, drop}
 use lib.Seq.{slice}
 use Rattle.utils.specs.Bytes.{pick}
+use Rattle.pieces.specs.Kinds as K
 use Rattle.pieces.specs.Classes.{isBlank, isDigit, isLetter, isNamePart}
 use Rattle.pieces.specs.Tokens.{keyword, symbol}
 use Rattle.pieces.specs.declared.Cursor.{Cursor}
@@ -107,7 +108,7 @@ minusAt s at line =
     let integer = L.Token (token (T.Integer (negated (n .value))) line at) (cursor (n .end) line) in
     pick (isDigit (getD s (at + 1) 0)) (pick (leb (n .value) 2147483648) integer expected) expected
 
--- A name from its first byte, its sigil with it, to its end. The kinds: 1 a local, 2 a global, 3 a label (`kindOf`).
+-- A name from its first byte, its sigil with it, to its end. The kind is a local's, a global's or a label's.
 unfoldable pub nameAt : ℕ → List ℕ → ℕ → ℕ → Lexed
 nameAt kind s at line =
     let end = nameEndAt s at in
@@ -127,7 +128,7 @@ thenValue O.None found none = none
 unfoldable pub wordAt : List ℕ → ℕ → ℕ → Lexed
 wordAt s at line =
     let end = nameEndAt s at in
-    thenValue (keyword (slice at end s)) (λ v. L.Token (token v line at) (cursor end line)) (nameAt 1 s at line)
+    thenValue (keyword (slice at end s)) (λ v. L.Token (token v line at) (cursor end line)) (nameAt K.local s at line)
 
 -- A token of one byte; any other byte is 3.
 unfoldable pub symbolAt : List ℕ → ℕ → ℕ → Lexed
@@ -140,8 +141,8 @@ unfoldable pub tokenFrom : List ℕ → ℕ → ℕ → Lexed
 tokenFrom s at line =
     let b = getD s at 0 in
     pick (eqb b 45) (minusAt s at line)
-    (pick (eqb b 64) (sigilAt 2 s at line)
-    (pick (eqb b 46) (sigilAt 3 s at line)
+    (pick (eqb b 64) (sigilAt K.global s at line)
+    (pick (eqb b 46) (sigilAt K.label s at line)
     (pick (isDigit b) (digitAt s at line)
     (pick (isLetter b) (wordAt s at line)
     (symbolAt s at line)))))

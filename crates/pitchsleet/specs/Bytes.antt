@@ -6,6 +6,8 @@ use lib.Dec.{ltb}
 use lib.ListN.{length}
 use Rattle.utils.specs.Bytes.{pick, padTo}
 use Rattle.lexer.specs.Read.{Reading, readRefusal, readOf}
+use Rattle.lexer.specs.Sizes.{tokensSize, namesSize}
+use Rattle.utils.specs.Limits.{messageSize}
 use Rattle.lexer.specs.declared.ReadAnswer.{ReadAnswer}
 
 -- a cell as four bytes, the lowest first
@@ -16,9 +18,13 @@ unfoldable pub le32s : List ℕ → List ℕ
 le32s [] = []
 le32s (x ∷ s) = le32 x ++ le32s s
 
+-- the bytes that read fills
+abbrev pub readSize : ℕ
+readSize = 73728
+
 -- 4,096 token records of 16 bytes from 0, then 1,024 name records of 8 bytes from 65,536: 73,728 bytes
 unfoldable pub bytesOf : Reading → List ℕ
-bytesOf o = le32s (padTo 16384 (o .tokens)) ++ le32s (padTo 2048 (o .names))
+bytesOf o = le32s (padTo tokensSize (o .tokens)) ++ le32s (padTo namesSize (o .names))
 
 -- the answer, and the slices
 pub record Export : Type 0 where
@@ -38,7 +44,7 @@ exported o m x = export (x .answer) (padTo (length o) (bytesOf x)) (padTo (lengt
 unfoldable pub exportDef : List ℕ → List ℕ → List ℕ → Export
 exportDef text o m =
     let short = export (readRefusal 30 0 0) o m in
-    pick (ltb (length o) 73728) short (pick (ltb (length m) 512) short (exported o m (readOf text)))
+    pick (ltb (length o) readSize) short (pick (ltb (length m) messageSize) short (exported o m (readOf text)))
 
 -- THE PROMISE, by parts with names.
 pub record Exports (text o₀ m₀ : List ℕ) (r : ReadAnswer) (o m : List ℕ) : Type 0 where

@@ -5,6 +5,7 @@ use mathlib.Core.List.{List, [], _∷_}
 use lib.Dec.{ltb}
 use lib.ListN.{length, getD}
 use Rattle.utils.specs.Bytes.{pick}
+use Rattle.functions.specs.Columns.{tableSize}
 use Rattle.checker.specs.declared.CheckAnswer.{CheckAnswer}
 use Rattle.recheck.specs.Recheck.{recheckOf}
 use Rattle.pitchsleet.specs.CheckBytes.{Export, gated, Gives}
@@ -21,7 +22,7 @@ cellsAt bytes at (suc n) = cellAt bytes at ∷ cellsAt bytes (at + 4) n
 
 -- a table has as many whole cells as its bytes have; more than its size are not looked at
 unfoldable pub cellCount : ℕ → ℕ
-cellCount bytes = pick (ltb (bytes / 4) 2881) (bytes / 4) 2881
+cellCount bytes = pick (ltb (bytes / 4) tableSize) (bytes / 4) tableSize
 
 abbrev pub tableOf : List ℕ → List ℕ
 tableOf bytes = cellsAt bytes 0 (cellCount (length bytes))

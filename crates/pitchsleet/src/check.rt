@@ -5,7 +5,8 @@ ghost use lib.ListN.{length};
 ghost use Rattle.utils.specs.Bytes.{padTo};
 ghost use Rattle.functions.specs.Answer.{slices};
 ghost use Rattle.checker.specs.Check.{checkOf, checkRefusal};
-ghost use Rattle.pitchsleet.specs.CheckBytes.{cellBytes, Sizes, export, exported};
+ghost use Rattle.utils.specs.Limits.{messageSize};
+ghost use Rattle.pitchsleet.specs.CheckBytes.{cellBytes, Sizes, export, exported, checkSize};
 use crate::layout;
 use checker::CheckAnswer;
 use functions::columns;
@@ -25,7 +26,7 @@ pub fn put_all(
 )
     requires { ⌜ Sizes (now tokens) (now names)
         (slices (now functions) (now items) (now arguments) (now blocks) (now predecessors))
-        × (252228 ≤ length (now out)) ⌝ }
+        × (checkSize ≤ length (now out)) ⌝ }
     ensures { λ r. ⌜ now (out .exit) ≡ padTo (length (now (out .entry)))
         (cellBytes (now (tokens .entry)) (now (names .entry))
         (slices (now (functions .entry)) (now (items .entry)) (now (arguments .entry)) (now (blocks .entry))
@@ -56,7 +57,7 @@ pub fn check_out(
 ) -> CheckAnswer
     requires { ⌜ Sizes (now tokens) (now names)
         (slices (now functions) (now items) (now arguments) (now blocks) (now predecessors))
-        × (252228 ≤ length (now out)) × (512 ≤ length (now message)) ⌝ }
+        × (checkSize ≤ length (now out)) × (messageSize ≤ length (now message)) ⌝ }
     ensures { λ r. ⌜ export r (now (out .exit)) (now (message .exit))
         ≡ exported (now (out .entry)) (now (message .entry)) (checkOf (now (text .entry))) ⌝ }
 {

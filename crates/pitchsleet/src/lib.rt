@@ -8,7 +8,9 @@ ghost use Prim.Native.Nat.{ℕ, _+_, _-_, _*_, _<_, _≤_};
 ghost use lib.ListN.{length, replicate};
 ghost use lib.Seq.{sets};
 ghost use Rattle.lexer.specs.Read.{readOf, readRefusal};
-ghost use Rattle.pitchsleet.specs.Bytes.{le32, le32s, export, exported, Exports};
+ghost use Rattle.utils.specs.Limits.{messageSize};
+ghost use Rattle.lexer.specs.Sizes.{tokensSize, namesSize};
+ghost use Rattle.pitchsleet.specs.Bytes.{le32, le32s, export, exported, Exports, readSize};
 ghost use Rattle.pitchsleet.specs.CheckBytes as checks;
 ghost use Rattle.pitchsleet.specs.RecheckBytes as again;
 use checker::CheckAnswer;
@@ -76,8 +78,8 @@ fn read_out(
     out: &mut [u8],
     message: &mut [u8],
 ) -> ReadAnswer
-    requires { ⌜ (length (now tokens) ≡ 16384) × (length (now names) ≡ 2048)
-        × (73728 ≤ length (now out)) × (512 ≤ length (now message)) ⌝ }
+    requires { ⌜ (length (now tokens) ≡ tokensSize) × (length (now names) ≡ namesSize)
+        × (readSize ≤ length (now out)) × (messageSize ≤ length (now message)) ⌝ }
     ensures { λ r. ⌜ export r (now (out .exit)) (now (message .exit))
         ≡ exported (now (out .entry)) (now (message .entry)) (readOf (now (text .entry))) ⌝ }
 {

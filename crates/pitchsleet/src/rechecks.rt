@@ -5,7 +5,8 @@ ghost use lib.ListN.{length};
 ghost use lib.Seq.{sets};
 ghost use Rattle.functions.specs.Answer.{slices};
 ghost use Rattle.recheck.specs.Recheck.{recheckOf};
-ghost use Rattle.pitchsleet.specs.CheckBytes.{Sizes, export, exported};
+ghost use Rattle.utils.specs.Limits.{messageSize};
+ghost use Rattle.pitchsleet.specs.CheckBytes.{Sizes, export, exported, checkSize};
 ghost use Rattle.pitchsleet.specs.RecheckBytes.{cellAt, cellsAt, cellCount, tableOf};
 use crate::layout;
 use checker::CheckAnswer;
@@ -67,7 +68,7 @@ fn recheck_cells<'t>(
 ) -> CheckAnswer
     requires { ⌜ Sizes (now tokens) (now names)
         (slices (now functions) (now items) (now arguments) (now blocks) (now predecessors))
-        × (252228 ≤ length (now out)) × (512 ≤ length (now message)) ⌝ }
+        × (checkSize ≤ length (now out)) × (messageSize ≤ length (now message)) ⌝ }
     ensures { λ r. ⌜ export r (now (out .exit)) (now (message .exit))
         ≡ exported (now (out .entry)) (now (message .entry))
         (recheckOf (now (old .entry)) (now (table .entry)) number (now (new .entry))) ⌝ }
@@ -108,7 +109,7 @@ pub fn recheck_out<'t>(
     out: &mut [u8],
     message: &mut [u8],
 ) -> CheckAnswer
-    requires { ⌜ (252228 ≤ length (now out)) × (512 ≤ length (now message)) ⌝ }
+    requires { ⌜ (checkSize ≤ length (now out)) × (messageSize ≤ length (now message)) ⌝ }
     ensures { λ r. ⌜ export r (now (out .exit)) (now (message .exit))
         ≡ exported (now (out .entry)) (now (message .entry))
         (recheckOf (now (old .entry)) (tableOf (now (table .entry))) number (now (new .entry))) ⌝ }

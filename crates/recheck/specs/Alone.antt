@@ -6,8 +6,9 @@ use lib.ListN.{getD, set}
 use lib.Seq.{sets}
 use Rattle.lexer.specs.Decoded.{Tok}
 use Rattle.functions.specs.Functions.{FunctionAt, function, noFunction}
-use Rattle.functions.specs.Columns.{rowAt, typeAt}
+use Rattle.functions.specs.Columns.{rowAt, typeAt, rowWidth}
 use Rattle.functions.specs.Answer.{Slices, countsFrom}
+use Rattle.utils.specs.Limits.{mostFunctions}
 use Rattle.functions.specs.declared.ProgramRead.{ProgramRead}
 use Rattle.functions.specs.declared.ProgramRead.the-variants as U
 use Rattle.unit.specs.Outcome.{none, asLong}
@@ -39,7 +40,7 @@ pub record Places (old rows new names : List ℕ) (known number : ℕ) (out₀ f
     pub row : functions ≡ set (set functions₀ 0 1) (typeAt 0) (getD rows (typeAt number) 0)
     pub table : out
         ≡ sets (headersBrought old rows new names known out₀ .cells) (rowAt (r .place)) (cellsFrom functions (rowAt 0)
-        45)
+        rowWidth)
     pub count : r .count ≡ headersBrought old rows new names known out₀ .count
     pub place : r .place ≡ broughtFrom old rows new names known 0 number (brought out₀ 0) .count
-    pub few : r .count ≤ 64
+    pub few : r .count ≤ mostFunctions

@@ -9,7 +9,7 @@ use Rattle.utils.specs.Bytes.{pick, sameBytes}
 use Rattle.utils.specs.Message.{reported}
 use Rattle.lexer.specs.Read.{Reading, readFrom}
 use Rattle.lexer.specs.Decoded.{Tok, tokensOf, tokenAt}
-use Rattle.parser.specs.Kinds as T
+use Rattle.pieces.specs.Kinds as T
 use Rattle.parser.specs.Step.{refusal, look}
 use Rattle.parser.specs.declared.Refusal.{Refusal}
 use Rattle.functions.specs.Functions.{Function, FunctionAt, function, noFunction, thenFunction, functionD}

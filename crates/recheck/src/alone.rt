@@ -5,11 +5,12 @@ ghost use Prim.Native.Nat.{_≤_, _<_};
 ghost use lib.ListN.{length, getD};
 ghost use Rattle.lexer.specs.Decoded.{tokensOf};
 ghost use Rattle.body.specs.Room.{Within};
-ghost use Rattle.functions.specs.Columns.{typeAt};
+ghost use Rattle.functions.specs.Columns.{typeAt, tableSize};
 ghost use Rattle.functions.specs.Answer.{Long, slices, FunctionHeld};
 ghost use Rattle.unit.specs.Outcome.{none, cleared, asLong, Counted};
 ghost use Rattle.headers.specs.Table.{isTable};
 ghost use Rattle.headers.specs.Spelled.{Named, calleesSpelled};
+ghost use Rattle.utils.specs.Limits.{mostFunctions};
 ghost use Rattle.recheck.specs.Recheck.{aloneD, verdictD, verdictSlices};
 ghost use Rattle.recheck.specs.Alone.{aloneRead, verdictRead, VerdictHeld, Places};
 use functions::Counts;
@@ -36,7 +37,7 @@ fn parse_alone(
     blocks: &mut [u32],
     predecessors: &mut [u32],
 ) -> ProgramRead
-    requires { ⌜ Within (tokensOf (now tokens)) 0 × (2881 ≤ length (now functions))
+    requires { ⌜ Within (tokensOf (now tokens)) 0 × (tableSize ≤ length (now functions))
         × Long (now items) (now arguments) (now blocks) (now predecessors) ⌝ }
     ensures { λ r. ⌜ r ≡ aloneRead (aloneD (tokensOf (now (tokens .entry)))) ⌝ }
     ensures { λ _. ⌜ FunctionHeld (tokensOf (now (tokens .entry))) (now (names .entry)) none
@@ -91,8 +92,9 @@ fn place_alone<'t, 'c>(
     known: u32,
     local: &mut [u32],
 ) -> Placed
-    requires { ⌜ (number < getD (now rows) 0 0) × (getD (now rows) 0 0 ≤ 64) × (2881 ≤ length (now functions))
-        × (2881 ≤ length (now local)) ⌝ }
+    requires { ⌜ (number < getD (now rows) 0 0) × (getD (now rows) 0 0 ≤ mostFunctions)
+        × (tableSize ≤ length (now functions))
+        × (tableSize ≤ length (now local)) ⌝ }
     ensures { λ r. ⌜ Places (now (old .entry)) (now (rows .entry)) (now (new .entry)) (now (names .entry)) known number
         (now (local .entry)) (now (functions .entry)) r (now (local .exit)) (now (functions .exit)) ⌝ }
 {
@@ -120,8 +122,8 @@ fn build<'t, 'c>(
     local: &mut [u32],
 ) -> ProgramRead
     requires { ⌜ (isTable (now old) (now rows) number ≡ true) × Named (now new) (now names) known
-        × Within (tokensOf (now tokens)) 0 × (2881 ≤ length (now functions))
-        × Long (now items) (now arguments) (now blocks) (now predecessors) × (2881 ≤ length (now local))
+        × Within (tokensOf (now tokens)) 0 × (tableSize ≤ length (now functions))
+        × Long (now items) (now arguments) (now blocks) (now predecessors) × (tableSize ≤ length (now local))
         × (slices (now functions) (now items) (now arguments) (now blocks) (now predecessors)
         ≡ cleared (slices (now functions) (now items) (now arguments) (now blocks) (now predecessors))) ⌝ }
     ensures { λ r. ⌜ r ≡ verdictRead (verdictD (now (old .entry)) (now (rows .entry)) number (now (new .entry))
@@ -185,7 +187,7 @@ pub(crate) fn unit<'t, 'c>(
     predecessors: &mut [u32],
 ) -> ProgramRead
     requires { ⌜ (isTable (now old) (now rows) number ≡ true) × Named (now new) (now names) known
-        × Within (tokensOf (now tokens)) 0 × (2881 ≤ length (now functions))
+        × Within (tokensOf (now tokens)) 0 × (tableSize ≤ length (now functions))
         × Long (now items) (now arguments) (now blocks) (now predecessors) ⌝ }
     ensures { λ r. ⌜ r ≡ verdictRead (verdictD (now (old .entry)) (now (rows .entry)) number (now (new .entry))
         (now (names .entry)) (tokensOf (now (tokens .entry)))) ⌝ }

@@ -9,6 +9,7 @@ ghost use Rattle.functions.specs.Answer.{slices};
 ghost use Rattle.functions.specs.Columns.{lineAt};
 ghost use Rattle.checker.specs.Promise.{checking, padded, Lexed, Sizes};
 ghost use Rattle.headers.specs.Table.{isTable};
+ghost use Rattle.utils.specs.Limits.{messageSize};
 ghost use Rattle.recheck.specs.Recheck.{refusedWith, recheckOf};
 ghost use Rattle.recheck.specs.Promise.{Rechecks};
 use checker::CheckAnswer;
@@ -37,7 +38,7 @@ fn refuse_all(
     predecessors: &mut [u32],
     message: &mut [u8],
 ) -> CheckAnswer
-    requires { ⌜ 512 ≤ length (now message) ⌝ }
+    requires { ⌜ messageSize ≤ length (now message) ⌝ }
     ensures { λ res. ⌜ checking res (now (message .exit)) (now (tokens .exit)) (now (names .exit))
         (slices (now (functions .exit)) (now (items .exit)) (now (arguments .exit)) (now (blocks .exit))
         (now (predecessors .exit)))

@@ -4,8 +4,9 @@ use Prim.Native.Nat.{ℕ, _+_, _≤_, _<_}
 use mathlib.Core.Path.{_≡_}
 use mathlib.Core.List.{List, _∷_, _++_}
 use Rattle.lexer.specs.Decoded.{Tok, tokenAt}
-use Rattle.parser.specs.Kinds as T
+use Rattle.pieces.specs.Kinds as T
 use Rattle.parser.specs.Moved.{Move, Sim, Each}
+use Rattle.utils.specs.Limits.{mostNames}
 use Rattle.parser.specs.declared.Refusal.{Refusal}
 use Rattle.functions.specs.Functions.{Function, function, noFunction}
 use Rattle.functions.specs.Moved.{SimFunction}
@@ -16,8 +17,8 @@ use Rattle.related.specs.Runs.{start, behindAll, functionHere}
 
 -- a text has at most 1,024 names, before and after
 pub record Fits (m : Move) : Type 0 where
-  pub few : m .names ≤ 1024
-  pub low : (x : ℕ) → x < m .names → m .name x < 1024
+  pub few : m .names ≤ mostNames
+  pub low : (x : ℕ) → x < m .names → m .name x < mostNames
 
 -- The tokens of both texts, from the left: `starts` tokens before the replaced function, which are the same in both;
 -- that function; `count` tokens behind it, which are the tokens `rest`, moved, and the end token. `Spelt x y`: name x

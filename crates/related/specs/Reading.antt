@@ -7,6 +7,7 @@ use Rattle.utils.specs.Bytes.{pick}
 use Rattle.lexer.specs.Decoded.{Tok}
 use Rattle.parser.specs.Moved.{Move, Each}
 use Rattle.functions.specs.Functions.{Function}
+use Rattle.parser.specs.Types as Types
 use Rattle.functions.specs.declared.Counts.{Counts}
 use Rattle.sema.specs.Program.{globalsOf}
 use Rattle.elaborate.specs.Types.{calleeIn}
@@ -29,7 +30,7 @@ unfoldable pub calleeSpelt : (ℕ → Bool) → List Function → ℕ
 calleeSpelt is [] = 0
 calleeSpelt is (f ∷ fs) =
     let more = calleeSpelt is fs in
-    pick (is (f .head .name .0)) (f .head .type + 4) more
+    pick (is (f .head .name .0)) (f .head .type + Types.function) more
 
 -- a function of a whole text, written behind those that are counted
 abbrev pub writtenIn : List Tok → List ℕ → List Function → Counts → Function → Written

@@ -8,6 +8,7 @@ use Rattle.lexer.specs.Decoded.{Tok, tokenAt}
 use Rattle.functions.specs.Known.{Known, typesAfter}
 use Rattle.functions.specs.Functions.{Function, FunctionAt, function, Program, programThen, knownOf, functionD}
 use Rattle.functions.specs.Functions.{functionsD}
+use Rattle.pieces.specs.Kinds as K
 
 -- where reading is: the functions so far as later ones see them, how many function types there are, the next token
 pub record Place : Type 0 where
@@ -42,7 +43,7 @@ functionsHere ts room p = functionsD ts room (p .known) (p .types) (p .at)
 -- these functions stand here, one after the other
 pub data Run (ts : List Tok) : Place → List Function → Type 0 where
   none : {p : Place} → Run ts p []
-  more : {p : Place} {f : Function} {fs : List Function} → (tokenAt ts (p .at) .kind ≡ 38 → ⊥)
+  more : {p : Place} {f : Function} {fs : List Function} → (tokenAt ts (p .at) .kind ≡ K.endOfFile → ⊥)
       → functionHere ts p ≡ function f → Run ts (behindOne p f) fs → Run ts p (f ∷ fs)
 
 -- these functions, and then those of a program

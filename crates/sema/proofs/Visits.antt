@@ -21,7 +21,8 @@ use Rattle.parser.specs.declared.Operation.{Operation}
 use Rattle.parser.specs.declared.Operation.the-variants as O
 use Rattle.functions.specs.Functions.{Function}
 use Rattle.sema.specs.Symbols.{Typed, on, stop, thenEnd, thenTyped, facts, noName, enterD, thenLook, thenSame}
-use Rattle.sema.specs.Typing.{int, bool, void, thenThree, operandsD, typeBinaryD, operandD, typeUnaryD}
+use Rattle.parser.specs.Types.{int, bool, void}
+use Rattle.sema.specs.Typing.{thenThree, operandsD, typeBinaryD, operandD, typeUnaryD}
 use Rattle.sema.specs.Typing.{typeConstD}
 use Rattle.sema.specs.Typing.{typeRetValueD, typeRetD, Global, absent, global, presentD, typesOf, sameAll}
 use Rattle.sema.specs.Typing.{typeArgumentsD}

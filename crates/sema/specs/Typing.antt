@@ -6,8 +6,9 @@ use lib.Dec.{eqb, leb}
 use lib.ListN.{length, getD}
 use Rattle.utils.specs.Bytes.{pick}
 use Rattle.lexer.specs.Decoded.{Tok, tokenAt}
+use Rattle.parser.specs.Types.{int, bool, void}
 use Rattle.pieces.specs.declared.Identifier.{Identifier}
-use Rattle.parser.specs.Kinds as T
+use Rattle.pieces.specs.Kinds as T
 use Rattle.parser.specs.Step.{refusal}
 use Rattle.parser.specs.Runs.{typeCell}
 use Rattle.body.specs.Body.{Item, label, plain, call, callInto}
@@ -15,16 +16,6 @@ use Rattle.parser.specs.declared.Variable.{Variable}
 use Rattle.parser.specs.declared.Operation.{Operation}
 use Rattle.parser.specs.declared.Operation.the-variants as O
 use Rattle.sema.specs.Symbols.{Typed, on, stop, thenTyped, facts, noName, enterD, thenLook, thenSame}
-
--- the cells of the types
-abbrev pub int : ℕ
-int = 1
-
-abbrev pub bool : ℕ
-bool = 2
-
-abbrev pub void : ℕ
-void = 3
 
 -- result type, left, right compared
 unfoldable pub thenThree : List ℕ → ℕ → ℕ → ℕ → ℕ → ℕ → ℕ → Typed
@@ -34,7 +25,7 @@ thenThree t token result left right wantedResult wantedOperands =
     (thenSame t token right wantedOperands (on t)))
 
 -- What is compared: result type, left, right; `eq`: right against left, then result. The kind is that of the operator's
--- word, and they stand in this order (crates/parser/specs/Kinds.antt): `add` `mul` `sub` `div` `mod`, then `eq`, then
+-- word, and they stand in this order (crates/pieces/specs/Kinds.antt): `add` `mul` `sub` `div` `mod`, then `eq`, then
 -- `lt` `gt` `le` `ge`, then `and` `or`.
 unfoldable pub operandsD : List ℕ → ℕ → ℕ → ℕ → ℕ → ℕ → Typed
 operandsD t kind token result left right =

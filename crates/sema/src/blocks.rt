@@ -4,6 +4,8 @@ ghost use mathlib.Core.List.{List};
 ghost use Prim.Native.Nat.{ℕ, _+_, _*_, _≤_, _<_};
 ghost use lib.ListN.{length};
 ghost use Rattle.lexer.specs.Decoded.{tokensOf};
+ghost use Rattle.functions.specs.Columns.{HasRows, tableSize};
+ghost use Rattle.utils.specs.Limits.{mostFunctions};
 ghost use Rattle.sema.specs.Symbols.{typed};
 ghost use Rattle.sema.specs.Typing.{typePlainD, typeItemD};
 ghost use Rattle.sema.specs.Items.{operationOf, itemOf, itemAt};
@@ -59,7 +61,7 @@ fn analyze_record(
     r: ItemRecord,
     arguments: &[u32],
 ) -> Checked
-    requires { ⌜ (n ≤ 64) × (2881 ≤ length (now rows)) ⌝ }
+    requires { ⌜ HasRows (now rows) n ⌝ }
     ensures { λ s. ⌜ typed (now (table .exit)) s
         ≡ typeItemD (tokensOf (now (tokens .entry))) (globalsIn (now (rows .entry)) n) ret (now (table .entry))
         (itemOf r (now (arguments .entry))) ⌝ }
@@ -103,7 +105,7 @@ pub fn analyze_op(
     arguments: &[u32],
     i: usize,
 ) -> Checked
-    requires { ⌜ (n ≤ 64) × (2881 ≤ length (now rows)) × (i ≤ 8589934592) ⌝ }
+    requires { ⌜ (n ≤ mostFunctions) × (tableSize ≤ length (now rows)) × (i ≤ 8589934592) ⌝ }
     ensures { λ s. ⌜ typed (now (table .exit)) s
         ≡ typeItemD (tokensOf (now (tokens .entry))) (globalsIn (now (rows .entry)) n) ret (now (table .entry))
         (itemAt (now (items .entry)) (now (arguments .entry)) i) ⌝ }
@@ -143,7 +145,7 @@ pub fn analyze_block(
     first: u32,
     count: u32,
 ) -> Checked
-    requires { ⌜ (n ≤ 64) × (2881 ≤ length (now rows)) ⌝ }
+    requires { ⌜ HasRows (now rows) n ⌝ }
     ensures { λ s. ⌜ typed (now (table .exit)) s
         ≡ typeBlockD (tokensOf (now (tokens .entry))) (globalsIn (now (rows .entry)) n) ret (now (table .entry))
         (itemsAt (now (items .entry)) (now (arguments .entry)) first count) ⌝ }

@@ -2,8 +2,9 @@
 ghost use mathlib.Core.Path.{_≡_};
 ghost use Prim.Native.Nat.{_+_, _*_, _≤_, _<_};
 ghost use lib.ListN.{length, getD};
-ghost use Rattle.functions.specs.Columns.{retAt, countAt, formalsAt};
+ghost use Rattle.functions.specs.Columns.{retAt, countAt, formalsAt, IsRow, HasRows};
 ghost use Rattle.functions.specs.Rows.{atMost16, typesAt};
+ghost use Rattle.utils.specs.Limits.{mostFormals};
 ghost use Rattle.sema.specs.Symbols.{typed, thenTyped, enterD};
 ghost use Rattle.sema.specs.Typing.{presentD, typesOf, sameAll, typeArgumentsD, typeCallD, typeCallIntoD};
 ghost use Rattle.body.specs.Records.{named};
@@ -22,7 +23,7 @@ use utils::numbers;
 
 // The first function of this name among n.
 fn find_function(rows: &[u32], n: usize, name: Identifier) -> FoundRow
-    requires { ⌜ (n ≤ 64) × (2881 ≤ length (now rows)) ⌝ }
+    requires { ⌜ HasRows (now rows) n ⌝ }
     ensures { λ r. ⌜ r ≡ rowFrom (now (rows .entry)) 0 n (name .0) ⌝ }
 {
     let mut i: usize = 0;
@@ -99,7 +100,7 @@ fn compare_arguments(
 
 // A row has room for 16 formals.
 pub(crate) fn at_most_16(n: u32) -> u32
-    ensures { λ r. ⌜ (r ≡ atMost16 n) × (r ≤ 16) ⌝ }
+    ensures { λ r. ⌜ (r ≡ atMost16 n) × (r ≤ mostFormals) ⌝ }
 {
     if n <= limits::MOST_FORMALS {
         return n;
@@ -117,7 +118,7 @@ fn analyze_arguments(
     first: u32,
     count: u32,
 ) -> Checked
-    requires { ⌜ (i < 64) × (2881 ≤ length (now rows)) ⌝ }
+    requires { ⌜ IsRow (now rows) i ⌝ }
     ensures { λ r. ⌜ typed (now (table .entry)) r ≡ typeArgumentsD (now (table .entry)) token
         (typesAt (now (rows .entry)) (formalsAt i) (atMost16 (getD (now (rows .entry)) (countAt i) 0)))
         (variablesAt (now (arguments .entry)) first count) ⌝ }
@@ -144,7 +145,7 @@ fn analyze_arguments(
 
 // The result type of the function in row i.
 pub(crate) fn result_type(rows: &[u32], i: usize) -> u32
-    requires { ⌜ (i < 64) × (2881 ≤ length (now rows)) ⌝ }
+    requires { ⌜ IsRow (now rows) i ⌝ }
     ensures { λ r. ⌜ r ≡ getD (now (rows .entry)) (retAt i) 0 ⌝ }
 {
     rows[columns::RESULT + i * columns::ROW]
@@ -161,7 +162,7 @@ pub fn analyze_call(
     first: u32,
     count: u32,
 ) -> Checked
-    requires { ⌜ (n ≤ 64) × (2881 ≤ length (now rows)) ⌝ }
+    requires { ⌜ HasRows (now rows) n ⌝ }
     ensures { λ r. ⌜ typed (now (table .entry)) r
         ≡ typeCallD (now (table .entry)) (globalsIn (now (rows .entry)) n (callee .0)) token callee
         (variablesAt (now (arguments .entry)) first count) ⌝ }
@@ -189,7 +190,7 @@ fn enter_result(
     first: u32,
     count: u32,
 ) -> Checked
-    requires { ⌜ (i < 64) × (2881 ≤ length (now rows)) ⌝ }
+    requires { ⌜ IsRow (now rows) i ⌝ }
     ensures { λ r. ⌜ typed (now (table .exit)) r ≡ thenTyped (enterD (now (table .entry)) token result ty)
         (λ t. typeArgumentsD t token
         (typesAt (now (rows .entry)) (formalsAt i) (atMost16 (getD (now (rows .entry)) (countAt i) 0)))
@@ -213,7 +214,7 @@ pub fn analyze_call_into(
     first: u32,
     count: u32,
 ) -> Checked
-    requires { ⌜ (n ≤ 64) × (2881 ≤ length (now rows)) ⌝ }
+    requires { ⌜ HasRows (now rows) n ⌝ }
     ensures { λ r. ⌜ typed (now (table .exit)) r
         ≡ typeCallIntoD (now (table .entry)) (globalsIn (now (rows .entry)) n (callee .0)) token result ty callee
         (variablesAt (now (arguments .entry)) first count) ⌝ }

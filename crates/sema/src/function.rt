@@ -3,8 +3,9 @@ ghost use mathlib.Core.Path.{_≡_};
 ghost use Prim.Native.Nat.{_+_, _*_, _≤_, _<_};
 ghost use lib.ListN.{length, getD};
 ghost use Rattle.lexer.specs.Decoded.{tokensOf};
-ghost use Rattle.functions.specs.Columns.{rowAt, retAt, firstBlockAt, blockCountAt};
+ghost use Rattle.functions.specs.Columns.{rowAt, retAt, firstBlockAt, blockCountAt, IsRow, tableSize};
 ghost use Rattle.graph.specs.Worklist.{remaining};
+ghost use Rattle.utils.specs.Limits.{mostFunctions, mostBlocks};
 ghost use Rattle.sema.specs.Symbols.{typed};
 ghost use Rattle.sema.specs.Globals.{globalsIn};
 ghost use Rattle.sema.specs.Blocks.{formalsFrom, formalsIn, enterFormalsD};
@@ -46,7 +47,7 @@ fn enter_formals(table: &mut [u32], token: u32, rows: &[u32], first: usize, coun
 
 // The function's name is the token of its formals.
 fn enter_row(table: &mut [u32], rows: &[u32], row: usize) -> Checked
-    requires { ⌜ (row < 64) × (2881 ≤ length (now rows)) ⌝ }
+    requires { ⌜ IsRow (now rows) row ⌝ }
     ensures { λ r. ⌜ typed (now (table .exit)) r
         ≡ enterFormalsD (now (table .entry)) (getD (now (rows .entry)) (rowAt row) 0) (formalsIn (now (rows .entry)) row) ⌝ }
 {
@@ -68,7 +69,7 @@ fn analyze_recorded(
     blocks: &[u32],
     k: usize,
 ) -> Checked
-    requires { ⌜ (n ≤ 64) × (2881 ≤ length (now rows)) × (k ≤ 8589934592) ⌝ }
+    requires { ⌜ (n ≤ mostFunctions) × (tableSize ≤ length (now rows)) × (k ≤ 8589934592) ⌝ }
     ensures { λ r. ⌜ typed (now (table .exit)) r
         ≡ typeBlockD (tokensOf (now (tokens .entry))) (globalsIn (now (rows .entry)) n) ret (now (table .entry))
         (blockItems (now (items .entry)) (now (arguments .entry)) (now (blocks .entry)) k) ⌝ }
@@ -101,7 +102,8 @@ fn analyze_remaining(
     order: &[u32; limits::BLOCKS],
     work: RPOWorklist,
 ) -> Checked
-    requires { ⌜ (n ≤ 64) × (2881 ≤ length (now rows)) × (length (now order) ≡ 256) × (work .blocks ≤ 256) ⌝ }
+    requires { ⌜ (n ≤ mostFunctions) × (tableSize ≤ length (now rows)) × (length (now order) ≡ mostBlocks)
+        × (work .blocks ≤ mostBlocks) ⌝ }
     ensures { λ r. ⌜ typed (now (table .exit)) r
         ≡ typeBlocksD (tokensOf (now (tokens .entry))) (globalsIn (now (rows .entry)) n) ret (now (table .entry))
         (blocksAt (now (items .entry)) (now (arguments .entry)) (now (blocks .entry)) first
@@ -138,7 +140,7 @@ fn analyze_blocks(
     arguments: &[u32],
     blocks: &[u32],
 ) -> Checked
-    requires { ⌜ (n ≤ 64) × (row < 64) × (2881 ≤ length (now rows)) ⌝ }
+    requires { ⌜ (n ≤ mostFunctions) × (row < mostFunctions) × (tableSize ≤ length (now rows)) ⌝ }
     ensures { λ r. ⌜ typed (now (table .exit)) r
         ≡ typeBlocksD (tokensOf (now (tokens .entry))) (globalsIn (now (rows .entry)) n)
         (getD (now (rows .entry)) (retAt row) 0) (now (table .entry))
@@ -176,7 +178,7 @@ pub fn analyze(
     arguments: &[u32],
     blocks: &[u32],
 ) -> Checked
-    requires { ⌜ (n ≤ 64) × (row < 64) × (2881 ≤ length (now rows)) ⌝ }
+    requires { ⌜ (n ≤ mostFunctions) × (row < mostFunctions) × (tableSize ≤ length (now rows)) ⌝ }
     ensures { λ r. ⌜ typed (now (table .exit)) r
         ≡ typeRowD (tokensOf (now (tokens .entry))) (now (rows .entry)) n (now (items .entry)) (now (arguments .entry))
         (now (blocks .entry)) row (now (table .entry)) ⌝ }

@@ -6,6 +6,7 @@ use mathlib.Core.List.{List, [], _∷_, _++_}
 use lib.ListN.{length}
 use Rattle.utils.specs.Bytes.{padTo}
 use Rattle.lexer.specs.Decoded.{Tok}
+use Rattle.utils.specs.Limits.{mostNames, mostFunctions}
 use Rattle.parser.specs.declared.Refusal.{Refusal}
 use Rattle.parser.specs.declared.Consumed.{Consumed}
 use Rattle.parser.specs.declared.Consumed.the-variants as C
@@ -22,7 +23,7 @@ use Rattle.elaborate.specs.Types.{calleeIn, typedItemsCells, typedArgumentsCell
 
 -- A text has at most 1,024 names; none has a type yet.
 abbrev pub untyped : List ℕ
-untyped = padTo 1024 []
+untyped = padTo mostNames []
 
 -- All functions, or the first refusal. ------------------------------------------------------------------------------
 
@@ -99,7 +100,8 @@ unitRead (refused e) = U.Refused e
 -- how many records there are
 abbrev pub Counted : ProgramRead → Type 0
 Counted (U.Done n) =
-    (n .functions ≤ 64) × (n .items ≤ 3072) × (n .arguments ≤ 3464) × (n .blocks ≤ 1024) × (n .predecessors ≤ 2048)
+    (n .functions ≤ mostFunctions) × (n .items ≤ 3072) × (n .arguments ≤ 3464) × (n .blocks ≤ 1024)
+    × (n .predecessors ≤ 2048)
 Counted (U.Refused e) = Unit
 
 -- Before a refusal's slices are cleared nothing is said of them.

@@ -5,6 +5,7 @@ use mathlib.Core.List.{List}
 use lib.ListN.{getD}
 use Rattle.lexer.specs.Decoded.{Tok}
 use Rattle.functions.specs.Columns.{typeAt, firstItemAt, itemCountAt}
+use Rattle.utils.specs.Limits.{mostFunctions}
 use Rattle.parser.specs.declared.Refusal.{Refusal}
 use Rattle.sema.specs.Blocks.{typeRowD}
 use Rattle.sema.specs.declared.Checked.{Checked}
@@ -38,7 +39,7 @@ typedRows ts rows n blocks t i (suc m) items args =
 
 -- No row of the n has a type number past 64, and the items of the `more` rows from `first` on lie in their slice.
 pub record RowsFit (rows : List ℕ) (n first more cells : ℕ) : Type 0 where
-  pub types-few : (i : ℕ) → i < n → getD rows (typeAt i) 0 ≤ 64
+  pub types-few : (i : ℕ) → i < n → getD rows (typeAt i) 0 ≤ mostFunctions
   pub items-fit : (i : ℕ) → first ≤ i → i < first + more
       → (getD rows (firstItemAt i) 0 + getD rows (itemCountAt i) 0) * 8 ≤ cells
 

@@ -8,6 +8,7 @@ ghost use lib.ListN.{length};
 ghost use Rattle.lexer.specs.Decoded.{tokensOf};
 ghost use Rattle.body.specs.Room.{Within};
 ghost use Rattle.functions.specs.Answer.{Long, slices};
+ghost use Rattle.functions.specs.Columns.{tableSize};
 ghost use Rattle.unit.specs.Outcome.{cleared, asLong, unitD, unitRead, unitSlices, Counted, UnitHeld};
 use functions::ProgramRead;
 use sema::Checked;
@@ -22,7 +23,7 @@ fn build(
     blocks: &mut [u32],
     predecessors: &mut [u32],
 ) -> ProgramRead
-    requires { ⌜ Within (tokensOf (now tokens)) 0 × (2881 ≤ length (now functions))
+    requires { ⌜ Within (tokensOf (now tokens)) 0 × (tableSize ≤ length (now functions))
         × Long (now items) (now arguments) (now blocks) (now predecessors)
         × (slices (now functions) (now items) (now arguments) (now blocks) (now predecessors)
         ≡ cleared (slices (now functions) (now items) (now arguments) (now blocks) (now predecessors))) ⌝ }
@@ -73,7 +74,7 @@ pub fn unit(
     blocks: &mut [u32],
     predecessors: &mut [u32],
 ) -> ProgramRead
-    requires { ⌜ Within (tokensOf (now tokens)) 0 × (2881 ≤ length (now functions))
+    requires { ⌜ Within (tokensOf (now tokens)) 0 × (tableSize ≤ length (now functions))
         × Long (now items) (now arguments) (now blocks) (now predecessors) ⌝ }
     ensures { λ r. ⌜ r ≡ unitRead (unitD (tokensOf (now (tokens .entry)))) ⌝ }
     ensures { λ _. ⌜ slices (now (functions .exit)) (now (items .exit)) (now (arguments .exit)) (now (blocks .exit))

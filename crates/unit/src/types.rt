@@ -5,6 +5,8 @@ ghost use Prim.Native.Nat.{ℕ, _+_, _*_, _≤_, _<_};
 ghost use lib.ListN.{length, getD};
 ghost use Rattle.utils.specs.Bytes.{padTo};
 ghost use Rattle.lexer.specs.Decoded.{tokensOf};
+ghost use Rattle.functions.specs.Columns.{tableSize};
+ghost use Rattle.utils.specs.Limits.{mostFunctions};
 ghost use Rattle.unit.specs.Rows.{RowsFit, typedRows, RowsHeld};
 use functions::columns;
 use sema::Checked;
@@ -30,7 +32,7 @@ fn type_with(
     arguments: &mut [u32],
     blocks: &[u32],
 ) -> Checked
-    requires { ⌜ (n ≤ 64) × (first + more ≤ 64) × (2881 ≤ length (now rows))
+    requires { ⌜ (n ≤ mostFunctions) × (first + more ≤ mostFunctions) × (tableSize ≤ length (now rows))
         × RowsFit (now rows) n first more (length (now items)) ⌝ }
     ensures { λ r. ⌜ RowsHeld r (now (items .exit)) (now (arguments .exit))
         (typedRows (tokensOf (now (tokens .entry))) (now (rows .entry)) n (now (blocks .entry))
@@ -66,7 +68,7 @@ pub fn type_rows(
     arguments: &mut [u32],
     blocks: &[u32],
 ) -> Checked
-    requires { ⌜ (n ≤ 64) × (first + more ≤ 64) × (2881 ≤ length (now rows))
+    requires { ⌜ (n ≤ mostFunctions) × (first + more ≤ mostFunctions) × (tableSize ≤ length (now rows))
         × RowsFit (now rows) n first more (length (now items)) ⌝ }
     ensures { λ r. ⌜ RowsHeld r (now (items .exit)) (now (arguments .exit))
         (typedRows (tokensOf (now (tokens .entry))) (now (rows .entry)) n (now (blocks .entry))
