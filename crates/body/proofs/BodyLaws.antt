@@ -60,7 +60,7 @@ unfoldable pub LabelsFollowed : ℕ → List Item → Type 0
 LabelsFollowed before [] = before ≡ afterLabel → ⊥
 LabelsFollowed before (i ∷ is) = LabelsFollowed (after i) is
 
--- What holds of a body whatever its steps gave. -------------------------------------------------------------------------
+-- What holds of a body whatever its steps gave. -----------------------------------------------------------------------
 
 module _ (Q : Body → Type 0) where
   looked : (t : TokenAt) (k : ℕ → ℕ → Body) → ((kind next : ℕ) → Q (k kind next)) → Q (look t k)
@@ -109,7 +109,7 @@ pub item-operates : (ts : List Tok) (from : ℕ) (i : Item) (at : ℕ) → itemD
 unfolding itemD
 item-operates ts from i at e = rw e at (parsed-operates ts (instructionD ts from))
 
--- Of an accepted body. --------------------------------------------------------------------------------------------------
+-- Of an accepted body. ------------------------------------------------------------------------------------------------
 
 abbrev Ordered : ℕ → Body → Type 0
 Ordered before r =
@@ -164,7 +164,7 @@ pub first-item : (ts : List Tok) (room : ℕ) (ls : List ℕ) (at : ℕ) {next :
 unfolding LabelsFollowed
 first-item ts room ls at h e = (rw e at (labels-followed ts room ls afterLabel at h)) refl
 
--- How many labels. ------------------------------------------------------------------------------------------------------
+-- How many labels. ----------------------------------------------------------------------------------------------------
 
 -- a label is read where there are fewer than 255 before it
 abbrev Roomy : List ℕ → Named → Type 0
@@ -207,7 +207,8 @@ few-none : (ls : List ℕ) → length ls ≤ 255 → FewIn ls []
 unfolding labelsOf
 few-none ls h = omega arith
 
-few-label : (ls : List ℕ) (w : ℕ) (l : Identifier) (is : List Item) → FewIn (ls ++ (l .0 ∷ [])) is → FewIn ls (label w l ∷ is)
+few-label : (ls : List ℕ) (w : ℕ) (l : Identifier) (is : List Item) → FewIn (ls ++ (l .0 ∷ [])) is → FewIn ls
+    (label w l ∷ is)
 unfolding labelsOf
 few-label ls w l is h = omega (arith, h, length-append ls (l .0 ∷ []))
 
@@ -238,7 +239,7 @@ labels-from ts (suc room) ls before at h =
 pub labels-few : (ts : List Tok) (room before at : ℕ) → length (labelsOf (bodyD ts room [] before at .items)) ≤ 255
 labels-few ts room before at = omega (arith, labels-from ts room [] before at (omega arith))
 
--- Of closed items. ------------------------------------------------------------------------------------------------------
+-- Of closed items. ----------------------------------------------------------------------------------------------------
 
 -- what is shown with an added `ret` and without it
 added : (Q : List Item → Type 0) (lacks : Bool) (last : ℕ) (is : List Item) → (lacks ≡ true → Q (ret last ∷ is))

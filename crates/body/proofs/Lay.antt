@@ -9,7 +9,8 @@ use native.Mathlib.Nat.{add-zero, zero-add}
 use lib.ListN.{length, length-append}
 use Rattle.utils.specs.Bytes.{pick}
 use Rattle.parser.specs.Runs.{variablesCells}
-use Rattle.body.specs.Body.{Item, label, plain, call, callInto, argumentsIn, afterBrace, afterLabel, lacksRet, ret}
+use Rattle.body.specs.Body.{Item, label, plain, call, callInto, argumentsIn, afterBrace, afterLabel, lacksRet}
+use Rattle.body.specs.Body.{ret}
 use Rattle.body.specs.Body.{closedFrom, closedItems}
 use Rattle.parser.specs.declared.Variable.{Variable}
 use Rattle.body.specs.Records.{recordOf, recordCells, itemsCells, argumentsCells, argumentsCount}
@@ -32,7 +33,7 @@ length-arguments-cells [] = refl
 length-arguments-cells (i ∷ is) =
     rw length-append (omega (arith, length-variables-cells (argumentsIn i), length-arguments-cells is))
 
--- One run of items behind another. --------------------------------------------------------------------------------------
+-- One run of items behind another. ------------------------------------------------------------------------------------
 
 pub arguments-count-append : (is js : List Item) → argumentsCount (is ++ js) ≡ argumentsCount is + argumentsCount js
 unfolding argumentsCount
@@ -49,7 +50,8 @@ pub items-cells-append : (used : ℕ) (is js : List Item)
 unfolding itemsCells argumentsCount
 items-cells-append used [] js = rw add-zero
 items-cells-append used (i ∷ is) js =
-    let e : used + (length (argumentsIn i) + argumentsCount is) ≡ used + length (argumentsIn i) + argumentsCount is = omega arith in
+    let e : used + (length (argumentsIn i) + argumentsCount is) ≡ used + length (argumentsIn i) + argumentsCount is =
+    omega arith in
     rw (e, items-cells-append (used + length (argumentsIn i)) is js)
 
 -- one item more
@@ -58,15 +60,17 @@ pub items-cells-snoc : (used : ℕ) (is : List Item) (i : Item)
 unfolding itemsCells
 items-cells-snoc used is i = items-cells-append used is (i ∷ [])
 
--- An added `ret`. -------------------------------------------------------------------------------------------------------
+-- An added `ret`. -----------------------------------------------------------------------------------------------------
 
 -- it has no arguments, so that it changes neither their cells nor their count
-added-cells : (lacks : Bool) (last : ℕ) (is : List Item) → argumentsCells (pick lacks (ret last ∷ is) is) ≡ argumentsCells is
+added-cells : (lacks : Bool) (last : ℕ) (is : List Item) → argumentsCells (pick lacks (ret last ∷ is) is)
+    ≡ argumentsCells is
 unfolding pick argumentsCells variablesCells
 added-cells true last is = refl
 added-cells false last is = refl
 
-added-count : (lacks : Bool) (last : ℕ) (is : List Item) → argumentsCount (pick lacks (ret last ∷ is) is) ≡ argumentsCount is
+added-count : (lacks : Bool) (last : ℕ) (is : List Item) → argumentsCount (pick lacks (ret last ∷ is) is)
+    ≡ argumentsCount is
 unfolding pick argumentsCount
 added-count true last is = zero-add (argumentsCount is)
 added-count false last is = refl

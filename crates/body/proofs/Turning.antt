@@ -62,7 +62,15 @@ module _ (ts : List Tok) (void : Bool) (s : Going) (l : Identifier) (next : ℕ)
       → items₁ ≡ sets items₀ (s .items * 8) (itemsCells 0 (added (lacksRet void (s .before)) (s .last)))
       → items ≡ sets items₁ (n * 8) (recordCells (itemRecord 1 (s .at) none 0 none 0 (L.Name l 0)))
       → LabelTaken ts void s
-      (record { at = next; items = n + 1; arguments = s .arguments; labels = s .labels + 1; before = 1; last = s .last })
+      (record {
+        at = next;
+        items = n + 1;
+        arguments = s .arguments;
+        labels = s .labels + 1;
+        before = 1;
+        last =
+            s .last;
+      })
       items₀ items labels₀ (set labels₀ (s .labels) (l .0))
   unfolding closing itemsCells recordOf variablesCells beforeNext lastNext
   label-taken n items₀ items₁ items e f g =

@@ -4,7 +4,9 @@ pub mod Lexed
 pub mod Ends
 -- a table that `check` wrote is inside the ranges that recheck asks for
 pub mod Header
--- every number is one of document 01's for check: those of parsing, of typing, the whole
+-- every number is one of document 01's for check: those of parsing
 pub mod ParsedNumbers
+-- .. those of typing
 pub mod TypedNumbers
+-- .. the whole
 pub mod Numbers

@@ -18,6 +18,7 @@ use lexer::sizes::NAME_CELLS;
 use lexer::sizes::TOKEN_CELLS;
 use parser::Refusal;
 use pieces::Location;
+use unit::clear;
 use utils::limits;
 use utils::numbers;
 
@@ -175,7 +176,7 @@ fn check_sized(
             message,
         );
     }
-    unit::clear::clear_five(functions, items, arguments, blocks, predecessors);
+    clear::clear_five(functions, items, arguments, blocks, predecessors);
     refused(r.number, Location(r.line), r.place)
 }
 

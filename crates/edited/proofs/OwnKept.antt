@@ -29,7 +29,7 @@ use Rattle.headers.specs.Table.{isTable}
 use Rattle.headers.specs.Spelled.{rowName, globalsSpelled}
 use Rattle.headers.specs.Kept.{isWhole, keeps}
 use Rattle.recheck.specs.Recheck.{typedAs, aloneD, functionAlone, recheckOf}
-use Rattle.headers.proofs.Keeping.{kept-same}
+use Rattle.recheck.proofs.Keeping.{kept-same}
 use Rattle.edited.specs.Demand3.{tableOf, recheckedAs}
 use Rattle.edited.specs.Itself.{ownText}
 use Rattle.edited.specs.Spelled.{tokensIn}

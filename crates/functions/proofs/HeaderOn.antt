@@ -23,7 +23,8 @@ use Rattle.parser.specs.declared.TypeRead.{TypeRead}
 use Rattle.parser.specs.declared.TypeRead.the-variants as R
 use Rattle.body.proofs.Progress.{DefinedIn, moved, consume-step, named-step, type-step}
 use Rattle.functions.specs.Known.{Known}
-use Rattle.functions.specs.Functions.{HeaderAt, header, noHeader, thenFormals, thenEntered, optionalFormals, optionalType}
+use Rattle.functions.specs.Functions.{HeaderAt, header, noHeader, thenFormals, thenEntered, optionalFormals}
+use Rattle.functions.specs.Functions.{optionalType}
 use Rattle.functions.specs.Functions.{enteredD, signatureD, headerD}
 use Rattle.functions.specs.declared.Entered.{Entered}
 use Rattle.functions.specs.declared.Entered.the-variants as E
@@ -80,7 +81,8 @@ module _ (ts : List Tok) (last : ℕ) (ends : tokenAt ts last .kind ≡ 38) wher
       (λ t.
       let m = moved ts last ends next 31 g refl t in
       rw (m .0)
-      (wider (next + 1) at last (formalsFromD ts room (next + 1) .end) (omega arith) (formals-from room (next + 1) (m .1))))
+      (wider (next + 1) at last (formalsFromD ts room (next + 1) .end) (omega arith) (formals-from room (next + 1)
+      (m .1))))
       (λ t. wider next at last (consumeD ts next 26) f (consumed-in next 26 g refl)))
 
   optional-formals : (at : ℕ) → at ≤ last → EndIn at last (optionalFormals ts at .end)
@@ -158,5 +160,6 @@ module _ (ts : List Tok) (last : ℕ) (ends : tokenAt ts last .kind ≡ 38) wher
       pick-either (HeaderIn at last) full _ _ (λ t. tt) (λ t.
       after-formals at (at + 1) (optionalFormals ts (at + 1)) _ (optional-formals (at + 1) k) (λ vs at1 f1 g1.
       after-type at at1 (optionalType ts at1) _ (optional-type at1 g1) (λ y at2 f2 g2.
-      after-entry at at2 (enteredD ts known types at g _ at2) _ (entered-in known types at g _ at2 g2) (λ type next f3 g3.
+      after-entry at at2 (enteredD ts known types at g _ at2) _ (entered-in known types at g _ at2 g2)
+      (λ type next f3 g3.
       (omega arith, g3))))))

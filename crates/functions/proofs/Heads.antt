@@ -52,7 +52,8 @@ unfolding optionalFormals formalsD look
 formals-few ts at =
     let next = tokenAt ts at .next in
     pick-few (eqb (tokenAt ts at .kind) 25) _ (ended (C.At at)) 16
-    (pick-few (eqb (tokenAt ts next .kind) 26) (ended (C.At (tokenAt ts next .next))) (formalsFromD ts 16 next) 16 (omega arith)
+    (pick-few (eqb (tokenAt ts next .kind) 26) (ended (C.At (tokenAt ts next .next))) (formalsFromD ts 16 next) 16
+    (omega arith)
     (from-few ts 16 next))
     (omega arith)
 

@@ -21,7 +21,8 @@ use Rattle.functions.specs.Known.{Known, typesAfter}
 use Rattle.functions.specs.Functions.{Function, Program, programEnd, programStop, programThen, knownOf, programD}
 use Rattle.functions.specs.Functions.{FunctionAt, function, noFunction, thenFunction, functionD, functionsD}
 use Rattle.functions.specs.Rows.{knownFrom}
-use Rattle.functions.specs.Answer.{counts, countsWith, countsFrom, Room, Slices, slices, storedFunction, storedFrom}
+use Rattle.functions.specs.Answer.{counts, countsWith, countsFrom, Room, Slices, slices, storedFunction}
+use Rattle.functions.specs.Answer.{storedFrom}
 use Rattle.functions.specs.Answer.{Taken, functionRead, FunctionHeld, withCount, Held, programRead}
 use Rattle.functions.specs.declared.FunctionRead.the-variants as F
 use Rattle.functions.specs.Laid.{Fits, FitsFrom, AllFit}
@@ -126,7 +127,8 @@ module _ (ts : List Tok) (names : List ℕ) (s₀ : Slices) where
     -- the end token
     pub at-end : {t : TokenAt} → t ≡ tokenAt ts at → t .kind ≡ 38
         → (U.Done n ≡ programRead (programD ts))
-        × (Held ts names (programD ts .functions) s₀ (withCount (n .functions) s) (programD ts .end) × AllFit (programD ts))
+        × (Held ts names (programD ts .functions) s₀ (withCount (n .functions) s) (programD ts .end) × AllFit
+        (programD ts))
     unfolding programRead countsFrom storedFrom FitsFrom opened
     at-end q h =
         let e = functions-end ts (64 - n .functions) (knownFrom (s .functions) 0 (n .functions)) types at q h in
@@ -144,7 +146,8 @@ module _ (ts : List Tok) (names : List ℕ) (s₀ : Slices) where
         × AllFit (programD ts))
     unfolding programRead FitsFrom opened
     at-refused {e = r} q h a s′ =
-        let e = functions-refused ts (n .functions) (knownFrom (s .functions) 0 (n .functions)) types at (g .few) q h a in
+        let e = functions-refused ts (n .functions) (knownFrom (s .functions) 0 (n .functions)) types at (g .few) q h
+        a in
         let f : programD ts .end ≡ C.Refused r = sym (g .ends) ∙ ap (λ (p : Program). p .end) e in
         rw f (refl, (tt, g .fits (rw e tt)))
 
@@ -155,7 +158,8 @@ module _ (ts : List Tok) (names : List ℕ) (s₀ : Slices) where
     unfolding countsFrom storedFrom typesAfter FitsFrom opened
     onward {f = f} q h a s′ w =
         let e = functions-more ts (n .functions) (knownFrom (s .functions) 0 (n .functions)) types at (w .few) q h a in
-        let few-type = function-type-few ts (knownFrom (s .functions) 0 (n .functions)) types (g .known-few) (leb 64 (n .functions))
+        let few-type = function-type-few ts (knownFrom (s .functions) 0 (n .functions)) types (g .known-few)
+        (leb 64 (n .functions))
         at a in
         let same : left at types n s
         ≡ programThen f (left (f .next) (typesAfter types (f .head .type)) (countsWith n f) s′) =
@@ -177,7 +181,8 @@ module _ (ts : List Tok) (names : List ℕ) (s₀ : Slices) where
           number = omega (arith, rw same at (g .number));
           known-few =
               rw (w .seen)
-              (more-types types (typesAfter types (f .head .type)) (knownFrom (s .functions) 0 (n .functions)) (knownOf (f .head))
+              (more-types types (typesAfter types (f .head .type)) (knownFrom (s .functions) 0 (n .functions))
+              (knownOf (f .head))
               (types-after-up types (f .head .type)) (omega (arith, few-type, types-after-up types (f .head .type)))
               (g .known-few));
           fits = λ v. g .fits (rw same (fitting w few-type, v));

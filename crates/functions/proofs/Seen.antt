@@ -72,7 +72,8 @@ module _ (ts : List Tok) (names : List ℕ) (f : Function) (first base n : ℕ) 
   types =
       let l : length (sets rows (rowAt n) (headCells ts names f first base)) ≡ length rows =
       length-sets rows (rowAt n) (headCells ts names f first base) in
-      rw behind (types-there vs (sets rows (rowAt n) (headCells ts names f first base)) (formalsAt n) (omega (arith, l)))
+      rw behind (types-there vs (sets rows (rowAt n) (headCells ts names f first base)) (formalsAt n)
+      (omega (arith, l)))
 
   at-name : getD rows′ (2 + n * 45) 0 ≡ f .head .name .0
   unfolding cells

@@ -21,7 +21,8 @@ getD-sets-below [] l at i h = refl
 getD-sets-below (v ∷ vs) l at i h =
     getD-sets-below vs (set l at v) (suc at) i (omega arith) ∙ getD-set-other l at i v 0 (λ e. omega (arith, e))
 
-types-below : (n : ℕ) (vs l : List ℕ) (at from : ℕ) → from + n * 2 ≤ at → typesAt (sets l at vs) from n ≡ typesAt l from n
+types-below : (n : ℕ) (vs l : List ℕ) (at from : ℕ) → from + n * 2 ≤ at → typesAt (sets l at vs) from n ≡ typesAt l
+    from n
 unfolding typesAt
 types-below zero vs l at from h = refl
 types-below (suc n) vs l at from h =
@@ -94,7 +95,8 @@ sets-comm (x ∷ xs) ys l a b h =
     rw (← sets-set ys l b a x (omega arith)) (sets-comm xs ys (set l a x) (suc a) b (omega arith))
 
 -- a row whose formals were stored first
-pub row-stored : (l l₁ l₂ xs ys : List ℕ) (i : ℕ) → length xs ≡ 13 → l₁ ≡ sets l (formalsAt i) ys → l₂ ≡ sets l₁ (rowAt i) xs
+pub row-stored : (l l₁ l₂ xs ys : List ℕ) (i : ℕ) → length xs ≡ 13 → l₁ ≡ sets l (formalsAt i) ys → l₂ ≡ sets l₁
+    (rowAt i) xs
     → l₂ ≡ sets l (rowAt i) (xs ++ ys)
 row-stored l l₁ l₂ xs ys i e p q =
     let here : rowAt i + length xs ≡ formalsAt i = omega (arith, e) in

@@ -13,8 +13,10 @@ use Rattle.parser.specs.Runs.{typeCell, variablesCells}
 use Rattle.parser.specs.declared.Refusal.{Refusal}
 use Rattle.body.specs.Records.{argumentsCount}
 use Rattle.functions.specs.Known.{typesAfter}
-use Rattle.functions.specs.Functions.{Header, HeaderAt, header, noHeader, thenHeader, BuiltAt, built, notBuilt, thenBuilt}
-use Rattle.functions.specs.Functions.{blocksIn, Function, FunctionAt, function, noFunction, headerD, builtD, functionD}
+use Rattle.functions.specs.Functions.{Header, HeaderAt, header, noHeader, thenHeader, BuiltAt, built, notBuilt}
+use Rattle.functions.specs.Functions.{thenBuilt}
+use Rattle.functions.specs.Functions.{blocksIn, Function, FunctionAt, function, noFunction, headerD, builtD}
+use Rattle.functions.specs.Functions.{functionD}
 use Rattle.functions.specs.Columns.{rowAt, formalsAt}
 use Rattle.functions.specs.Rows.{headCells, rowCells, knownFrom}
 use Rattle.functions.specs.Heads.{headerRead, HeaderHeld}
@@ -67,7 +69,8 @@ unbodied (built is next) e h = absurd (let z : _≡_ {A = ℕ} 0 1 = cc in omega
 unbodied (notBuilt r) e h = cc
 
 -- the row's cells and the answer, by what the header and the body are
-cells-same : (ts : List Tok) (names : List ℕ) (f : Function) (name : Identifier) (ret type first items base blocks formals : ℕ)
+cells-same : (ts : List Tok) (names : List ℕ) (f : Function) (name : Identifier) (ret type first items base blocks
+    formals : ℕ)
     → name ≡ f .head .name → ret ≡ typeCell (f .head .ret) → type ≡ f .head .type → items ≡ length (f .items)
     → blocks ≡ length (blocksIn (f .items)) → formals ≡ length (f .head .formals)
     → _≡_ {A = List ℕ}
@@ -78,7 +81,8 @@ cells-same ts names f name ret type first items base blocks formals a b c d e g 
 
 done-same : (types : ℕ) (n m : Counts) (f : Function) (types′ type items arguments blocks preds : ℕ)
     → types′ ≡ typesAfter types type → type ≡ f .head .type → items ≡ length (f .items)
-    → arguments ≡ argumentsCount (f .items) → blocks ≡ length (blocksIn (f .items)) → preds ≡ length (predecessorsIn (f .items))
+    → arguments ≡ argumentsCount (f .items) → blocks ≡ length (blocksIn (f .items)) → preds ≡ length
+    (predecessorsIn (f .items))
     → m ≡ record {
       functions = n .functions + 1;
       items = n .items + items;
@@ -113,7 +117,8 @@ module _ (ts : List Tok) (names : List ℕ) (at types : ℕ) (n : Counts) (rows�
 
     further : HeaderIn at (room .within .last) read
     further =
-        header-in ts (room .within .last) (room .within .ends) (leb 64 (n .functions)) (knownFrom rows₀ 0 (n .functions)) types
+        header-in ts (room .within .last) (room .within .ends) (leb 64 (n .functions))
+        (knownFrom rows₀ 0 (n .functions)) types
         at (room .within .reached)
 
     on : (at + 2 ≤ h .next) × (h .next ≤ room .within .last)
@@ -138,7 +143,8 @@ module _ (ts : List Tok) (names : List ℕ) (at types : ℕ) (n : Counts) (rows�
     unfolding functionD thenHeader thenBuilt
     body-refused e g = rw (hd .is, ← hd .ret-is, unbodied inner e g)
 
-    module _ (rows₁ : List ℕ) (held : HeaderHeld (n .functions) rows₀ rows₁ read) (b : Body) (bodied-by : G.Done b ≡ buildRead inner)
+    module _ (rows₁ : List ℕ) (held : HeaderHeld (n .functions) rows₀ rows₁ read) (b : Body)
+        (bodied-by : G.Done b ≡ buildRead inner)
         (items₀ items arguments₀ arguments blocks₀ blocks preds₀ preds : List ℕ)
         (body-held : BuildHeld ts n items₀ items arguments₀ arguments blocks₀ blocks preds₀ preds inner)
         (rows-long : 2881 ≤ length rows₀) where
@@ -157,7 +163,8 @@ module _ (ts : List Tok) (names : List ℕ) (at types : ℕ) (n : Counts) (rows�
       header-kept = subst (HeaderHeld (n .functions) rows₀ rows₁) (hd .is) held
 
       body-kept : Built ts n (bd .items) (b .next) items₀ items arguments₀ arguments blocks₀ blocks preds₀ preds
-      body-kept = subst (BuildHeld ts n items₀ items arguments₀ arguments blocks₀ blocks preds₀ preds) (bd .is) body-held
+      body-kept = subst (BuildHeld ts n items₀ items arguments₀ arguments blocks₀ blocks preds₀ preds) (bd .is)
+          body-held
 
       -- what the row's cells ask
       pub row-fits : (n .functions < 64) × (at ≤ 4095) × (1 ≤ b .next) × (b .next ≤ 4096) × (n .items ≤ 4096)
@@ -192,7 +199,8 @@ module _ (ts : List Tok) (names : List ℕ) (at types : ℕ) (n : Counts) (rows�
           )
 
       module _ (rows₂ : List ℕ) (put : rows₂ ≡ sets rows₁ (rowAt (n .functions))
-          (at ∷ h .name .0 ∷ (b .next - 1) ∷ tokenAt ts at .place ∷ getD names (h .name .0 * 2 + 1) 0 ∷ tokenAt ts at .line .0
+          (at ∷ h .name .0 ∷ (b .next - 1) ∷ tokenAt ts at .place ∷ getD names (h .name .0 * 2 + 1) 0 ∷ tokenAt ts
+          at .line .0
           ∷ h .ret ∷ h .ty ∷ n .items ∷ b .items ∷ n .blocks ∷ b .blocks ∷ h .formals ∷ [])) where
         head-put : rows₂ ≡ sets rows₁ (rowAt (n .functions)) (headCells ts names f (n .items) (n .blocks))
         unfolding f
@@ -204,7 +212,8 @@ module _ (ts : List Tok) (names : List ℕ) (at types : ℕ) (n : Counts) (rows�
         row-put : rows₂ ≡ sets rows₀ (rowAt (n .functions)) (rowCells ts names f (n .items) (n .blocks))
         unfolding f
         row-put =
-            row-stored rows₀ rows₁ rows₂ (headCells ts names f (n .items) (n .blocks)) (variablesCells (hd .head .formals))
+            row-stored rows₀ rows₁ rows₂ (headCells ts names f (n .items) (n .blocks))
+            (variablesCells (hd .head .formals))
             (n .functions) refl (header-kept .0) head-put
 
         is-taken : Taken ts names n f (slices rows₀ items₀ arguments₀ blocks₀ preds₀)
@@ -218,7 +227,8 @@ module _ (ts : List Tok) (names : List ℕ) (at types : ℕ) (n : Counts) (rows�
                   (body-kept .predecessors-are);
               seen =
                   ap (λ (z : List ℕ). knownFrom z 0 (n .functions + 1)) row-put
-                  ∙ (seen ts names f (n .items) (n .blocks) (n .functions) rows₀ (header-kept .2) (header-kept .1) rows-long);
+                  ∙ (seen ts names f (n .items) (n .blocks) (n .functions) rows₀ (header-kept .2) (header-kept .1)
+                  rows-long);
               room = body-kept .room;
               formals-few = header-kept .1;
               few-blocks = body-kept .few-blocks;

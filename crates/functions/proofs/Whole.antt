@@ -1,5 +1,5 @@
--- From a body read and its blocks linked to the whole: what was read is what the definition gives, it stands in the slices,
--- and there is room to go on.
+-- From a body read and its blocks linked to the whole: what was read is what the definition gives, it stands in the
+-- slices, and there is room to go on.
 use Prim.Native.Nat.{ℕ, _+_, _*_, _≤_}
 use mathlib.Core.Path.{_≡_, refl, ap, subst, _∙_}
 use mathlib.Core.Bool.{Bool, true}
@@ -37,14 +37,26 @@ use Rattle.functions.specs.declared.Building.the-variants as G
 
 -- what a body's answer says of where it ended
 done-at : (e : Consumed) (next items arguments labels : ℕ) (c : Closed)
-    → B.Done c ≡ thenAt B.Refused e (λ next. B.Done (record { next = next; items = items; arguments = arguments; labels = labels }))
+    → B.Done c ≡ thenAt B.Refused e (λ next. B.Done (record {
+      next = next;
+      items = items;
+      arguments =
+          arguments;
+      labels = labels;
+    }))
     → (e ≡ C.At (c .next)) × (c .items ≡ items) × (c .arguments ≡ arguments) × (c .labels ≡ labels)
 unfolding thenAt
 done-at (C.At i) next items arguments labels c h = (cc, cc, cc, cc)
 done-at (C.Refused e) next items arguments labels c h = absurd (let z : _≡_ {A = ℕ} 0 1 = cc in omega arith)
 
 refused-at : (e : Consumed) (items arguments labels : ℕ) (r : Refusal)
-    → B.Refused r ≡ thenAt B.Refused e (λ next. B.Done (record { next = next; items = items; arguments = arguments; labels = labels }))
+    → B.Refused r ≡ thenAt B.Refused e (λ next. B.Done (record {
+      next = next;
+      items = items;
+      arguments =
+          arguments;
+      labels = labels;
+    }))
     → e ≡ C.Refused r
 unfolding thenAt
 refused-at (C.At i) items arguments labels r h = absurd (let z : _≡_ {A = ℕ} 0 1 = cc in omega arith)
@@ -141,7 +153,8 @@ module _ (ts : List Tok) (void : Bool) (named at : ℕ) (n : Counts)
         rw (ended .0, linked-refused bs (resolveD named bs) e (rw parts at h))
 
     module _ (k m : ℕ) (linked : L.Done k m ≡ linkD named (partsAt items (n .items) (c .items))) (blocks preds : List ℕ)
-        (kept : Linking (partsAt items (n .items) (c .items)) (n .items) (n .blocks) (n .predecessors) blocks₀ blocks preds₀ preds)
+        (kept : Linking (partsAt items (n .items) (c .items)) (n .items) (n .blocks) (n .predecessors) blocks₀ blocks
+        preds₀ preds)
       where
         linked-to : (resolveD named bs ≡ fine) × (k ≡ length bs) × (m ≡ length (predecessorsIn is))
         unfolding linkD
@@ -168,7 +181,8 @@ module _ (ts : List Tok) (void : Bool) (named at : ℕ) (n : Counts)
             rw is-built
             (rw (ended .1, ended .2, linked-to .1, linked-to .2, arguments-count-closed void (body .items)))
 
-        pub is-held : BuildHeld ts n items₀ items arguments₀ arguments blocks₀ blocks preds₀ preds (builtD ts void named at)
+        pub is-held : BuildHeld ts n items₀ items arguments₀ arguments blocks₀ blocks preds₀ preds
+            (builtD ts void named at)
         is-held =
             rw is-built
             (record {
@@ -181,7 +195,13 @@ module _ (ts : List Tok) (void : Bool) (named at : ℕ) (n : Counts)
                     within = stored .on;
                     items-few = omega (arith, bounds .items-few, room .items-few);
                     arguments-few =
-                        omega (arith, bounds .arguments-few, room .arguments-few, arguments-count-closed void (body .items));
+                        omega (
+                          arith,
+                          bounds .arguments-few,
+                          room .arguments-few,
+                          arguments-count-closed void
+                              (body .items),
+                        );
                     blocks-few =
                         omega (arith, bounds .blocks-few, behind, blocks-counted named (shapesOf is) (linked-to .0));
                     predecessors-few = omega (arith, few-predecessors, room .predecessors-few);

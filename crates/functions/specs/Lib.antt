@@ -3,8 +3,9 @@
 pub mod Known
 -- a header, a function, all functions
 pub mod Functions
--- the header table: where its cells stand, and what they hold
+-- the header table: where its cells stand
 pub mod Columns
+-- .. and what they hold
 pub mod Rows
 -- a header's answer
 pub mod Heads

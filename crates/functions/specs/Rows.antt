@@ -1,4 +1,4 @@
--- What a function's row of the header table holds, and what is read back of it. Columns.antt says where its cells stand.
+-- What a function's row of the header table holds, and what is read back of it; Columns.antt says where it stands.
 use Prim.Native.Nat.{ℕ, zero, suc, _+_, _*_, _-_}
 use mathlib.Core.List.{List, [], _∷_, _++_}
 use lib.Dec.{leb}

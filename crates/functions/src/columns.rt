@@ -40,3 +40,6 @@ pub const COUNT: usize = 13;
 pub const FORMALS: usize = 14;
 
 pub const FORMAL_TYPE: usize = FORMALS + 1;
+
+// Where row 1 has its formals.
+pub const SECOND_FORMALS: usize = FORMALS + ROW;

@@ -1,6 +1,7 @@
 -- The laws, in reading order.
 -- one step of a walk, and induction over a walk
 pub mod Steps
+-- why the walk ends: the blocks left and those still to be met are always as many
 pub mod Counts
 -- `depth-enough`
 pub mod Depth
@@ -14,9 +15,13 @@ pub mod Post
 pub mod Below
 -- what callers cite
 pub mod Callers
--- why the code is right
+-- why the code is right: a stack in the place of recursion
 pub mod Stack
+-- .. one turn of its loop
 pub mod Turns
+-- .. the whole walk, from its start
 pub mod Begin
+-- .. the order is put in place
 pub mod Placing
+-- .. the rows hold the records' successors
 pub mod Rows

@@ -1,5 +1,5 @@
--- Two tables whose rows have the same names, function types and type numbers answer alike. So the replaced function's row
--- may hold the new function's items, blocks and formals' names, its header being kept.
+-- Two tables whose rows have the same names, function types and type numbers answer alike. So the replaced function's
+-- row may hold the new function's items, blocks and formals' names, its header being kept.
 use Prim.Native.Nat.{ℕ, zero, suc, _+_, _≤_, _<_}
 use mathlib.Core.Path.{_≡_, refl, _∙_}
 use mathlib.Core.List.{List, [], _∷_}

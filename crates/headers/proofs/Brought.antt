@@ -1,5 +1,5 @@
--- What is looked up by its number among the rows that were brought is what its spelling finds in the old table: a row is
--- brought with the one number that is spelled as its name, and its other cells as they were.
+-- What is looked up by its number among the rows that were brought is what its spelling finds in the old table: a row
+-- is brought with the one number that is spelled as its name, and its other cells as they were.
 use Prim.Native.Nat.{ℕ, zero, suc, _+_, _-_, _*_, _≤_, _<_}
 use mathlib.Core.Path.{_≡_, refl, sym, ap, subst, _∙_}
 use mathlib.Core.List.{List}
@@ -324,8 +324,8 @@ module _ (old rows new names : List ℕ) (known number : ℕ) (out₀ : List ℕ
         (λ (h : Brought). Same (h .cells) rows (rowFrom (h .cells) 0 (h .count) x) (calleeRow old rows new names x))
         (sym (b .table)) headers-same
 
-    -- THE LAWS. Among the rows that were brought, a name's number finds the function type that its spelling finds in the
-    -- old table ..
+    -- THE LAWS. Among the rows that were brought, a name's number finds the function type that its spelling finds in
+    -- the old table ..
     pub globals-brought : globalsIn out (r .count) x ≡ globalsSpelled old rows new names x
     globals-brought =
         global-same out rows (rowFrom out 0 (r .count) x) (calleeRow old rows new names x) found-same

@@ -9,6 +9,4 @@ pub mod Brought
 -- tables that answer alike
 pub mod Alike
 -- a header held against the replaced one's row
-pub mod Kept
--- a function that keeps its header has the replaced one's name and function type
-pub mod Keeping
+pub mod Against

@@ -3,7 +3,7 @@ ghost use mathlib.Core.Path.{_≡_};
 ghost use Prim.Native.Nat.{_+_, _≤_, _<_};
 ghost use lib.ListN.{length, getD};
 ghost use lib.Seq.{sets};
-ghost use Rattle.functions.specs.Columns.{rowAt, tableSize};
+ghost use Rattle.functions.specs.Columns.{rowAt, rowWidth, tableSize};
 ghost use Rattle.utils.specs.Limits.{mostFunctions};
 ghost use Rattle.headers.specs.Spelled.{rowName, nameSpelled};
 ghost use Rattle.headers.specs.Brought.{cellsFrom, rowPut, brought, broughtAs, broughtFrom, Brings};
@@ -18,7 +18,7 @@ use utils::cell_at;
 pub fn copy_row(out: &mut [u32], n: usize, rows: &[u32], i: usize)
     requires { ⌜ (n < mostFunctions) × (i < mostFunctions) × (tableSize ≤ length (now out)) ⌝ }
     ensures { λ r. ⌜ now (out .exit)
-        ≡ sets (now (out .entry)) (rowAt n) (cellsFrom (now (rows .entry)) (rowAt i) 45) ⌝ }
+        ≡ sets (now (out .entry)) (rowAt n) (cellsFrom (now (rows .entry)) (rowAt i) rowWidth) ⌝ }
 {
     let to = columns::TOKEN + n * columns::ROW;
     let from = columns::TOKEN + i * columns::ROW;

@@ -1,4 +1,5 @@
-// Before the new text is parsed: whether it begins and ends as one function (40), and keeps the replaced one's header (41).
+// Before the new text is parsed: whether it begins and ends as one function (40), and keeps the replaced one's header
+// (41).
 ghost use mathlib.Core.Path.{_≡_};
 ghost use Prim.Native.Nat.{_-_};
 ghost use Rattle.utils.specs.Bytes.{sameBytes};
@@ -49,8 +50,8 @@ pub fn is_whole(new: &[u8], tokens: &[u32]) -> bool
     last.place as usize + 1 == new.len()
 }
 
-// Whether the name and what stands behind it, from `at` on, are row i's. In `local` that row is copied to row 0, and the
-// new formals are read into row 1.
+// Whether the name and what stands behind it, from `at` on, are row i's. In `local` that row is copied to row 0, and
+// the new formals are read into row 1.
 fn keeps_behind<'t, 'c>(
     old: &'t [u8],
     new: &'t [u8],
@@ -68,7 +69,7 @@ fn keeps_behind<'t, 'c>(
         name at ⌝ }
 {
     bring::copy_row(local, 0, rows, i);
-    match header::parse_optional_formals(tokens, at, local, columns::FORMALS + columns::ROW) {
+    match header::parse_optional_formals(tokens, at, local, columns::SECOND_FORMALS) {
         Run::Refused(_) => true,
         Run::Done(formals, at1) => match header::parse_optional_type(tokens, at1) {
             TypeRead::Refused(_) => true,
@@ -82,8 +83,8 @@ fn keeps_behind<'t, 'c>(
     }
 }
 
-// Whether the new function has the name and the function type of row i. What is refused before the name would be entered
-// is no matter here.
+// Whether the new function has the name and the function type of row i. What is refused before the name would be
+// entered is no matter here.
 pub fn keeps<'t, 'c>(
     old: &'t [u8],
     new: &'t [u8],

@@ -8,7 +8,8 @@ use native.Mathlib.Omega.{arith}
 use lib.ListN.{length}
 use Rattle.utils.specs.Bytes.{pick, padTo}
 use Rattle.lexer.specs.Numbered.{Outcome, tokensCells, namesCells}
-use Rattle.lexer.specs.Read.{Reading, reading, accepted, answered, resultOf, tokensIn, namesIn, readingOf, readFrom}
+use Rattle.lexer.specs.Read.{Reading, reading, accepted, answered, resultOf, tokensIn, namesIn, readingOf}
+use Rattle.lexer.specs.Read.{readFrom}
 use Rattle.lexer.specs.Read.{Held, sized, readDef, Reads}
 use Rattle.lexer.specs.declared.LexResult.the-variants as X
 use Rattle.lexer.specs.declared.ReadAnswer.{ReadAnswer}

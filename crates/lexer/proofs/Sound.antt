@@ -17,7 +17,8 @@ use Rattle.pieces.specs.Pieces.{token, pieceAt, onPiece, piecesFrom}
 use Rattle.lexer.specs.Numbered.{Part, part, spellings, spellingOf, indexOf, onFound, identified, named, Outcome}
 use Rattle.lexer.specs.Numbered.{thenIdentified, thenRoom, numberedFrom, numbered}
 use Rattle.lexer.specs.Read.{lexedFrom}
-use Rattle.lexer.specs.Sound.{Each, Pairs, noToken, noPart, spelling, Sound, SoundRefusal, HasNumber, HasSpelling, HasLetter}
+use Rattle.lexer.specs.Sound.{Each, Pairs, noToken, noPart, spelling, Sound, SoundRefusal, HasNumber}
+use Rattle.lexer.specs.Sound.{HasSpelling, HasLetter}
 use Rattle.lexer.specs.Sound.{InRange, Rises, InText, Differ}
 use Rattle.pieces.specs.declared.Cursor.{Cursor}
 use Rattle.pieces.specs.declared.Token.{Token}

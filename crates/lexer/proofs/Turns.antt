@@ -50,7 +50,8 @@ room-found count n F.Nothing =
 pub identified-room : (s : List ℕ) (ps : List Part) (n : Name) → Room (length ps) n (identified s ps n)
 unfolding identified
 identified-room s ps n =
-    pick-either (Room (length ps) n) (ltb 64 (n .len)) _ _ (λ e. refl) (λ e. room-found (length ps) n (indexOf (spellingOf s n) (spellings s ps) 0))
+    pick-either (Room (length ps) n) (ltb 64 (n .len)) _ _ (λ e. refl) (λ e. room-found (length ps) n
+    (indexOf (spellingOf s n) (spellings s ps) 0))
 
 -- the loop's state; t₀ and n₀ are the cleared slices
 pub record Lexing (s : List ℕ) (first : ℕ) (t₀ n₀ t n : List ℕ) (count known : ℕ) (at : Cursor) : Type 0 where
@@ -101,13 +102,14 @@ start s first t n i j e f =
     }
 
 -- a token made: the refusal where there is no room for it, and the state where there is
-pub record Made (s : List ℕ) (first : ℕ) (t₀ n₀ t n : List ℕ) (count known : ℕ) (at c : Cursor) (u : Token) : Type 0 where
-  pub later : at .place < c .place
-  pub inside : c .place ≤ length s
-  pub place : u .place ≤ length s
-  pub full : 4096 ≤ count → numbered s first ≡ Outcome.refused (R.TooManyTokens (atToken u))
-  pub more : count < 4096 → (t′ : List ℕ) → t′ ≡ sets t (count * 4) (tokenCells u)
-      → Lexing s first t₀ n₀ t′ n (count + 1) known c
+pub record Made (s : List ℕ) (first : ℕ) (t₀ n₀ t n : List ℕ) (count known : ℕ) (at c : Cursor) (u : Token) : Type 0
+  where
+    pub later : at .place < c .place
+    pub inside : c .place ≤ length s
+    pub place : u .place ≤ length s
+    pub full : 4096 ≤ count → numbered s first ≡ Outcome.refused (R.TooManyTokens (atToken u))
+    pub more : count < 4096 → (t′ : List ℕ) → t′ ≡ sets t (count * 4) (tokenCells u)
+        → Lexing s first t₀ n₀ t′ n (count + 1) known c
 
 -- what a text reads as whose last token has been stored
 pub record Ended (s : List ℕ) (first : ℕ) (t₀ n₀ t n : List ℕ) (count known : ℕ) : Type 0 where
@@ -134,7 +136,8 @@ After s first t₀ n₀ t n count known at (N.End u) = Closed s first t₀ n₀ 
 After s first t₀ n₀ t n count known at (N.Refused r) =
     (numbered s first ≡ Outcome.refused r) × (factsOf r .place ≤ length s)
 
-module _ {s : List ℕ} {first : ℕ} {t₀ n₀ t n : List ℕ} {count known : ℕ} {at : Cursor} (tokens-sized : 16384 ≤ length t₀)
+module _ {s : List ℕ} {first : ℕ} {t₀ n₀ t n : List ℕ} {count known : ℕ} {at : Cursor} (tokens-sized : 16384 ≤ length
+    t₀)
     (names-sized : 2048 ≤ length n₀) (v : Lexing s first t₀ n₀ t n count known at) where
   pub taken : partsOf (take (known * 2) n) ≡ v .parts
   taken = rw (v .parts-held, ← v .parts-counted) (cells-parts-padded (length n₀) (v .parts))
@@ -225,7 +228,8 @@ module _ {s : List ℕ} {first : ℕ} {t₀ n₀ t n : List ℕ} {count known : 
       (sets-pad (length n₀) (known * 2) (namesCells (v .parts)) cells l (omega arith)) in
       made (named m i) c (v .parts ++ (p ∷ [])) (known + 1) n′ (past .on) (past .within) (past .same-line)
       (past .name-place) q (omega arith) (rw d (length-sets n _ cells ∙ v .long-names)) held
-      (within-snoc (length s) (v .parts) p (v .parts-within) (omega (arith, past .name-end, past .within))) (whole ∙ rw e)
+      (within-snoc (length s) (v .parts) p (v .parts-within) (omega (arith, past .name-end, past .within)))
+      (whole ∙ rw e)
   of-name m c (I.Refused x) n′ past e r whole d = (whole ∙ rw e, omega (arith, r, past .name-place, v .within))
 
   of-piece : (p : Lexed) (n′ : List ℕ)

@@ -154,7 +154,8 @@ closed-one cells from b rest (operation w goes) e ih =
     by-goes zero z =
         let r = recordAt cells from in
         let u : from + (run rest + 1) - 1 ≡ from = omega arith in
-        let v : closing (grown b w goes) rest .goes ≡ goes = ap (λ (x : Block). x .goes) (ih (grown b w goes) .none z) in
+        let v : closing (grown b w goes) rest .goes ≡ goes =
+        ap (λ (x : Block). x .goes) (ih (grown b w goes) .none z) in
         let is = operation-is (eqb (r .kind) 1) (firstCell (r .last)) w (r .token) goes (goesOf r) e in
         rw u (v ∙ is .1)
     by-goes (suc n) z =

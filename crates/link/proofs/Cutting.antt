@@ -31,12 +31,13 @@ use Rattle.link.proofs.Closing.{closing, opened, beyond, others, first-
 use Rattle.link.proofs.Closing.{filled-beyond, parts-length, beyond-at, Closed, closed-at}
 
 -- Of all blocks these are left, and the first of them is to be record k.
-pub record Left (all : List Block) (name first base : ℕ) (cells₀ cells : List ℕ) (k : ℕ) (rest : List Block) : Type 0 where
-  pub above : base ≤ k
-  pub long : length cells ≡ length cells₀
-  pub counts : k + length rest ≡ base + length all
-  pub resolves : resolveFrom all name rest ≡ resolveFrom all name all
-  pub stored : putClosed all first cells k rest ≡ putClosed all first cells₀ base all
+pub record Left (all : List Block) (name first base : ℕ) (cells₀ cells : List ℕ) (k : ℕ) (rest : List Block) : Type 0
+  where
+    pub above : base ≤ k
+    pub long : length cells ≡ length cells₀
+    pub counts : k + length rest ≡ base + length all
+    pub resolves : resolveFrom all name rest ≡ resolveFrom all name all
+    pub stored : putClosed all first cells k rest ≡ putClosed all first cells₀ base all
 
 -- the blocks of the items from `from` on, where a block begins
 abbrev pub restOf : List ℕ → ℕ → ℕ → ℕ → List ℕ → List Block
@@ -53,7 +54,8 @@ pub record Cutting (items : List ℕ) (all : List Block) (name first end base : 
 -- The first turn. ---------------------------------------------------------------------------------------------------
 
 begins : (ps : List Shape) (at : ℕ) (ls : List ℕ)
-    → (ms : List ℕ) × (blocksAfter at ls ps ≡ blocksFrom (at + leading ps) (fresh ms (at + leading ps)) (drop (leading ps) ps))
+    → (ms : List ℕ) × (blocksAfter at ls ps ≡ blocksFrom (at + leading ps) (fresh ms (at + leading ps))
+    (drop (leading ps) ps))
 unfolding blocksAfter blocksFrom leading
 begins [] at ls = (ls, rw add-zero)
 begins (name l ∷ ps) at ls =
@@ -82,8 +84,10 @@ filled-leading (name l ∷ ps) =
 filled-leading (operation w goes ∷ ps) = refl
 
 pub cut-start : (items : List ℕ) (first count before base named : ℕ) (cells : List ℕ)
-    → before ≡ leading (partsAt items first count) → before ≤ count → base + filled true (partsAt items first count) ≤ 1024
-    → Cutting items (blocksOf (partsAt items first count)) named first (first + count) base cells cells (first + before) base
+    → before ≡ leading (partsAt items first count) → before ≤ count → base + filled true (partsAt items first count)
+    ≤ 1024
+    → Cutting items (blocksOf (partsAt items first count)) named first (first + count) base cells cells
+    (first + before) base
 cut-start items first count before base named cells e few room =
     let ps = partsAt items first count in
     let b = begins ps 0 [] in
@@ -141,7 +145,8 @@ module _ (items : List ℕ) (all : List Block) (named first end base : ℕ) (cel
     some = omega arith
 
     resolved : resolveFrom all named all
-        ≡ resolveLabels all (recordAt items (stop - 1) .token) (goesOf (recordAt items (stop - 1))) (resolveFrom all named more)
+        ≡ resolveLabels all (recordAt items (stop - 1) .token) (goesOf (recordAt items (stop - 1)))
+        (resolveFrom all named more)
     unfolding resolveFrom pick
     resolved =
         let o : block .operations ≡ run here = omega (arith, shut .has-operations) in
@@ -191,7 +196,8 @@ module _ (items : List ℕ) (all : List Block) (named first end base : ℕ) (cel
         }
 
   refused-by : (e : Refusal) (t : Bool) → eqb stop from ≡ t
-      → pick t (N.Refused (refusal 22 named 0)) (countedBy k (goesD before names (recordAt items (stop - 1)))) ≡ N.Refused e
+      → pick t (N.Refused (refusal 22 named 0)) (countedBy k (goesD before names (recordAt items (stop - 1))))
+      ≡ N.Refused e
       → resolveFrom all named all ≡ refused e
   unfolding pick
   refused-by e true q u =
@@ -226,7 +232,8 @@ module _ (items : List ℕ) (all : List Block) (named first end base : ℕ) (cel
 
   -- a block more is done
   pub turn-done : (m : ℕ) → addedD before names items from stop (refusal 22 named 0) k ≡ N.Done m
-      → (m ≡ k + 1) × (from < stop) × Left all named first base cells₀ (addedCells before names items from stop cells k) (k + 1) more
+      → (m ≡ k + 1) × (from < stop) × Left all named first base cells₀ (addedCells before names items from stop cells
+      k) (k + 1) more
   unfolding addedD addedCells
   turn-done m h = done-by m (eqb stop from) (goesD before names (recordAt items (stop - 1))) refl refl h
 
@@ -241,7 +248,8 @@ module _ (items : List ℕ) (all : List Block) (named first end base : ℕ) (cel
       let none : more ≡ [] =
       others-none here (from - first) (omega (arith, ends, last, cut .high, parts-length items from (end - from))) in
       let l : Left all named first base cells₀ (addedCells before names items from stop cells k) (k + 1) [] =
-      subst (λ (r : List Block). Left all named first base cells₀ (addedCells before names items from stop cells k) (k + 1) r)
+      subst (λ (r : List Block). Left all named first base cells₀ (addedCells before names items from stop cells k)
+      (k + 1) r)
       none (d .2) in
       let n : m - base ≡ length all = omega (arith, d .0, l .counts, l .above) in
       (rw (← l .resolves, n), e ∙ l .stored)

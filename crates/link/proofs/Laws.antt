@@ -12,7 +12,8 @@ use Rattle.parser.specs.Step.{refusal}
 use Rattle.parser.specs.Labels.{has}
 use Rattle.body.specs.Shapes.{Shape, name, operation, namesIn}
 use Rattle.link.specs.Blocks.{Block, fresh, grown, blocksFrom, blocksAfter, blocksOf}
-use Rattle.link.specs.Edges.{Place, at, nowhere, placeOf, thenPlace, Resolved, fine, refused, missing, resolveLabels}
+use Rattle.link.specs.Edges.{Place, at, nowhere, placeOf, thenPlace, Resolved, fine, refused, missing}
+use Rattle.link.specs.Edges.{resolveLabels}
 use Rattle.link.specs.Edges.{resolveFrom, resolveD, places, successors}
 use Rattle.body.specs.Room.{filled}
 use Rattle.link.specs.Table.{leading}
@@ -121,7 +122,8 @@ labels-fine : (all : List Block) (token : ℕ) (ls : List ℕ) (rest : Resolved)
 unfolding resolveLabels places
 labels-fine all token [] rest h = (h, refl)
 labels-fine all token (l ∷ ls) rest h =
-    let s = labels-step (placeOf all l 0) (resolveLabels all token ls rest) (refused (missing token l)) ls (places all ls)
+    let s = labels-step (placeOf all l 0) (resolveLabels all token ls rest) (refused (missing token l)) ls
+    (places all ls)
     (λ e. labels-fine all token ls rest e .1) h (λ e. let z : _≡_ {A = ℕ} 0 1 = cc in omega arith) in
     (labels-fine all token ls rest (s .0) .0, s .1)
 

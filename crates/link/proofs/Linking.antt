@@ -36,10 +36,12 @@ unfolding linkD
 link-refused ps named e h = rw (numbered-refused (blocksOf ps) (resolveD named (blocksOf ps)) e h)
 
 module _ (items : List ℕ) (first count named base used : ℕ) (cells₀ cells : List ℕ) (n : ℕ)
-    (done : N.Done n ≡ numberedBy (blocksOf (partsAt items first count)) (resolveD named (blocksOf (partsAt items first count))))
+    (done : N.Done n ≡ numberedBy (blocksOf (partsAt items first count))
+    (resolveD named (blocksOf (partsAt items first count))))
     (closed : cells
     ≡ putClosed (blocksOf (partsAt items first count)) first cells₀ base (blocksOf (partsAt items first count)))
-    (few : base + filled true (partsAt items first count) ≤ 1024) (room : 8192 ≤ length cells₀) (low : used ≤ base * 2) where
+    (few : base + filled true (partsAt items first count) ≤ 1024) (room : 8192 ≤ length cells₀)
+    (low : used ≤ base * 2) where
   abbrev ps : List Shape
   ps = partsAt items first count
 

@@ -11,7 +11,8 @@ use Rattle.utils.specs.Bytes.{pick}
 use Rattle.parser.specs.Labels.{has}
 use Rattle.body.specs.Shapes.{Shape, name, operation, namesIn}
 use Rattle.link.specs.Blocks.{Block, fresh, grown, blocksFrom, blocksAfter, blocksOf}
-use Rattle.link.specs.Edges.{Place, at, nowhere, placeOf, thenPlace, missing, places, Resolved, refused, resolveLabels}
+use Rattle.link.specs.Edges.{Place, at, nowhere, placeOf, thenPlace, missing, places, Resolved, refused}
+use Rattle.link.specs.Edges.{resolveLabels}
 use Rattle.body.specs.Records.{goesBy, goesOf}
 use Rattle.body.specs.declared.ItemRecord.{ItemRecord}
 use Rattle.body.specs.declared.Last.{Last}

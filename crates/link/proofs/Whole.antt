@@ -26,7 +26,8 @@ sets-before [] l m i h = refl
 sets-before (v ∷ vs) l m i h =
     sets-before vs (set l m v) (suc m) i (omega arith) ∙ getD-set-other l m i v 0 (λ e. omega arith)
 
-sets-at : (vs l : List ℕ) (i n : ℕ) → n < length vs → i + length vs ≤ length l → getD (sets l i vs) (i + n) 0 ≡ getD vs n 0
+sets-at : (vs l : List ℕ) (i n : ℕ) → n < length vs → i + length vs ≤ length l → getD (sets l i vs) (i + n) 0 ≡ getD
+    vs n 0
 sets-at [] l i n h f = absurd (omega arith)
 sets-at (v ∷ vs) l i zero h f =
     rw add-zero (sets-before vs (set l i v) (suc i) i (omega arith) ∙ getD-set-same l i v 0 (omega arith))

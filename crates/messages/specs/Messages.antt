@@ -1,6 +1,6 @@
 -- Document 01, "Numbers the reader answers with", for the refusals of parsing and typing, 5 to 22, 35 to 38 and 40 to
--- 42: the message of each, `[line N] Error ITEM: TEXT` and a newline. 5 to 21 are the Rust's bytes; the others' TEXT is the
--- table's WORD and a full stop.
+-- 42: the message of each, `[line N] Error ITEM: TEXT` and a newline. 5 to 21 are the Rust's bytes; the others' TEXT is
+-- the table's WORD and a full stop.
 use Prim.Native.Nat.{ℕ, _-_, _≤_}
 use mathlib.Core.List.{List, [], _∷_, _++_}
 use lib.Dec.{eqb, ltb}

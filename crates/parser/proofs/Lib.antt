@@ -1,3 +1,7 @@
-pub mod Going
-pub mod Sim
+-- Runs of formals and arguments, and demand 3, in reading order.
+-- one turn of each loop over a run
 pub mod Turning
+-- the loops that store a run: what is left to read gives the whole
+pub mod Going
+-- demand 3: related tokens give related answers
+pub mod Sim

@@ -70,7 +70,37 @@ module _ {A : Type 0} (T : Move → ℕ → A → A → Type 0) (m : Move) (n : 
     thenDefinedS k k′ (Rel.is (SimD.at {v} {v′} q i h)) w g = g v v′ q i h
     thenDefinedS k k′ (Rel.is (SimD.refused e e′ r)) w g = w e e′ r
 
-pub ruleset shapes = (Rel.is, pickS, thenAtS, thenNamedS, thenTypeS, thenDefinedS, SimC.at, SimC.refused, SimN.at, SimN.refused, SimR.at, SimR.refused, SimD.at, SimD.refused, SimV.of, SimE.moved, SimP.done, SimP.call, SimP.callInto, SimP.refused, SimO.binary, SimO.unary, SimO.const, SimO.jump, SimO.branch, SimO.ret, SimO.retValue, SimO.print, SimO.nop)
+pub ruleset shapes = (
+  Rel.is,
+  pickS,
+  thenAtS,
+  thenNamedS,
+  thenTypeS,
+  thenDefinedS,
+  SimC.at,
+  SimC.refused,
+  SimN.at,
+  SimN.refused,
+  SimR.at,
+  SimR.refused,
+  SimD.at,
+  SimD.refused,
+  SimV.of,
+  SimE.moved,
+  SimP.done,
+  SimP.call,
+  SimP.callInto,
+  SimP.refused,
+  SimO.binary,
+  SimO.unary,
+  SimO.const,
+  SimO.jump,
+  SimO.branch,
+  SimO.ret,
+  SimO.retValue,
+  SimO.print,
+  SimO.nop,
+)
 
 -- a run that has ended, and one with a variable more
 pub endedS : {m : Move} {n : ℕ} (c c′ : Consumed) → Rel m n SimC c c′ → Rel m n SimVs (ended c) (ended c′)

@@ -15,7 +15,8 @@ use Rattle.lexer.specs.declared.TokenAt.{TokenAt}
 use Rattle.pieces.specs.declared.Identifier.{Identifier}
 use Rattle.parser.specs.Step.{refusal, opened, thenAt}
 use Rattle.parser.specs.Grammar.{consumeD, localD}
-use Rattle.parser.specs.Runs.{Variables, runOf, ended, stopped, andThen, variable, formalD, formalsFromD, argumentsD}
+use Rattle.parser.specs.Runs.{Variables, runOf, ended, stopped, andThen, variable, formalD, formalsFromD}
+use Rattle.parser.specs.Runs.{argumentsD}
 use Rattle.parser.specs.declared.Refusal.{Refusal}
 use Rattle.parser.specs.declared.Ty.the-variants as Y
 use Rattle.parser.specs.declared.Variable.{Variable}
@@ -42,7 +43,8 @@ module _ (ts : List Tok) where
   arguments-refused (suc room) at q h k g = rw (← q, ne-eqb _ _ h, ← k, g)
 
   pub arguments-full : (room at : ℕ) {t : TokenAt} {c : Named} {x : Identifier} {next : ℕ} → room ≡ 0
-      → t ≡ tokenAt ts at → (t .kind ≡ 30 → ⊥) → c ≡ localD ts at → c ≡ N.At x next → argumentsD ts room at ≡ stopped (refusal 37 at 0)
+      → t ≡ tokenAt ts at → (t .kind ≡ 30 → ⊥) → c ≡ localD ts at → c ≡ N.At x next → argumentsD ts room at ≡ stopped
+      (refusal 37 at 0)
   unfolding argumentsD opened
   arguments-full room at z q h k g = rw (z, ← q, ne-eqb _ _ h, ← k, g)
 
@@ -99,7 +101,8 @@ unfolding thenAt
 ended-done (C.At j) l n i e = (cc, cc)
 ended-done (C.Refused r) l n i e = absurd (let z : _≡_ {A = ℕ} 0 1 = cc in omega arith)
 
-ended-refused : (c : Consumed) (l : ℕ) (r : Refusal) → U.Refused r ≡ thenAt U.Refused c (λ j. U.Done l j) → c ≡ C.Refused r
+ended-refused : (c : Consumed) (l : ℕ) (r : Refusal) → U.Refused r ≡ thenAt U.Refused c (λ j. U.Done l j) → c
+    ≡ C.Refused r
 unfolding thenAt
 ended-refused (C.At j) l r e = absurd (let z : _≡_ {A = ℕ} 0 1 = cc in omega arith)
 ended-refused (C.Refused q) l r e = cc

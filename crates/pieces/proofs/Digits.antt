@@ -1,4 +1,4 @@
--- A digit is one of the bytes 48 to 57,.
+-- A digit is one of the bytes 48 to 57.
 use Prim.Native.Nat.{ℕ, _≤_}
 use mathlib.Core.Path.{_≡_, refl}
 use mathlib.Core.Bool.{Bool, true, false}

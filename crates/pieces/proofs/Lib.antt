@@ -1,6 +1,13 @@
-pub mod Capping
-pub mod Compare
+-- Why each piece is scanned as the definition says, in reading order.
+-- a digit is one of the bytes 48 to 57
 pub mod Digits
-pub mod Progress
+-- a number counted no higher than 2147483649 gives the same answers
+pub mod Capping
+-- bytes compared one after the other
+pub mod Compare
+-- the rows of the code's table are the 25 words
 pub mod Rows
+-- every piece but the end takes a byte or more and stays in the text
+pub mod Progress
+-- a value comes back from its kind and what it carries
 pub mod Values

@@ -13,7 +13,8 @@ use Rattle.utils.specs.Bytes.{pick, sameBytes}
 use Rattle.pieces.specs.Classes.{isBlank, isDigit, isLetter, isNamePart}
 use Rattle.pieces.specs.Tokens.{kindOf, Word, words, wordIn, symbol}
 use Rattle.pieces.specs.Refusals.{factsOf}
-use Rattle.pieces.specs.Pieces.{cursor, token, lineEnd, closes, starAfter, commentEnd, digitsFrom, nameEnd, nameEndAt}
+use Rattle.pieces.specs.Pieces.{cursor, token, lineEnd, closes, starAfter, commentEnd, digitsFrom, nameEnd}
+use Rattle.pieces.specs.Pieces.{nameEndAt}
 use Rattle.pieces.specs.Pieces.{onComment, slashAt, digitAt, minusAt, nameAt, sigilAt, thenValue, wordAt}
 use Rattle.pieces.specs.Pieces.{symbolAt, tokenFrom, pieceAt, Pieces, onPiece, piecesFrom, pieces}
 use Rattle.pieces.specs.declared.Cursor.{Cursor}
@@ -135,7 +136,8 @@ letter-in s n e =
     omega arith)
 
 -- where a letter stands behind a name's first byte, the name takes it
-name-end-past : (s : List ℕ) (at : ℕ) → at + 1 < length s → isNamePart (getD s (at + 1) 0) ≡ true → at + 2 ≤ nameEndAt s at
+name-end-past : (s : List ℕ) (at : ℕ) → at + 1 < length s → isNamePart (getD s (at + 1) 0) ≡ true → at + 2 ≤ nameEndAt
+    s at
 unfolding nameEnd pick
 name-end-past s at h d =
     rw (drop-cons s (at + 1) 0 h, d) (omega (arith, name-end-from (drop (suc (at + 1)) s) (at + 1 + 1)))

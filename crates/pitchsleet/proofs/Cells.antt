@@ -1,4 +1,4 @@
--- Cells as bytes, one after the other
+-- Cells as bytes, one after the other.
 use Prim.Native.Nat.{ℕ, suc, _+_, _-_, _*_, _≤_, _<_}
 use mathlib.Core.Bool.{true}
 use borrow.Author.Tests.{le-ltb}

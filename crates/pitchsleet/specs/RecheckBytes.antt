@@ -1,5 +1,5 @@
--- The promise of `pitchsleet_recheck`: the header table comes as the bytes that `pitchsleet_check` wrote for it, the answer
--- and the cells go out as check's do.
+-- The promise of `pitchsleet_recheck`: the header table comes as the bytes that `pitchsleet_check` wrote for it, the
+-- answer and the cells go out as check's do.
 use Prim.Native.Nat.{ℕ, zero, suc, _+_, _*_, _/_}
 use mathlib.Core.List.{List, [], _∷_}
 use lib.Dec.{ltb}

@@ -140,8 +140,8 @@ pub extern "C" fn pitchsleet_check(text: &[u8], out: &mut [u8], message: &mut [u
     )
 }
 
-// Document 01's recheck for a C or Rust host: `table` are the bytes that `pitchsleet_check` wrote for the old text's header
-// table. The gate stands before anything is written, on both slices.
+// Document 01's recheck for a C or Rust host: `table` are the bytes that `pitchsleet_check` wrote for the old text's
+// header table. The gate stands before anything is written, on both slices.
 #[no_mangle]
 pub extern "C" fn pitchsleet_recheck<'t>(
     old: &'t [u8],

@@ -1,1 +1,2 @@
+-- the thin reader: its step, and going on with it
 pub mod Reader

@@ -1,5 +1,7 @@
 -- one function and nothing behind it
 pub mod Parsed
+-- a function that keeps its header has the replaced one's name and function type
+pub mod Keeping
 -- the new function's row among the old headers
 pub mod Placing
 -- the new function, parsed and typed

@@ -267,6 +267,6 @@ module _ (old table : List ℕ) (number : ℕ) (new m t n : List ℕ) (u : Slice
 
   -- .. and then nothing is written
   pub gate-gives-thirty : allSized m t n u ≡ false
-      → recheckDef old table number new m t n u ≡ checking (check.refusal 30 0 0) m t n u
+      → recheckDef old table number new m t n u ≡ checking (check.checkRefusal 30 0 0) m t n u
   unfolding recheckDef pick
   gate-gives-thirty e = rw e

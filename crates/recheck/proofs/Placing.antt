@@ -41,7 +41,7 @@ use Rattle.headers.proofs.Brought.{put-below, put-cell, step-grows, step-length
 use Rattle.headers.proofs.Brought.{row-named, cell-same, global-same, globals-brought, callees-brought}
 use Rattle.headers.proofs.Brought.{Stands, place-brought}
 use Rattle.headers.proofs.Alike.{Alike, globals-alike, callees-alike, other-row}
-use Rattle.headers.proofs.Keeping.{kept-same}
+use Rattle.recheck.proofs.Keeping.{kept-same}
 
 -- Stores. ------------------------------------------------------------------------------------------------------------
 

@@ -1,6 +1,6 @@
 -- Document 01's cases marked *, of check and of recheck: one table with one claim, shown by computation. A row is what
--- a text gives: a refusal's number, line, place and message; or how many tokens and functions it has, its items (with the
--- `ret`s that are added) and its blocks with their edges.
+-- a text gives: a refusal's number, line, place and message; or how many tokens and functions it has, its items (with
+-- the `ret`s that are added) and its blocks with their edges.
 use Prim.Native.Nat.{ℕ, zero, suc, _*_}
 use Prim.Native.String.{String}
 use mathlib.Core.Path.{_≡_, refl}

@@ -80,8 +80,8 @@ fn parse_alone(
     }
 }
 
-// Gives the new function's row, the first of `functions`, the function type's number of the replaced row; and puts it in
-// that row's place among the old headers.
+// Gives the new function's row, the first of `functions`, the function type's number of the replaced row; and puts it
+// in that row's place among the old headers.
 fn place_alone<'t, 'c>(
     functions: &mut [u32],
     old: &'t [u8],

@@ -58,7 +58,8 @@ module _ (rest : ℕ) (got list : List ℕ) where
 
   -- from an index on, as from the start
   abbrev pub FromOn : ℕ → Type 0
-  FromOn i = sameBytes (drop i got) (drop i (filled rest (length got) list)) ≡ sameBytes got (filled rest (length got) list)
+  FromOn i = sameBytes (drop i got) (drop i (filled rest (length got) list)) ≡ sameBytes got (filled rest (length got)
+      list)
 
   module _ (i : ℕ) (known : FromOn i) (h : i < length got) where
     opened : sameBytes (drop i got) (drop i (filled rest (length got) list))
@@ -86,13 +87,15 @@ module _ (rest : ℕ) (got list : List ℕ) where
     none : drop i got ≡ []
     none = drop-of-length-le got {i = i} (omega arith)
 
-    long-enough : length list ≤ length got → leb (length list) (length got) ≡ sameBytes got (filled rest (length got) list)
+    long-enough : length list ≤ length got → leb (length list) (length got) ≡ sameBytes got (filled rest (length got)
+        list)
     unfolding sameBytes
     long-enough k =
         let l : length (filled rest (length got) list) ≤ i = simp (length-append, length-replicate) (omega arith) in
         le-leb _ _ k ∙ (rw (none, drop-of-length-le (filled rest (length got) list) {i = i} l) at known)
 
-    too-short : length got < length list → leb (length list) (length got) ≡ sameBytes got (filled rest (length got) list)
+    too-short : length got < length list → leb (length list) (length got) ≡ sameBytes got (filled rest (length got)
+        list)
     unfolding sameBytes
     too-short k =
         let l : i < length (filled rest (length got) list) = simp (length-append, length-replicate) (omega arith) in

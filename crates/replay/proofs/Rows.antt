@@ -6,7 +6,8 @@ use mathlib.Core.Bool.{Bool, true, false}
 use native.Mathlib.Omega.{arith}
 use native.Mathlib.Numerals.{add-one}
 use lib.ListN.{length, take, drop, set, getD, length-append}
-use lib.Seq.{sets, sets-eq, slice, slice-cons, slice-empty, length-slice, getD-take, take-at, drop-at, length-take-le, set-out}
+use lib.Seq.{sets, sets-eq, slice, slice-cons, slice-empty, length-slice, getD-take, take-at, drop-at, length-take-le}
+use lib.Seq.{set-out}
 use Rattle.utils.specs.Bytes.{pick}
 use Rattle.utils.proofs.Runs.{sets-append}
 use Rattle.replay.specs.Numbers.{numberAt}
@@ -90,7 +91,12 @@ slice-stored l vs i w e h =
     let h′ : i + length vs ≤ length l = omega arith in
     let front : length (take i l) ≡ i = length-take-le i l (omega arith) in
     let both : length (take i l ++ vs) ≡ i + w = length-append (take i l) vs ∙ omega arith in
-    rw (sets-eq vs l i h′, take-at (take i l ++ vs) (drop (i + length vs) l) (i + w) both, drop-at (take i l) vs i front)
+    rw (
+      sets-eq vs l i h′,
+      take-at (take i l ++ vs) (drop (i + length vs) l) (i + w) both,
+      drop-at (take i l) vs i
+          front,
+    )
 
 -- one more cell of a row stored
 module _ (s b₀ cells : List ℕ) (at start width here n : ℕ) (step : Number) (x : ℕ) (some : 0 < n)

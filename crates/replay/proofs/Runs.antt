@@ -27,7 +27,8 @@ use Rattle.replay.specs.Lists.{
 }
 use Rattle.replay.specs.declared.Number.{Number}
 use Rattle.replay.specs.declared.Loaded.{Loaded}
-use Rattle.replay.proofs.Rows.{values-none, values-length, stepped-length, repeated-more, repeated-length, slice-stored}
+use Rattle.replay.proofs.Rows.{values-none, values-length, stepped-length, repeated-more, repeated-length}
+use Rattle.replay.proofs.Rows.{slice-stored}
 
 repeated-empty : (n : ℕ) → repeated n [] [] ≡ []
 unfolding repeated stepped
@@ -251,7 +252,8 @@ module _ (quoted : Bool) (s : List ℕ) (from : ℕ) (before : List ℕ) where
         → Left quoted s from before cells′ (left - 1) (r .next) (r .count)
     one-less cells′ r h l stored =
         let run = fitting (length before - count) (length s) (runAt quoted s at) in
-        let fits : length (run .cells) ≤ length before - count = fitting-le (length before - count) (length s) (runAt quoted s at) in
+        let fits : length (run .cells) ≤ length before - count = fitting-le (length before - count) (length s)
+        (runAt quoted s at) in
         let new : Stored count run cells r cells′ = rw (known .size) at stored in
         let room : length before - r .count ≡ length before - count - length (run .cells) = omega (arith, new .count) in
         let more = runs-more quoted s (length before - count) left at h in
@@ -260,7 +262,8 @@ module _ (quoted : Bool) (s : List ℕ) (from : ℕ) (before : List ℕ) where
         more ∙ rw (room, new .next) in
         let n : count + length (run .cells ++ rest .cells) ≡ length (listAt quoted s (length before) from .cells) =
         rw split at (known .number) in
-        let c : sets cells count (run .cells ++ rest .cells) ≡ sets before 0 (listAt quoted s (length before) from .cells) =
+        let c : sets cells count (run .cells ++ rest .cells) ≡ sets before 0 (listAt quoted s (length before)
+        from .cells) =
         rw split at (known .stored) in
         record {
           size = l ∙ known .size;

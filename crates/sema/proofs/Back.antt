@@ -57,7 +57,7 @@ item-back (plain o) used args h = operation-back o used args
 item-back (call w g xs) used args h = rw h
 item-back (callInto w v g xs) used args h = rw (h, type-back (v .ty))
 
--- Cells that stand from an index on. --------------------------------------------------------------------------------------
+-- Cells that stand from an index on. ----------------------------------------------------------------------------------
 
 module _ {a : ℕ} {more : List ℕ} where
   pub cell-back : (k : ℕ) (cells : List ℕ) → drop k cells ≡ a ∷ more → (getD cells k 0 ≡ a)

@@ -49,7 +49,8 @@ fn enter_formals(table: &mut [u32], token: u32, rows: &[u32], first: usize, coun
 fn enter_row(table: &mut [u32], rows: &[u32], row: usize) -> Checked
     requires { ⌜ IsRow (now rows) row ⌝ }
     ensures { λ r. ⌜ typed (now (table .exit)) r
-        ≡ enterFormalsD (now (table .entry)) (getD (now (rows .entry)) (rowAt row) 0) (formalsIn (now (rows .entry)) row) ⌝ }
+        ≡ enterFormalsD (now (table .entry)) (getD (now (rows .entry)) (rowAt row) 0)
+        (formalsIn (now (rows .entry)) row) ⌝ }
 {
     let at = row * columns::ROW;
     let token = rows[columns::TOKEN + at];

@@ -1,5 +1,5 @@
--- Typing on the cells in which functions stand is typing the functions, and the cells that it leaves are theirs with the
--- types of operands.
+-- Typing on the cells in which functions stand is typing the functions, and the cells that it leaves are theirs with
+-- the types of operands.
 use Prim.Native.Nat.{ℕ, suc, _+_, _*_}
 use mathlib.Core.Path.{_≡_, refl, sym, ap, fun-ext, _∙_}
 use mathlib.Core.List.{List, [], _∷_, _++_, append-assoc}

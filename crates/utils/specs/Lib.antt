@@ -1,5 +1,7 @@
--- What the message form says, in reading order: bytes and padded buffers, then the form itself.
+-- What the message form says, in reading order.
+-- bytes, choices and padded buffers
 pub mod Bytes
+-- the form itself
 pub mod Message
 -- document 01's limits by name
 pub mod Limits

@@ -1,3 +1,5 @@
+-- The gate is that of `checkDef`: behind it every slice is known to have its size (`sizes-seen`, `works`), and where it
+-- answers 30 nothing has been written (`shorts`).
 use Rattle.checker.proofs.Ends.{sizes-seen, works, shorts}
 use Rattle.functions.specs.Answer.{slices}
 use Rattle.checker.specs.Check.{checkOf}

@@ -1,3 +1,5 @@
+-- With their sizes the slices pass `read`'s gate (`sized-read`) and keep their lengths, so what is padded to them is
+-- padded to those at entry (`as-at-entry`). A text that isn't read leaves no tokens and no names (`not-lexed`).
 use Rattle.checker.proofs.Ends.{sized-read, is-lexed, as-at-entry, not-lexed}
 use Rattle.functions.specs.Answer.{slices}
 use native.Mathlib.Omega.{arith}
@@ -18,7 +20,8 @@ check-lexed-requires c κs =
     let pre = back24 .before .before .before .before .before .pre in (
       is-lexed (now (a .text)) (now (a .tokens)) (now (a .names)) (now (a .message)) (read .result) (read .last .1 .0)
           (read .last .1 .1 .0) (read .last .1 .1 .1 .0) (read .ensures) (sized-read _ _ _ (pre .tokens-long)
-          (pre .names-long) (pre .message-long)) (read .kept .1 .0) (read .kept .1 .1 .0) (read .kept .1 .1 .1 .0) (if1 .taken),
+          (pre .names-long) (pre .message-long)) (read .kept .1 .0) (read .kept .1 .1 .0) (read .kept .1 .1 .1 .0)
+          (if1 .taken),
       record {
         message-long = omega (arith, pre .message-long, read .kept .1 .1 .1 .0);
         tokens-long = omega (arith, pre .tokens-long, read .kept .1 .0);

@@ -1,3 +1,4 @@
+-- No count is above 4,096, so each is the same number as a u32.
 use mathlib.Core.Path.{refl}
 use borrow.Author.Needs.{needs}
 use Rattle.checker.proofs.counted.Statement.{statement}

@@ -1,3 +1,5 @@
+-- The three tests are those of `sized` in its order; past them the answer is `unit` itself, so that true means all
+-- eight slices have their sizes (`seen-by`).
 use Rattle.checker.proofs.Ends.{seen-by}
 use Rattle.utils.specs.Bytes.{pick}
 use Rattle.checker.specs.Promise.{sized}

@@ -1,3 +1,5 @@
+-- The five tests are those of `sizedUnit` in its order, and each test that is passed is itself the bound that
+-- `IfSizedUnit` asks for.
 use Rattle.utils.specs.Bytes.{pick}
 use Rattle.checker.specs.Promise.{sizedUnit}
 use borrow.Author.Tests.{lt-ltb, le-ltb}

@@ -1,3 +1,5 @@
+-- The arguments are typed by the items before those are rewritten, so both clauses speak of the items at entry; what
+-- that makes of cells that hold items is `elaborated`.
 use borrow.Author.Needs.{needs}
 use Rattle.elaborate.proofs.Lists.{elaborated}
 use Rattle.elaborate.proofs.elaborate.Statement.{statement}

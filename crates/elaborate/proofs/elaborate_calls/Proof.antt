@@ -1,3 +1,5 @@
+-- The items are only read, so each record is the one at entry; typing the calls that are left in the arguments as they
+-- are gives what typing all of them gives (`calls-more`).
 use Rattle.elaborate.proofs.Turns.{calls-more, calls-none}
 use Rattle.elaborate.specs.Types.{typedCalls}
 use borrow.Author.Needs.{needs}
@@ -43,7 +45,8 @@ loop-again c =
     let loop = c .before .before .before .before .before .before .loop in
     let back8 = c .before .before .before .before .before .before .before .before in
     let a = back8 .before .before .args in
-    let m = calls-more (now (a .table)) (now (a .items)) (loop .arguments) (loop .at) (loop .left) (loop-test .taken) in (
+    let m = calls-more (now (a .table)) (now (a .items)) (loop .arguments) (loop .at) (loop .left)
+    (loop-test .taken) in (
       omega arith,
       type-call .kept .1 .1 .0 ∙ loop .inv .1,
       rw (type-call .ensures, record-at .ensures) (sym m ∙ loop .inv .2),

@@ -1,3 +1,5 @@
+-- A turn stores the record it read, with its types, at its own place, as `typedItems` does: so the items that are left,
+-- typed in the cells as they are, give the whole (`items-more`).
 use Rattle.elaborate.proofs.Turns.{items-more, items-none}
 use Rattle.elaborate.specs.Types.{calleeOf, typedItems}
 use borrow.Author.Needs.{needs}

@@ -1,3 +1,4 @@
+-- The two tests are those of `isCall`: 5 is a call at once, and any other kind is one exactly where it is 6.
 use Rattle.elaborate.specs.Types.{isCall}
 use Rattle.utils.specs.Bytes.{pick}
 use borrow.Author.Tests.{eq-eqb, ne-eqb}

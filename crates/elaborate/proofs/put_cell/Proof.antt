@@ -1,3 +1,4 @@
+-- `set` changes nothing outside the list (`set-out`), so leaving out the store there is right.
 use lib.Seq.{set-out}
 use mathlib.Core.Path.{sym}
 use denote.Ref.{now}

@@ -1,3 +1,5 @@
+-- Typing the arguments that are left in the cells as they are gives what typing the whole run in the cells at entry
+-- gives (`run-more`); cells past the end read as 0 and take no store, as in `typedRun`.
 use Rattle.elaborate.proofs.Turns.{run-more, run-none}
 use Rattle.elaborate.specs.Types.{typedRun}
 use borrow.Author.Needs.{needs}

@@ -1,3 +1,5 @@
+-- A number equal to the count so far is a new type's, as in `typesAfter`; there are at most 64 types, so one more is
+-- still a u32.
 use Rattle.functions.specs.Known.{typesAfter}
 use Rattle.utils.specs.Bytes.{pick}
 use borrow.Author.Tests.{eq-eqb, ne-eqb}

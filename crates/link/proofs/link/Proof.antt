@@ -36,11 +36,12 @@ link-blocks-requires c κs =
 
 cast-enter-blocks : tie.Need-cast-enter-blocks
 cast-enter-blocks c =
+    let n2 = c .before .before .n in
+    let link-blocks = c .before .before .before .before .before .before .link-blocks in
     let back8 = c .before .before .before .before .before .before .before .before in
     let a = back8 .before .before .before .before .before .args in
     let pre = back8 .before .before .before .before .before .pre in
-    let link-blocks = c .before .before .before .before .before .before .link-blocks in
-    let n′ = c .before .before .n in
+    let n′ = n2 in
     let items = now (a .items) in
     let ps = partsAt items (a .first) (a .count) in
     let cells = link-blocks .last .1 .1 .1 .1 .1 .1 .1 .0 in
@@ -49,17 +50,19 @@ cast-enter-blocks c =
     let closed : ClosedHeld (blocksOf ps) (a .first) (a .base) (now (a .blocks)) cells (N.Done n) =
     subst (λ (x : Numbered). ClosedHeld (blocksOf ps) (a .first) (a .base) (now (a .blocks)) cells x) (n′ .given .1)
     (link-blocks .ensures .1) in
-    let few = fits items (a .first) (a .count) (a .name) (a .base) (a .used) (now (a .blocks)) cells n done closed (pre .few-blocks)
+    let few = fits items (a .first) (a .count) (a .name) (a .base) (a .used) (now (a .blocks)) cells n done closed
+    (pre .few-blocks)
     (pre .blocks-there) (pre .few-before) in
     omega arith
 
 enter-blocks-requires : tie.Need-enter-blocks-requires
 enter-blocks-requires c κs =
+    let n2 = c .before .before .before .n in
+    let link-blocks = c .before .before .before .before .before .before .before .link-blocks in
     let back8 = c .before .before .before .before .before .before .before .before in
     let a = back8 .before .before .before .before .before .before .args in
     let pre = back8 .before .before .before .before .before .before .pre in
-    let link-blocks = c .before .before .before .before .before .before .before .link-blocks in
-    let n′ = c .before .before .before .n in
+    let n′ = n2 in
     let items = now (a .items) in
     let ps = partsAt items (a .first) (a .count) in
     let cells = link-blocks .last .1 .1 .1 .1 .1 .1 .1 .0 in
@@ -68,15 +71,18 @@ enter-blocks-requires c κs =
     let closed : ClosedHeld (blocksOf ps) (a .first) (a .base) (now (a .blocks)) cells (N.Done n) =
     subst (λ (x : Numbered). ClosedHeld (blocksOf ps) (a .first) (a .base) (now (a .blocks)) cells x) (n′ .given .1)
     (link-blocks .ensures .1) in
-    let few = fits items (a .first) (a .count) (a .name) (a .base) (a .used) (now (a .blocks)) cells n done closed (pre .few-blocks)
+    let few = fits items (a .first) (a .count) (a .name) (a .base) (a .used) (now (a .blocks)) cells n done closed
+    (pre .few-blocks)
     (pre .blocks-there) (pre .few-before) in
     let long = link-blocks .kept .1 .1 .1 .1 .1 .1 .1 .0 in (
-      rows-enough items (a .first) (a .count) (a .name) (a .base) (a .used) (now (a .blocks)) cells n done closed (pre .few-blocks)
+      rows-enough items (a .first) (a .count) (a .name) (a .base) (a .used) (now (a .blocks)) cells n done closed
+          (pre .few-blocks)
           (pre .blocks-there) (pre .few-before) (now (a .labels)) (a .labelled) (pre .labels-are) (pre .labels-there)
           (pre .few-labels),
       few,
       omega (arith, long, pre .blocks-there),
-      entries-fit items (a .first) (a .count) (a .name) (a .base) (a .used) (now (a .blocks)) cells n done closed (pre .few-blocks)
+      entries-fit items (a .first) (a .count) (a .name) (a .base) (a .used) (now (a .blocks)) cells n done closed
+          (pre .few-blocks)
           (pre .blocks-there) (pre .few-before),
       pre .predecessors-there,
     )
@@ -92,12 +98,14 @@ returns c =
 
 returns-2 : tie.Need-returns-2
 returns-2 c =
-    let back8 = c .before .before .before .before .before .before .before .before in
-    let a = back8 .before .before .before .before .before .before .before .before .before .before .before .args in
-    let pre = back8 .before .before .before .before .before .before .before .before .before .before .before .pre in
-    let link-blocks = back8 .before .before .before .before .link-blocks in
-    let n′ = c .before .before .before .before .before .before .before .before .n in
     let enter-blocks = c .before .before .before .before .enter-blocks in
+    let n2 = c .before .before .before .before .before .before .before .before .n in
+    let back8 = c .before .before .before .before .before .before .before .before in
+    let link-blocks = back8 .before .before .before .before .link-blocks in
+    let back16 = back8 .before .before .before .before .before .before .before .before in
+    let a = back16 .before .before .before .args in
+    let pre = back16 .before .before .before .pre in
+    let n′ = n2 in
     let items = now (a .items) in
     let ps = partsAt items (a .first) (a .count) in
     let cells = link-blocks .last .1 .1 .1 .1 .1 .1 .1 .0 in
@@ -106,10 +114,13 @@ returns-2 c =
     let closed : ClosedHeld (blocksOf ps) (a .first) (a .base) (now (a .blocks)) cells (N.Done n) =
     subst (λ (x : Numbered). ClosedHeld (blocksOf ps) (a .first) (a .base) (now (a .blocks)) cells x) (n′ .given .1)
     (link-blocks .ensures .1) in (
-      link-done items (a .first) (a .count) (a .name) (a .base) (a .used) (now (a .blocks)) cells n done closed (pre .few-blocks)
+      link-done items (a .first) (a .count) (a .name) (a .base) (a .used) (now (a .blocks)) cells n done closed
+          (pre .few-blocks)
           (pre .blocks-there) (pre .few-before) (enter-blocks .result) (enter-blocks .ensures .0),
-      link-held items (a .first) (a .count) (a .name) (a .base) (a .used) (now (a .blocks)) cells n done closed (pre .few-blocks)
-          (pre .blocks-there) (pre .few-before) (enter-blocks .last .0) (now (a .predecessors)) (enter-blocks .last .1 .1 .1 .0) (enter-blocks .ensures .1 .0)
+      link-held items (a .first) (a .count) (a .name) (a .base) (a .used) (now (a .blocks)) cells n done closed
+          (pre .few-blocks)
+          (pre .blocks-there) (pre .few-before) (enter-blocks .last .0) (now (a .predecessors))
+          (enter-blocks .last .1 .1 .1 .0) (enter-blocks .ensures .1 .0)
           (enter-blocks .ensures .1 .1),
     )
 

@@ -1,3 +1,5 @@
+-- The two gates are those of `exportDef` in its order, before anything is written; behind them the arrays have exactly
+-- the sizes that `check_out` asks for.
 use Rattle.utils.specs.Bytes.{pick}
 use Rattle.pitchsleet.specs.CheckBytes.{exportDef}
 use Rattle.pitchsleet.proofs.Checks.{by-parts}

@@ -1,3 +1,5 @@
+-- Clearing keeps the lengths, so what `build` stores in cleared slices is padded to those at entry (`unit-done`). On a
+-- refusal `build` promises nothing of them, and clearing them again gives the refusal's empty slices (`unit-refused`).
 use native.Mathlib.Omega.{arith}
 use mathlib.Core.Path.{sym, subst, _∙_}
 use denote.Ref.{now}

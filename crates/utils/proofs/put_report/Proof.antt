@@ -13,18 +13,19 @@ use Rattle.utils.proofs.put_report.Tie as tie
 returns : tie.Need-returns
 unfolding reported
 returns c =
+    let p7 = c .before .before .put6 in
+    let p6 = c .before .before .before .before .before .before .before .put5 in
     let back8 = c .before .before .before .before .before .before .before .before in
+    let p5 = back8 .before .before .before .put4 in
+    let p4 = back8 .before .before .before .before .before .before .before .before .put3 in
     let back16 = back8 .before .before .before .before .before .before .before .before in
+    let p3 = back16 .before .before .before .before .put2 in
     let back24 = back16 .before .before .before .before .before .before .before .before in
+    let p2 = back24 .before .put-decimal in
+    let p1 = back24 .before .before .before .before .before .put in
     let back32 = back24 .before .before .before .before .before .before .before .before in
     let a = back32 .before .before .before .args in
-    let p1 = back24 .before .before .before .before .before .put in
-    let p2 = back24 .before .put-decimal in
-    let p3 = back16 .before .before .before .before .put2 in
-    let p4 = back16 .put3 in
-    let p5 = back8 .before .before .before .put4 in
-    let p6 = c .before .before .before .before .before .before .before .put5 in
-    let p7 = c .before .before .put6 in
+    let pre = back32 .before .before .before .pre in
     let l = p7 .last .0 in
     let r = p7 .result in
     let newline : List ℕ = 10 ∷ [] in
@@ -45,7 +46,8 @@ returns c =
     let w2 =
     both (p1 .last .0) (p2 .last .0) l (decimal (a .line)) error (p1 .result) (p2 .result) r (p2 .ensures .0)
     (p2 .ensures .1) (w3 .0) (w3 .1) in
-    let w1 = both (now (a .buf)) (p1 .last .0) l (bytes "[line ") (decimal (a .line) ++ error) 0 (p1 .result) r (p1 .ensures .0) (p1 .ensures .1) (w2 .0) (w2 .1) in (
+    let w1 = both (now (a .buf)) (p1 .last .0) l (bytes "[line ") (decimal (a .line) ++ error) 0 (p1 .result) r
+    (p1 .ensures .0) (p1 .ensures .1) (w2 .0) (w2 .1) in (
       omega (arith, w1 .0),
       omega (
         arith,
@@ -56,7 +58,7 @@ returns c =
         p5 .ensures .0,
         p6 .ensures .0,
         p7 .ensures .0,
-        back32 .before .before .before .pre,
+        pre,
       ),
       w1 .1,
     )

@@ -1,3 +1,5 @@
+-- The rows are searched for what `enteredD` searches in the list of headers, `knownFrom`; a name that has another type
+-- is refused with 15 before the brace is looked at.
 use Rattle.functions.specs.Functions.{enteredD}
 use Rattle.parser.specs.Step.{opened}
 use borrow.Author.Tests.{eq-eqb, ne-eqb}

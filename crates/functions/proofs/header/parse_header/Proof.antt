@@ -1,3 +1,5 @@
+-- The name is read before 35 is given, and the signature only where the table has a row left, as in `headerD`; a
+-- refusal promises nothing of the rows.
 use Rattle.functions.specs.Functions.{headerD}
 use Rattle.parser.specs.Step.{opened}
 use borrow.Author.Tests.{le-leb, lt-leb}
@@ -25,11 +27,14 @@ returns-2 c =
 returns-3 : tie.Need-returns-3
 unfolding headerD opened
 returns-3 c =
-    let consume-named = c .before .before .before .before .before .before .before .before .consume-named in
-    let name = c .before .before .before .before .before .before .name in
-    let if1 = c .before .before .before .before .if1 in
     let parse-signature = c .before .before .parse-signature in
-    rw (← consume-named .ensures, name .given .1, lt-leb 64 _ (if1 .left)) (parse-signature .ensures .0, parse-signature .ensures .1)
+    let if1 = c .before .before .before .before .if1 in
+    let name = c .before .before .before .before .before .before .name in
+    let consume-named = c .before .before .before .before .before .before .before .before .consume-named in
+    rw (← consume-named .ensures, name .given .1, lt-leb 64 _ (if1 .left)) (
+      parse-signature .ensures .0,
+      parse-signature .ensures .1,
+    )
 
 pub parse-header-spec : {M : Type 1} → statement M
 parse-header-spec =

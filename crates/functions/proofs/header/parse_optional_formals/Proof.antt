@@ -1,3 +1,5 @@
+-- An opening parenthesis decides as in `optionalFormals`; without one no formals are read, and storing none leaves the
+-- rows as they were.
 use Rattle.functions.specs.Functions.{optionalFormals}
 use Rattle.parser.specs.Runs.{runOf, variablesCells}
 use Rattle.parser.specs.Step.{opened}

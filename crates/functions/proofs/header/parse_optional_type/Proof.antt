@@ -1,3 +1,4 @@
+-- A colon decides as in `optionalType`; without one nothing is taken and the result is void.
 use Rattle.functions.specs.Functions.{optionalType}
 use Rattle.parser.specs.Step.{opened}
 use borrow.Author.Tests.{eq-eqb, ne-eqb}

@@ -1,3 +1,5 @@
+-- The formals are stored behind the rows so far, which that leaves alone, and are read back as the types that were
+-- parsed: so the rows enter the name as the headers so far do (`entered-same`). There are at most 16 (`formals-few`).
 use Rattle.functions.proofs.Heads.{formals-few, entered-same}
 use Rattle.functions.specs.Functions.{optionalFormals, signatureD, thenFormals, thenEntered}
 use Rattle.parser.proofs.Turning.{run-done, run-refused}
@@ -13,10 +15,11 @@ use Rattle.functions.proofs.header.parse_signature.Tie as tie
 
 enter-requires : tie.Need-enter-requires
 enter-requires c κs =
-    let a = c .before .before .before .before .before .before .before .before .before .before .before .before .before .before .before .args in
-    let pre = c .before .before .before .before .before .before .before .before .before .before .before .before .before .before .before .pre in
     let formals = c .before .before .before .before .before .before .before .formals in
-    let parse-optional-formals = c .before .before .before .before .before .before .before .before .before .before .before .parse-optional-formals in
+    let back8 = c .before .before .before .before .before .before .before .before in
+    let parse-optional-formals = back8 .before .before .before .parse-optional-formals in
+    let a = back8 .before .before .before .before .before .before .before .args in
+    let pre = back8 .before .before .before .before .before .before .before .pre in
     let read = optionalFormals (tokensOf (now (a .tokens))) (a .at) in
     let d = run-done read (sym (formals .given .1) ∙ parse-optional-formals .ensures .0) in
     let few : formals .given .0 .0 ≤ 16 = omega (arith, d .1, formals-few (tokensOf (now (a .tokens))) (a .at)) in
@@ -35,11 +38,12 @@ returns c =
 returns-2 : tie.Need-returns-2
 unfolding signatureD thenFormals opened
 returns-2 c =
-    let a = c .before .before .before .before .before .before .before .before .before .before .before .before .before .args in
-    let parse-optional-formals = c .before .before .before .before .before .before .before .before .before .parse-optional-formals in
-    let formals = c .before .before .before .before .before .formals in
-    let parse-optional-type = c .before .before .before .parse-optional-type in
     let e2 = c .before .e2 in
+    let parse-optional-type = c .before .before .before .parse-optional-type in
+    let formals = c .before .before .before .before .before .formals in
+    let back8 = c .before .before .before .before .before .before .before .before in
+    let parse-optional-formals = back8 .before .parse-optional-formals in
+    let a = back8 .before .before .before .before .before .args in
     let read = optionalFormals (tokensOf (now (a .tokens))) (a .at) in
     let d = run-done read (sym (formals .given .1) ∙ parse-optional-formals .ensures .0) in
     let few : formals .given .0 .0 ≤ 16 = omega (arith, d .1, formals-few (tokensOf (now (a .tokens))) (a .at)) in
@@ -48,37 +52,49 @@ returns-2 c =
 returns-3 : tie.Need-returns-3
 unfolding signatureD thenFormals thenEntered opened
 returns-3 c =
-    let a = c .before .before .before .before .before .before .before .before .before .before .before .before .before .before .before .before .before .before .before .args in
-    let pre = c .before .before .before .before .before .before .before .before .before .before .before .before .before .before .before .before .before .before .before .pre in
-    let parse-optional-formals = c .before .before .before .before .before .before .before .before .before .before .before .before .before .before .before .parse-optional-formals in
-    let formals = c .before .before .before .before .before .before .before .before .before .before .before .formals in
-    let parse-optional-type = c .before .before .before .before .before .before .before .before .before .parse-optional-type in
-    let result = c .before .before .before .before .before .before .before .result in
-    let type-cell = c .before .before .before .before .before .type-cell in
-    let enter = c .before .before .before .enter in
     let e3 = c .before .e3 in
+    let enter = c .before .before .before .enter in
+    let type-cell = c .before .before .before .before .before .type-cell in
+    let result = c .before .before .before .before .before .before .before .result in
+    let back8 = c .before .before .before .before .before .before .before .before in
+    let parse-optional-type = back8 .before .parse-optional-type in
+    let formals = back8 .before .before .before .formals in
+    let parse-optional-formals = back8 .before .before .before .before .before .before .before .parse-optional-formals
+    in
+    let back16 = back8 .before .before .before .before .before .before .before .before in
+    let a = back16 .before .before .before .args in
+    let pre = back16 .before .before .before .pre in
     let read = optionalFormals (tokensOf (now (a .tokens))) (a .at) in
     let d = run-done read (sym (formals .given .1) ∙ parse-optional-formals .ensures .0) in
     let few : formals .given .0 .0 ≤ 16 = omega (arith, d .1, formals-few (tokensOf (now (a .tokens))) (a .at)) in
-    let same = entered-same (tokensOf (now (a .tokens))) (now (a .rows)) (parse-optional-formals .last .1 .1 .0) (a .n) (a .types) (a .token) (a .name) (read .list) (result .given .0 .0) (type-cell .result) (formals .given .0 .0) (result .given .0 .1 .0) (parse-optional-formals .ensures .1) (type-cell .ensures) (d .1) few (pre .0) (pre .1) in
+    let same = entered-same (tokensOf (now (a .tokens))) (now (a .rows)) (parse-optional-formals .last .1 .1 .0)
+    (a .n) (a .types) (a .token) (a .name) (read .list) (result .given .0 .0) (type-cell .result)
+    (formals .given .0 .0) (result .given .0 .1 .0) (parse-optional-formals .ensures .1) (type-cell .ensures)
+    (d .1) few (pre .0) (pre .1) in
     rw (d .0, ← parse-optional-type .ensures, result .given .1, ← same, ← enter .ensures, e3 .given .1) (refl, tt)
 
 returns-4 : tie.Need-returns-4
 unfolding signatureD thenFormals thenEntered opened
 returns-4 c =
-    let a = c .before .before .before .before .before .before .before .before .before .before .before .before .before .before .before .before .before .before .before .args in
-    let pre = c .before .before .before .before .before .before .before .before .before .before .before .before .before .before .before .before .before .before .before .pre in
-    let parse-optional-formals = c .before .before .before .before .before .before .before .before .before .before .before .before .before .before .before .parse-optional-formals in
-    let formals = c .before .before .before .before .before .before .before .before .before .before .before .formals in
-    let parse-optional-type = c .before .before .before .before .before .before .before .before .before .parse-optional-type in
-    let result = c .before .before .before .before .before .before .before .result in
-    let type-cell = c .before .before .before .before .before .type-cell in
-    let enter = c .before .before .before .enter in
     let ty = c .before .ty in
+    let enter = c .before .before .before .enter in
+    let type-cell = c .before .before .before .before .before .type-cell in
+    let result = c .before .before .before .before .before .before .before .result in
+    let back8 = c .before .before .before .before .before .before .before .before in
+    let parse-optional-type = back8 .before .parse-optional-type in
+    let formals = back8 .before .before .before .formals in
+    let parse-optional-formals = back8 .before .before .before .before .before .before .before .parse-optional-formals
+    in
+    let back16 = back8 .before .before .before .before .before .before .before .before in
+    let a = back16 .before .before .before .args in
+    let pre = back16 .before .before .before .pre in
     let read = optionalFormals (tokensOf (now (a .tokens))) (a .at) in
     let d = run-done read (sym (formals .given .1) ∙ parse-optional-formals .ensures .0) in
     let few : formals .given .0 .0 ≤ 16 = omega (arith, d .1, formals-few (tokensOf (now (a .tokens))) (a .at)) in
-    let same = entered-same (tokensOf (now (a .tokens))) (now (a .rows)) (parse-optional-formals .last .1 .1 .0) (a .n) (a .types) (a .token) (a .name) (read .list) (result .given .0 .0) (type-cell .result) (formals .given .0 .0) (result .given .0 .1 .0) (parse-optional-formals .ensures .1) (type-cell .ensures) (d .1) few (pre .0) (pre .1) in
+    let same = entered-same (tokensOf (now (a .tokens))) (now (a .rows)) (parse-optional-formals .last .1 .1 .0)
+    (a .n) (a .types) (a .token) (a .name) (read .list) (result .given .0 .0) (type-cell .result)
+    (formals .given .0 .0) (result .given .0 .1 .0) (parse-optional-formals .ensures .1) (type-cell .ensures)
+    (d .1) few (pre .0) (pre .1) in
     rw (d .0, ← parse-optional-type .ensures, result .given .1, ← same, ← enter .ensures, ty .given .1)
     (rw (d .1, ← type-cell .ensures), (parse-optional-formals .ensures .1, omega (arith, few, d .1), pre .0))
 

@@ -1,3 +1,5 @@
+-- No row before i has the name, so the rows from i on give the type that all of them give (`known-more`); with none
+-- left (`known-none`) the name is new and the given type is kept.
 use native.Mathlib.Nat.{sub-zero}
 use Rattle.functions.proofs.Turns.{known-more, known-none}
 use Rattle.functions.specs.Rows.{knownFrom}
@@ -64,11 +66,13 @@ loop-less c = search needs
 loop-again : tie.Need-loop-again Inv-loop μ-loop
 unfolding expectedType pick
 loop-again c =
-    let a = c .before .before .before .before .before .args in
-    let loop = c .before .before .before .before .loop in
-    let loop-test = c .before .before .before .loop-test in
     let if1 = c .if1 in
-    (omega arith, rw (← loop .inv .1, known-more (now (a .rows)) (loop .i) (a .n) (loop-test .taken), ne-eqb _ _ (if1 .left)))
+    let loop-test = c .before .before .before .loop-test in
+    let loop = c .before .before .before .before .loop in
+    let a = c .before .before .before .before .before .args in (
+      omega arith,
+      rw (← loop .inv .1, known-more (now (a .rows)) (loop .i) (a .n) (loop-test .taken), ne-eqb _ _ (if1 .left)),
+    )
 
 returns-2 : tie.Need-returns-2 Inv-loop μ-loop
 unfolding expectedType

@@ -1,3 +1,5 @@
+-- The first k types are equal, so the rest of both runs compares as the whole does (`types-more`); i and j stand 2k
+-- cells behind their first formals.
 use native.Mathlib.Nat.{sub-zero}
 use Rattle.functions.proofs.Turns.{types-more, types-none}
 use Rattle.functions.specs.Rows.{typesAt}
@@ -57,11 +59,17 @@ shared-slice-read-if1-2 c = search needs
 returns : tie.Need-returns Inv-loop μ-loop
 unfolding sameBytes pick
 returns c =
-    let a = c .before .before .before .before .before .args in
-    let loop = c .before .before .before .before .loop in
-    let loop-test = c .before .before .before .loop-test in
     let if1 = c .if1 in
-    rw (← loop .inv .3, types-more (now (a .rows)) (loop .i) (loop .k) (a .count) (loop-test .taken), types-more (now (a .rows)) (loop .j) (loop .k) (a .count) (loop-test .taken), ne-eqb _ _ (if1 .taken))
+    let loop-test = c .before .before .before .loop-test in
+    let loop = c .before .before .before .before .loop in
+    let a = c .before .before .before .before .before .args in
+    rw (
+      ← loop .inv .3,
+      types-more (now (a .rows)) (loop .i) (loop .k) (a .count) (loop-test .taken),
+      types-more
+          (now (a .rows)) (loop .j) (loop .k) (a .count) (loop-test .taken),
+      ne-eqb _ _ (if1 .taken),
+    )
 
 add-i-2 : tie.Need-add-i-2 Inv-loop μ-loop
 add-i-2 c = search needs
@@ -78,19 +86,34 @@ loop-less c = search needs
 loop-again : tie.Need-loop-again Inv-loop μ-loop
 unfolding sameBytes pick
 loop-again c =
-    let a = c .before .before .before .before .before .args in
-    let loop = c .before .before .before .before .loop in
-    let loop-test = c .before .before .before .loop-test in
     let if1 = c .if1 in
-    (omega arith, omega arith, omega arith, rw (← loop .inv .3, types-more (now (a .rows)) (loop .i) (loop .k) (a .count) (loop-test .taken), types-more (now (a .rows)) (loop .j) (loop .k) (a .count) (loop-test .taken), eq-eqb _ _ (if1 .left)))
+    let loop-test = c .before .before .before .loop-test in
+    let loop = c .before .before .before .before .loop in
+    let a = c .before .before .before .before .before .args in (
+      omega arith,
+      omega arith,
+      omega arith,
+      rw (
+        ← loop .inv .3,
+        types-more (now (a .rows)) (loop .i) (loop .k) (a .count) (loop-test .taken),
+        types-more
+            (now (a .rows)) (loop .j) (loop .k) (a .count) (loop-test .taken),
+        eq-eqb _ _ (if1 .left),
+      ),
+    )
 
 returns-2 : tie.Need-returns-2 Inv-loop μ-loop
 unfolding sameBytes
 returns-2 c =
-    let a = c .before .before .args in
-    let loop = c .before .loop in
     let loop-test = c .loop-test in
-    rw (← loop .inv .3, types-none (now (a .rows)) (loop .i) (loop .k) (a .count) (loop-test .left), types-none (now (a .rows)) (loop .j) (loop .k) (a .count) (loop-test .left))
+    let loop = c .before .loop in
+    let a = c .before .before .args in
+    rw (
+      ← loop .inv .3,
+      types-none (now (a .rows)) (loop .i) (loop .k) (a .count) (loop-test .left),
+      types-none
+          (now (a .rows)) (loop .j) (loop .k) (a .count) (loop-test .left),
+    )
 
 pub same-formals-spec : {M : Type 1} → statement M
 same-formals-spec =

@@ -1,3 +1,5 @@
+-- A function type is its result, its count and its types, and `sameBytes` compares them in this order. A count equal to
+-- one that is at most 16 is not cut by `signedAt`, so both runs are of one length.
 use Rattle.utils.specs.Bytes.{pick, sameBytes}
 use borrow.Author.Tests.{le-leb, eq-eqb, ne-eqb}
 use borrow.Author.Needs.{needs}

@@ -1,3 +1,5 @@
+-- No row before i has this function type, so the rows from i on give the number that all of them give (`known-more`);
+-- with none left (`known-none`) the type is new, and its number is the count so far.
 use native.Mathlib.Nat.{sub-zero}
 use Rattle.functions.proofs.Turns.{known-more, known-none}
 use Rattle.functions.specs.Rows.{knownFrom, typesAt}
@@ -42,12 +44,17 @@ shared-slice-read-result c = search needs
 returns : tie.Need-returns Inv-loop μ-loop
 unfolding typeNumber pick
 returns c =
-    let a = c .before .before .before .before .before .before .args in
-    let loop = c .before .before .before .before .loop in
-    let loop-test = c .before .before .before .loop-test in
-    let same-type = c .before .before .same-type in
     let if1 = c .before .if1 in
-    rw (← loop .inv .1, known-more (now (a .rows)) (loop .i) (a .n) (loop-test .taken), ← same-type .ensures, if1 .taken)
+    let same-type = c .before .before .same-type in
+    let loop-test = c .before .before .before .loop-test in
+    let loop = c .before .before .before .before .loop in
+    let a = c .before .before .before .before .before .before .args in
+    rw (
+      ← loop .inv .1,
+      known-more (now (a .rows)) (loop .i) (a .n) (loop-test .taken),
+      ← same-type .ensures,
+      if1 .taken,
+    )
 
 add-i : tie.Need-add-i Inv-loop μ-loop
 add-i c = search needs
@@ -58,12 +65,19 @@ loop-less c = search needs
 loop-again : tie.Need-loop-again Inv-loop μ-loop
 unfolding typeNumber pick
 loop-again c =
-    let a = c .before .before .before .before .before .args in
-    let loop = c .before .before .before .loop in
-    let loop-test = c .before .before .loop-test in
-    let same-type = c .before .same-type in
     let if1 = c .if1 in
-    (omega arith, rw (← loop .inv .1, known-more (now (a .rows)) (loop .i) (a .n) (loop-test .taken), ← same-type .ensures, if1 .left))
+    let same-type = c .before .same-type in
+    let loop-test = c .before .before .loop-test in
+    let loop = c .before .before .before .loop in
+    let a = c .before .before .before .before .before .args in (
+      omega arith,
+      rw (
+        ← loop .inv .1,
+        known-more (now (a .rows)) (loop .i) (a .n) (loop-test .taken),
+        ← same-type .ensures,
+        if1 .left,
+      ),
+    )
 
 returns-2 : tie.Need-returns-2 Inv-loop μ-loop
 unfolding typeNumber

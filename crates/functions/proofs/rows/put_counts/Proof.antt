@@ -1,3 +1,5 @@
+-- Seven stores at neighbouring cells are one run from the result type's cell on; the counts are small, so nothing is
+-- lost when they become cells.
 use native.Mathlib.Numerals.{towards-suc}
 use lib.ListN.{length-set}
 use native.Mathlib.Omega.{arith}

@@ -1,3 +1,5 @@
+-- Six stores at neighbouring cells are one run from the row's first cell on, and a store keeps the length, so each
+-- stays inside; place, length and line come from slices that are not written.
 use native.Mathlib.Numerals.{towards-suc}
 use lib.ListN.{length-set}
 use native.Mathlib.Omega.{arith}

@@ -1,3 +1,5 @@
+-- The name's six cells end where the result type's cell stands, so the two runs are one run of thirteen cells
+-- (`two-runs`).
 use Rattle.lexer.specs.Decoded.{tokensOf, tokenAt}
 use Rattle.functions.proofs.Stores.{two-runs}
 use Prim.Native.Nat.{ℕ, _+_, _-_, _*_}

@@ -5,7 +5,7 @@ use borrow.Author.Tests.{eq-eqb, ne-eqb}
 use denote.Ref.{now}
 use Rattle.utils.specs.Bytes.{pick}
 use Rattle.headers.specs.Kept.{isWhole}
-use Rattle.headers.proofs.Kept.{last-token}
+use Rattle.headers.proofs.Against.{last-token}
 use Rattle.headers.proofs.kept.is_whole.Statement.{statement}
 use Rattle.headers.proofs.kept.is_whole.Tie as tie
 

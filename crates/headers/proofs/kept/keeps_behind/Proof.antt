@@ -12,7 +12,7 @@ use Rattle.parser.proofs.Turning.{run-done, run-refused}
 use Rattle.functions.specs.Functions.{optionalFormals, thenFormals}
 use Rattle.functions.proofs.Heads.{formals-few}
 use Rattle.headers.specs.Kept.{keepsBehind}
-use Rattle.headers.proofs.Kept.{copied-same}
+use Rattle.headers.proofs.Against.{copied-same}
 use Rattle.headers.proofs.kept.keeps_behind.Statement.{statement}
 use Rattle.headers.proofs.kept.keeps_behind.Tie as tie
 

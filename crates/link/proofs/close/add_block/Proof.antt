@@ -30,18 +30,26 @@ add-t16 c =
 returns-2 : tie.Need-returns-2
 unfolding addedD addedCells pick
 returns-2 c =
-    let if1 = c .before .before .before .before .before .before .before .if1 in
-    let close-block = c .before .before .before .before .before .close-block in
     let e = c .before .e in
-    rw (ne-eqb _ _ (if1 .left), ← close-block .ensures .0, e .given .1) (refl, rw (e .given .1) at (close-block .ensures .1))
+    let close-block = c .before .before .before .before .before .close-block in
+    let if1 = c .before .before .before .before .before .before .before .if1 in
+    rw (ne-eqb _ _ (if1 .left), ← close-block .ensures .0, e .given .1) (
+      refl,
+      rw (e .given .1) at
+          (close-block .ensures .1),
+    )
 
 returns-3 : tie.Need-returns-3
 unfolding addedD addedCells pick
 returns-3 c =
-    let if1 = c .before .before .before .before .before .before .if1 in
-    let close-block = c .before .before .before .before .close-block in
     let enum-told = c .enum-told in
-    rw (ne-eqb _ _ (if1 .left), ← close-block .ensures .0, enum-told .given .1) (refl, rw (enum-told .given .1) at (close-block .ensures .1))
+    let close-block = c .before .before .before .before .close-block in
+    let if1 = c .before .before .before .before .before .before .if1 in
+    rw (ne-eqb _ _ (if1 .left), ← close-block .ensures .0, enum-told .given .1) (
+      refl,
+      rw (enum-told .given .1) at
+          (close-block .ensures .1),
+    )
 
 pub add-block-spec : {M : Type 1} → statement M
 add-block-spec =

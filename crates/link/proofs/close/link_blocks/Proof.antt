@@ -50,10 +50,10 @@ block-end-requires c κs =
 
 add-block-requires : tie.Need-add-block-requires Inv-loop μ-loop
 add-block-requires c κs =
+    let block-end = c .before .block-end in
+    let loop = c .before .before .loop in
     let a = c .before .before .before .before .before .before .before .args in
     let pre = c .before .before .before .before .before .before .before .pre in
-    let loop = c .before .before .loop in
-    let block-end = c .before .block-end in
     let items = now (a .items) in
     let ps = partsAt items (a .first) (a .count) in
     let all = blocksOf ps in
@@ -68,7 +68,8 @@ add-block-requires c κs =
       pre .few-labels,
       pre .labels-there,
       omega (arith, loop .inv .left .long, pre .blocks-there),
-      cut-room items all (a .name) (a .first) end (a .base) (now (a .blocks)) (loop .blocks) (loop .from) (loop .k) (loop .inv)
+      cut-room items all (a .name) (a .first) end (a .base) (now (a .blocks)) (loop .blocks) (loop .from) (loop .k)
+          (loop .inv)
           stop ends (a .before) names same,
     )
 
@@ -83,13 +84,13 @@ same-length c =
 
 returns : tie.Need-returns Inv-loop μ-loop
 returns c =
+    let add-block = c .before .before .before .before .before .add-block in
+    let block-end = c .before .before .before .before .before .before .before .block-end in
+    let loop = c .before .before .before .before .before .before .before .before .loop in
     let back8 = c .before .before .before .before .before .before .before .before in
+    let refuse = back8 .before .refuse in
     let a = back8 .before .before .before .before .before .args in
     let pre = back8 .before .before .before .before .before .pre in
-    let refuse = back8 .before .refuse in
-    let loop = c .before .before .before .before .before .before .before .before .loop in
-    let block-end = c .before .before .before .before .before .before .before .block-end in
-    let add-block = c .before .before .before .before .before .add-block in
     let e′ = c .before .e in
     let items = now (a .items) in
     let ps = partsAt items (a .first) (a .count) in
@@ -102,7 +103,8 @@ returns c =
     let e = e′ .given .0 .0 in
     let is = added-is (a .before) names items (loop .from) stop (loop .k) (refuse .result) (refusal 22 (a .name) 0)
     (add-block .result) (N.Refused e) (refuse .ensures) (add-block .ensures .0) (e′ .given .1) in
-    let r = turn-refused items all (a .name) (a .first) end (a .base) (now (a .blocks)) (loop .blocks) (loop .from) (loop .k) (loop .inv)
+    let r = turn-refused items all (a .name) (a .first) end (a .base) (now (a .blocks)) (loop .blocks) (loop .from)
+    (loop .k) (loop .inv)
     stop ends (a .before) names same e is in
     rw r (refl, tt)
 
@@ -111,14 +113,15 @@ enum-known-next c = search needs
 
 sub-t21 : tie.Need-sub-t21 Inv-loop μ-loop
 sub-t21 c =
+    let next2 = c .before .before .next in
+    let add-block = c .before .before .before .before .before .before .add-block in
+    let block-end = c .before .before .before .before .before .before .before .before .block-end in
     let back8 = c .before .before .before .before .before .before .before .before in
+    let loop = back8 .before .loop in
+    let refuse = back8 .before .before .refuse in
     let a = back8 .before .before .before .before .before .before .args in
     let pre = back8 .before .before .before .before .before .before .pre in
-    let refuse = back8 .before .before .refuse in
-    let loop = back8 .before .loop in
-    let block-end = c .before .before .before .before .before .before .before .before .block-end in
-    let add-block = c .before .before .before .before .before .before .add-block in
-    let next′ = c .before .before .next in
+    let next′ = next2 in
     let items = now (a .items) in
     let ps = partsAt items (a .first) (a .count) in
     let all = blocksOf ps in
@@ -130,7 +133,8 @@ sub-t21 c =
     let next = next′ .given .0 .0 in
     let is = added-is (a .before) names items (loop .from) stop (loop .k) (refuse .result) (refusal 22 (a .name) 0)
     (add-block .result) (N.Done next) (refuse .ensures) (add-block .ensures .0) (next′ .given .1) in
-    let d = turn-done items all (a .name) (a .first) end (a .base) (now (a .blocks)) (loop .blocks) (loop .from) (loop .k) (loop .inv)
+    let d = turn-done items all (a .name) (a .first) end (a .base) (now (a .blocks)) (loop .blocks) (loop .from)
+    (loop .k) (loop .inv)
     stop ends (a .before) names same next is in
     omega (arith, d .0, d .2 .above)
 
@@ -143,15 +147,16 @@ same-length-2 c =
 
 returns-2 : tie.Need-returns-2 Inv-loop μ-loop
 returns-2 c =
+    let if1 = c .if1 in
+    let next2 = c .before .before .next in
+    let add-block = c .before .before .before .before .before .before .add-block in
+    let block-end = c .before .before .before .before .before .before .before .before .block-end in
     let back8 = c .before .before .before .before .before .before .before .before in
+    let loop = back8 .before .loop in
+    let refuse = back8 .before .before .refuse in
     let a = back8 .before .before .before .before .before .before .args in
     let pre = back8 .before .before .before .before .before .before .pre in
-    let refuse = back8 .before .before .refuse in
-    let loop = back8 .before .loop in
-    let block-end = c .before .before .before .before .before .before .before .before .block-end in
-    let add-block = c .before .before .before .before .before .before .add-block in
-    let next′ = c .before .before .next in
-    let if1 = c .if1 in
+    let next′ = next2 in
     let items = now (a .items) in
     let ps = partsAt items (a .first) (a .count) in
     let all = blocksOf ps in
@@ -163,8 +168,10 @@ returns-2 c =
     let next = next′ .given .0 .0 in
     let is = added-is (a .before) names items (loop .from) stop (loop .k) (refuse .result) (refusal 22 (a .name) 0)
     (add-block .result) (N.Done next) (refuse .ensures) (add-block .ensures .0) (next′ .given .1) in
-    cut-end items all (a .name) (a .first) end (a .base) (now (a .blocks)) (loop .blocks) (loop .from) (loop .k) (loop .inv)
-    stop ends (a .before) names same next (add-block .last .1 .1 .1 .1 .1 .1 .1 .0) is (add-block .ensures .1) (if1 .taken)
+    cut-end items all (a .name) (a .first) end (a .base) (now (a .blocks)) (loop .blocks) (loop .from) (loop .k)
+    (loop .inv)
+    stop ends (a .before) names same next (add-block .last .1 .1 .1 .1 .1 .1 .1 .0) is (add-block .ensures .1)
+    (if1 .taken)
 
 add-from-2 : tie.Need-add-from-2 Inv-loop μ-loop
 add-from-2 c =
@@ -193,15 +200,16 @@ loop-less c =
 
 loop-again : tie.Need-loop-again Inv-loop μ-loop
 loop-again c =
+    let if1 = c .if1 in
+    let next2 = c .before .before .next in
+    let add-block = c .before .before .before .before .before .before .add-block in
+    let block-end = c .before .before .before .before .before .before .before .before .block-end in
     let back8 = c .before .before .before .before .before .before .before .before in
+    let loop = back8 .before .loop in
+    let refuse = back8 .before .before .refuse in
     let a = back8 .before .before .before .before .before .before .args in
     let pre = back8 .before .before .before .before .before .before .pre in
-    let refuse = back8 .before .before .refuse in
-    let loop = back8 .before .loop in
-    let block-end = c .before .before .before .before .before .before .before .before .block-end in
-    let add-block = c .before .before .before .before .before .before .add-block in
-    let next′ = c .before .before .next in
-    let if1 = c .if1 in
+    let next′ = next2 in
     let items = now (a .items) in
     let ps = partsAt items (a .first) (a .count) in
     let all = blocksOf ps in
@@ -213,7 +221,8 @@ loop-again c =
     let next = next′ .given .0 .0 in
     let is = added-is (a .before) names items (loop .from) stop (loop .k) (refuse .result) (refusal 22 (a .name) 0)
     (add-block .result) (N.Done next) (refuse .ensures) (add-block .ensures .0) (next′ .given .1) in
-    cut-on items all (a .name) (a .first) end (a .base) (now (a .blocks)) (loop .blocks) (loop .from) (loop .k) (loop .inv)
+    cut-on items all (a .name) (a .first) end (a .base) (now (a .blocks)) (loop .blocks) (loop .from) (loop .k)
+    (loop .inv)
     stop ends (a .before) names same next (add-block .last .1 .1 .1 .1 .1 .1 .1 .0) is (add-block .ensures .1)
     (omega (arith, block-end .ensures .1, if1 .left))
 

@@ -30,16 +30,19 @@ record-at-requires c κs = search needs
 
 returns : tie.Need-returns Inv-loop μ-loop
 returns c =
-    let args = c .before .before .before .before .before .before .args in
-    let loop = c .before .before .before .before .loop in
-    let loop-test = c .before .before .before .loop-test in
-    let record-at = c .before .before .record-at in
     let if1 = c .if1 in
+    let record-at = c .before .before .record-at in
+    let loop-test = c .before .before .before .loop-test in
+    let loop = c .before .before .before .before .loop in
+    let args = c .before .before .before .before .before .before .args in
     let s = now (args .items) in
     let first = args .first in
     let count = args .count in
-    let i = loop .i in
-    (leading-ends s first count i (loop-test .taken) (record-at .result) (record-at .ensures) (if1 .taken) _ (loop .inv .1), omega arith)
+    let i = loop .i in (
+      leading-ends s first count i (loop-test .taken) (record-at .result) (record-at .ensures) (if1 .taken) _
+          (loop .inv .1),
+      omega arith,
+    )
 
 add-i : tie.Need-add-i Inv-loop μ-loop
 add-i c = search needs
@@ -49,16 +52,19 @@ loop-less c = omega arith
 
 loop-again : tie.Need-loop-again Inv-loop μ-loop
 loop-again c =
-    let args = c .before .before .before .before .before .before .args in
-    let loop = c .before .before .before .before .loop in
-    let loop-test = c .before .before .before .loop-test in
-    let record-at = c .before .before .record-at in
     let if1 = c .if1 in
+    let record-at = c .before .before .record-at in
+    let loop-test = c .before .before .before .loop-test in
+    let loop = c .before .before .before .before .loop in
+    let args = c .before .before .before .before .before .before .args in
     let s = now (args .items) in
     let first = args .first in
     let count = args .count in
-    let i = loop .i in
-    (omega arith, leading-on s first count i (loop-test .taken) (record-at .result) (record-at .ensures) (if1 .left) _ (loop .inv .1))
+    let i = loop .i in (
+      omega arith,
+      leading-on s first count i (loop-test .taken) (record-at .result) (record-at .ensures) (if1 .left) _
+          (loop .inv .1),
+    )
 
 returns-2 : tie.Need-returns-2 Inv-loop μ-loop
 unfolding leading

@@ -21,11 +21,14 @@ returns c =
 returns-2 : tie.Need-returns-2
 unfolding atToken pick
 returns-2 c =
-    let a = c .before .before .before .before .before .before .before .before .before .before .before .args in
-    let p1 = c .before .before .before .before .before .before .put2 in
     let p2 = c .before .before .put-quoted-shown in
-    rw (ne-eqb _ _ (c .before .before .before .before .before .before .before .before .before .if1 .left)) (then
-    (now (a .buf)) (p1 .last .0) (p2 .last .0) (bytes "at ") (quoted (shown (a .kind) (a .name) (a .integer))) (a .at) (p1
+    let p1 = c .before .before .before .before .before .before .put2 in
+    let back8 = c .before .before .before .before .before .before .before .before in
+    let if1 = back8 .before .if1 in
+    let a = back8 .before .before .before .args in
+    rw (ne-eqb _ _ (if1 .left)) (then
+    (now (a .buf)) (p1 .last .0) (p2 .last .0) (bytes "at ") (quoted (shown (a .kind) (a .name) (a .integer))) (a .at)
+    (p1
     .result) (p2 .result) 3 23 (one (now (a .buf)) (a .at) (bytes "at ") (p1 .last .0) (p1 .result) (p1 .ensures))
     (p2 .ensures))
 

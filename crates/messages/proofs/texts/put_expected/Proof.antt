@@ -9,10 +9,12 @@ use Rattle.messages.proofs.texts.put_expected.Tie as tie
 
 returns : tie.Need-returns
 returns c =
-    let a = c .before .before .before .before .before .before .before .before .before .before .args in
-    let p1 = c .before .before .before .before .before .before .before .put-quoted-shown in
     let p2 = c .before .before .put in
-    then (now (a .buf)) (p1 .last .0) (p2 .last .0) (quoted (shown (a .kind) (record { 0 = 0 }) 0)) (bytes " expected.") (a .at) (p1
+    let p1 = c .before .before .before .before .before .before .before .put-quoted-shown in
+    let back8 = c .before .before .before .before .before .before .before .before in
+    let a = back8 .before .before .args in
+    then (now (a .buf)) (p1 .last .0) (p2 .last .0) (quoted (shown (a .kind) (record { 0 = 0 }) 0))
+    (bytes " expected.") (a .at) (p1
     .result) (p2 .result) 23 10 (p1 .ensures) (one (p1 .last .0) (p1 .result) (bytes " expected.") (p2 .last .0) (p2
     .result) (p2 .ensures))
 

@@ -10,12 +10,14 @@ use Rattle.messages.proofs.words.put_quoted_shown.Tie as tie
 
 returns : tie.Need-returns
 returns c =
+    let p3 = c .before .before .put2 in
+    let p2 = c .before .before .before .before .before .before .before .put-shown in
+    let back8 = c .before .before .before .before .before .before .before .before in
+    let p1 = back8 .before .before .before .put in
     let a = c .before .before .before .before .before .before .before .before .before .before .before .before
     .before .before .before .args in
-    let p1 = c .before .before .before .before .before .before .before .before .before .before .before .put in
-    let p2 = c .before .before .before .before .before .before .before .put-shown in
-    let p3 = c .before .before .put2 in
-    let w2 = then (p1 .last .0) (p2 .last .0) (p3 .last .0) (shown (a .kind) (a .name) (a .integer)) (bytes "'") (p1 .result)
+    let w2 = then (p1 .last .0) (p2 .last .0) (p3 .last .0) (shown (a .kind) (a .name) (a .integer)) (bytes "'")
+    (p1 .result)
     (p2 .result) (p3 .result) 21 1 (p2 .ensures) (one (p2 .last .0) (p2 .result) (bytes "'") (p3 .last .0) (p3
     .result) (p3 .ensures)) in
     let s2 = shown (a .kind) (a .name) (a .integer) ++ (bytes "'") in

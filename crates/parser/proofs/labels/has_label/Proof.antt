@@ -14,7 +14,8 @@ use Rattle.parser.proofs.labels.has_label.Statement.{statement}
 use Rattle.parser.proofs.labels.has_label.Tie as tie
 
 abbrev Inv-loop : tie.InvT-loop
-Inv-loop labels count name i₀ i = (i ≤ count) × (has (drop i (take count labels)) (name .0) ≡ has (take count labels) (name .0))
+Inv-loop labels count name i₀ i = (i ≤ count) × (has (drop i (take count labels)) (name .0) ≡ has (take count labels)
+    (name .0))
 
 abbrev μ-loop : tie.MeasureT-loop
 μ-loop labels count name i₀ i = count - i

@@ -15,7 +15,8 @@ use Rattle.pieces.proofs.tokens.same_bytes.Tie as tie
 abbrev Inv-loop : tie.InvT-loop
 Inv-loop a i b j n k₀ k =
     (k ≤ n)
-    × (sameBytes (slice (i + k) (i + n) a) (slice (j + k) (j + n) b) ≡ sameBytes (slice i (i + n) a) (slice j (j + n) b))
+    × (sameBytes (slice (i + k) (i + n) a) (slice (j + k) (j + n) b) ≡ sameBytes (slice i (i + n) a)
+    (slice j (j + n) b))
 
 abbrev μ-loop : tie.MeasureT-loop
 μ-loop a i b j n k₀ k = n - k

@@ -1,3 +1,5 @@
+-- Arrays of exactly these sizes pass check's gate, so they hold its answer padded to those sizes, and their bytes are
+-- `bytesOf` it (`out-of`).
 use Rattle.checker.specs.Check.{checkOf}
 use Rattle.checker.specs.Promise.{checkDef}
 use Rattle.pitchsleet.proofs.Checks.{out-of}

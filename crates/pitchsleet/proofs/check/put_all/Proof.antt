@@ -1,3 +1,5 @@
+-- Each slice's bytes end where the next one's begin, so seven runs are one of 252,228 bytes, and zeros fill what is
+-- behind it (`all-stored`).
 use lib.Seq.{sets}
 use lib.ListN.{replicate}
 use Rattle.pitchsleet.proofs.Checks.{all-stored}

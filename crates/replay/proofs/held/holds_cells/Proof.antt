@@ -15,18 +15,21 @@ use Rattle.replay.proofs.held.holds_cells.Tie as tie
 slice-aggregate-same-cells : tie.Need-slice-aggregate-same-cells
 slice-aggregate-same-cells c =
     let load = c .before .before .before .before .load in
-    sym (length-take-le (load .result .count) (load .last .1 .1 .1 .0) (omega (arith, load .ensures .1, load .kept .1 .1 .1 .0)))
+    sym (length-take-le (load .result .count) (load .last .1 .1 .1 .0)
+    (omega (arith, load .ensures .1, load .kept .1 .1 .1 .0)))
 
 returns : tie.Need-returns
 unfolding holding
 returns c =
-    let a = c .before .before .before .before .before .before .before .before .before .before .args in
-    let load = c .before .before .before .before .before .load in
-    let rest-of = c .before .before .rest-of in
     let same-cells = c .same-cells in
+    let rest-of = c .before .before .rest-of in
+    let load = c .before .before .before .before .before .load in
+    let back8 = c .before .before .before .before .before .before .before .before in
+    let a = back8 .before .before .args in
     let before = now (a .cells) in
     let list = listAt false (now (a .«data»)) (length before) (a .from) in
-    let first = stored-first list before (load .last .1 .1 .1 .0) (load .result) (load .ensures .0) (load .ensures .1) in
+    let first = stored-first list before (load .last .1 .1 .1 .0) (load .result) (load .ensures .0)
+    (load .ensures .1) in
     (rw (same-cells .ensures, rest-of .ensures, first, load .ensures .0 .next), load .ensures .0 .cells)
 
 pub holds-cells-spec : {M : Type 1} → statement M

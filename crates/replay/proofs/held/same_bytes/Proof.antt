@@ -31,14 +31,15 @@ is-at-requires c κs = search needs
 
 returns : tie.Need-returns Inv-loop μ-loop
 returns c =
-    let a = c .before .before .before .before .before .before .before .before .args in
-    let loop = c .before .before .before .before .before .loop in
-    let loop-test = c .before .before .before .before .loop-test in
-    let wide = c .before .before .wide in
-    let is-at = c .before .is-at in
     let if1 = c .if1 in
+    let is-at = c .before .is-at in
+    let wide = c .before .before .wide in
+    let loop-test = c .before .before .before .before .loop-test in
+    let loop = c .before .before .before .before .before .loop in
+    let a = c .before .before .before .before .before .before .before .before .args in
     differs (a .rest) (now (a .got)) (now (a .list)) (loop .i) (loop .inv .1) (loop-test .taken)
-    (ap (λ (x : ℕ). eqb x (getD (now (a .list)) (loop .i) (a .rest))) (sym (wide .ensures)) ∙ (sym (is-at .ensures) ∙ not-true (is-at .result) (if1 .taken)))
+    (ap (λ (x : ℕ). eqb x (getD (now (a .list)) (loop .i) (a .rest))) (sym (wide .ensures)) ∙ (sym (is-at .ensures)
+    ∙ not-true (is-at .result) (if1 .taken)))
 
 add-i : tie.Need-add-i Inv-loop μ-loop
 add-i c = search needs
@@ -48,15 +49,16 @@ loop-less c = search needs
 
 loop-again : tie.Need-loop-again Inv-loop μ-loop
 loop-again c =
-    let a = c .before .before .before .before .before .before .before .before .args in
-    let loop = c .before .before .before .before .before .loop in
-    let loop-test = c .before .before .before .before .loop-test in
-    let wide = c .before .before .wide in
+    let if1 = c .if1 in
     let is-at = c .before .is-at in
-    let if1 = c .if1 in (
+    let wide = c .before .before .wide in
+    let loop-test = c .before .before .before .before .loop-test in
+    let loop = c .before .before .before .before .before .loop in
+    let a = c .before .before .before .before .before .before .before .before .args in (
       omega arith,
       agrees (a .rest) (now (a .got)) (now (a .list)) (loop .i) (loop .inv .1) (loop-test .taken)
-          (ap (λ (x : ℕ). eqb x (getD (now (a .list)) (loop .i) (a .rest))) (sym (wide .ensures)) ∙ (sym (is-at .ensures) ∙ not-false (is-at .result) (if1 .left))),
+          (ap (λ (x : ℕ). eqb x (getD (now (a .list)) (loop .i) (a .rest))) (sym (wide .ensures))
+          ∙ (sym (is-at .ensures) ∙ not-false (is-at .result) (if1 .left))),
     )
 
 returns-2 : tie.Need-returns-2 Inv-loop μ-loop

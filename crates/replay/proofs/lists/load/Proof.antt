@@ -7,7 +7,8 @@ use Rattle.replay.proofs.lists.load.Statement.{statement}
 use Rattle.replay.proofs.lists.load.Tie as tie
 
 abbrev Inv-loop : tie.InvT-loop
-Inv-loop «data» from quoted cells₀ left₀ at₀ count₀ cells left at count = Left quoted «data» from cells₀ cells left at count
+Inv-loop «data» from quoted cells₀ left₀ at₀ count₀ cells left at count = Left quoted «data» from cells₀ cells left at
+    count
 
 abbrev μ-loop : tie.MeasureT-loop
 μ-loop «data» from quoted cells₀ left₀ at₀ count₀ cells left at count = left
@@ -23,10 +24,11 @@ same-length c = search needs
 
 returns : tie.Need-returns Inv-loop μ-loop
 returns c =
-    let a = c .before .before .before .before .before .before .args in
-    let loop = c .before .before .loop in
     let if1 = c .if1 in
-    at-end (a .quoted) (now (a .«data»)) (a .from) (now (a .cells)) (loop .cells) (loop .left) (loop .at) (loop .count) (loop .inv) _ refl refl (if1 .taken)
+    let loop = c .before .before .loop in
+    let a = c .before .before .before .before .before .before .args in
+    at-end (a .quoted) (now (a .«data»)) (a .from) (now (a .cells)) (loop .cells) (loop .left) (loop .at)
+    (loop .count) (loop .inv) _ refl refl (if1 .taken)
 
 load-run-requires : tie.Need-load-run-requires Inv-loop μ-loop
 load-run-requires c κs = search needs
@@ -39,11 +41,13 @@ loop-less c = search needs
 
 loop-again : tie.Need-loop-again Inv-loop μ-loop
 loop-again c =
-    let a = c .before .before .before .before .before .before .before .before .before .before .args in
-    let loop = c .before .before .before .before .before .before .loop in
-    let loop-test = c .before .before .before .before .before .loop-test in
     let load-run = c .before .before .load-run in
-    one-less (a .quoted) (now (a .«data»)) (a .from) (now (a .cells)) (loop .cells) (loop .left) (loop .at) (loop .count) (loop .inv)
+    let loop-test = c .before .before .before .before .before .loop-test in
+    let loop = c .before .before .before .before .before .before .loop in
+    let back8 = c .before .before .before .before .before .before .before .before in
+    let a = back8 .before .before .args in
+    one-less (a .quoted) (now (a .«data»)) (a .from) (now (a .cells)) (loop .cells) (loop .left) (loop .at)
+    (loop .count) (loop .inv)
     (load-run .last .1 .1 .1 .0) (load-run .result) (loop-test .taken) (load-run .kept .1 .1 .1 .0) (load-run .ensures)
 
 same-length-2 : tie.Need-same-length-2 Inv-loop μ-loop
@@ -51,10 +55,11 @@ same-length-2 c = search needs
 
 returns-2 : tie.Need-returns-2 Inv-loop μ-loop
 returns-2 c =
-    let a = c .before .before .before .before .before .args in
-    let loop = c .before .loop in
     let loop-test = c .loop-test in
-    none-left (a .quoted) (now (a .«data»)) (a .from) (now (a .cells)) (loop .cells) (loop .left) (loop .at) (loop .count) (loop .inv) _ refl refl (loop-test .left)
+    let loop = c .before .loop in
+    let a = c .before .before .before .before .before .args in
+    none-left (a .quoted) (now (a .«data»)) (a .from) (now (a .cells)) (loop .cells) (loop .left) (loop .at)
+    (loop .count) (loop .inv) _ refl refl (loop-test .left)
 
 pub load-spec : {M : Type 1} → statement M
 load-spec =

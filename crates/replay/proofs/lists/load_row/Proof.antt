@@ -1,5 +1,5 @@
--- The cells that are left of the row, by the steps that are left, give what all of them give. The cells up to the row's end
--- are as they were.
+-- The cells that are left of the row, by the steps that are left, give what all of them give. The cells up to the row's
+-- end are as they were.
 use borrow.Author.Needs.{needs}
 use native.Mathlib.Omega.{arith}
 use Prim.Native.Nat.{_+_, _≤_}
@@ -16,10 +16,12 @@ use Rattle.replay.proofs.lists.load_row.Tie as tie
 
 abbrev Inv-loop : tie.InvT-loop
 Inv-loop «data» from cells₀ start width at₀ here₀ left₀ cells at here left =
-    (length cells ≡ length cells₀) × (here + left ≡ start + width) × (take (start + width) cells ≡ take (start + width) cells₀)
+    (length cells ≡ length cells₀) × (here + left ≡ start + width) × (take (start + width) cells ≡ take
+    (start + width) cells₀)
     × (valuesAt false «data» left at .next ≡ valuesAt false «data» width from .next)
     × (sets cells (here + width) (stepped (slice here (start + width) cells₀) (valuesAt false «data» left at .cells))
-    ≡ sets cells₀ (start + width) (stepped (slice start (start + width) cells₀) (valuesAt false «data» width from .cells)))
+    ≡ sets cells₀ (start + width) (stepped (slice start (start + width) cells₀) (valuesAt false «data» width
+    from .cells)))
     × (start ≤ here)
 
 abbrev μ-loop : tie.MeasureT-loop
@@ -61,19 +63,21 @@ loop-less c = search needs
 loop-again : tie.Need-loop-again Inv-loop μ-loop
 unfolding valueAt pick
 loop-again c =
-    let a = c .before .before .before .before .before .before .before .args in
-    let loop = c .before .before .before .before .loop in
-    let loop-test = c .before .before .before .loop-test in
-    let number-at = c .before .before .number-at in
     let wrapping-add-u32 = c .wrapping-add-u32 in
+    let number-at = c .before .before .number-at in
+    let loop-test = c .before .before .before .loop-test in
+    let loop = c .before .before .before .before .loop in
+    let a = c .before .before .before .before .before .before .before .args in
     let s = now (a .«data») in (
       simp length-set (loop .inv .0),
       omega arith,
       take-set-le (a .start + a .width) (loop .cells) (loop .here + a .width) (wrapping-add-u32 .result) (omega arith)
           ∙ loop .inv .2,
-      sym (ap (λ (v : Values). v .next) (values-more false s (loop .left) (loop .at) (number-at .result) (loop-test .taken) (number-at .ensures)))
+      sym (ap (λ (v : Values). v .next) (values-more false s (loop .left) (loop .at) (number-at .result)
+          (loop-test .taken) (number-at .ensures)))
           ∙ loop .inv .3,
-      cell-stored s (now (a .cells)) (loop .cells) (loop .at) (a .start) (a .width) (loop .here) (loop .left) (number-at .result)
+      cell-stored s (now (a .cells)) (loop .cells) (loop .at) (a .start) (a .width) (loop .here) (loop .left)
+          (number-at .result)
           (wrapping-add-u32 .result) (loop-test .taken) (loop .inv .1) (omega arith) (loop .inv .2) (number-at .ensures)
           (wrapping-add-u32 .ensures)
           ∙ loop .inv .4,
@@ -85,12 +89,13 @@ same-length c = search needs
 
 returns : tie.Need-returns Inv-loop μ-loop
 returns c =
-    let a = c .before .before .before .before .args in
-    let loop = c .before .loop in
     let loop-test = c .loop-test in
+    let loop = c .before .loop in
+    let a = c .before .before .before .before .args in
     let none = values-none false (now (a .«data»)) (loop .left) (loop .at) (loop-test .left) in (
       rw none at (loop .inv .3),
-      sym (row-done (now (a .cells)) (loop .cells) (valuesAt false (now (a .«data»)) (loop .left) (loop .at) .cells) (loop .here)
+      sym (row-done (now (a .cells)) (loop .cells) (valuesAt false (now (a .«data»)) (loop .left) (loop .at) .cells)
+          (loop .here)
           (a .start + a .width) (a .width) (omega arith))
           ∙ loop .inv .4,
     )

@@ -49,16 +49,17 @@ loop-less c = search needs
 loop-again : tie.Need-loop-again Inv-loop μ-loop
 unfolding pick
 loop-again c =
-    let a = c .before .before .before .before .before .before .before .before .args in
-    let loop = c .before .before .before .before .before .loop in
-    let loop-test = c .before .before .before .before .loop-test in
     let load-row = c .before .before .load-row in
+    let loop-test = c .before .before .before .before .loop-test in
+    let loop = c .before .before .before .before .before .loop in
+    let a = c .before .before .before .before .before .before .before .before .args in
     let steps = valuesAt false (now (a .«data»)) (a .width) (a .from) in
     let less = once-less (loop .left) (a .width) (loop-test .taken) in (
       load-row .kept .1 .1 .0 ∙ loop .inv .0,
       omega arith,
       rw (load-row .ensures .0, pick-same) (rw (lt-ltb 0 (loop .left) (loop-test .taken)) at (loop .inv .2)),
-      row-stored (loop .cells) (load-row .last .1 .1 .0) (steps .cells) (loop .row) (a .width) (loop .left) (loop-test .taken)
+      row-stored (loop .cells) (load-row .last .1 .1 .0) (steps .cells) (loop .row) (a .width) (loop .left)
+          (loop-test .taken)
           (values-length false (now (a .«data»)) (a .width) (a .from)) (omega arith) (load-row .ensures .1)
           ∙ loop .inv .3,
     )

@@ -15,7 +15,8 @@ abbrev Inv-loop : tie.InvT-loop
 Inv-loop «data» from quoted cells₀ start width at₀ count₀ left₀ cells at count left =
     (length cells ≡ length cells₀) × (count + left ≡ start + width)
     × (valuesAt quoted «data» left at .next ≡ valuesAt quoted «data» width from .next)
-    × (sets cells count (valuesAt quoted «data» left at .cells) ≡ sets cells₀ start (valuesAt quoted «data» width from .cells))
+    × (sets cells count (valuesAt quoted «data» left at .cells) ≡ sets cells₀ start (valuesAt quoted «data» width
+    from .cells))
 
 abbrev μ-loop : tie.MeasureT-loop
 μ-loop «data» from quoted cells₀ start width at₀ count₀ left₀ cells at count left = left
@@ -43,16 +44,18 @@ loop-less c = search needs
 
 loop-again : tie.Need-loop-again Inv-loop μ-loop
 loop-again c =
-    let a = c .before .before .before .before .before .args in
-    let loop = c .before .before .loop in
-    let loop-test = c .before .loop-test in
     let value-at = c .value-at in
+    let loop-test = c .before .loop-test in
+    let loop = c .before .before .loop in
+    let a = c .before .before .before .before .before .args in
     let s = now (a .«data») in (
       simp length-set (loop .inv .0),
       omega arith,
-      sym (ap (λ (v : Values). v .next) (values-more (a .quoted) s (loop .left) (loop .at) (value-at .result) (loop-test .taken) (value-at .ensures)))
+      sym (ap (λ (v : Values). v .next) (values-more (a .quoted) s (loop .left) (loop .at) (value-at .result)
+          (loop-test .taken) (value-at .ensures)))
           ∙ loop .inv .2,
-      value-stored (a .quoted) s (loop .cells) (loop .count) (loop .left) (loop .at) (value-at .result) (loop-test .taken) (value-at .ensures)
+      value-stored (a .quoted) s (loop .cells) (loop .count) (loop .left) (loop .at) (value-at .result)
+          (loop-test .taken) (value-at .ensures)
           ∙ loop .inv .3,
     )
 

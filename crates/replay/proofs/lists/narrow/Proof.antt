@@ -13,7 +13,8 @@ use Rattle.replay.proofs.lists.narrow.Statement.{statement}
 use Rattle.replay.proofs.lists.narrow.Tie as tie
 
 abbrev Inv-loop : tie.InvT-loop
-Inv-loop cells bytes₀ i₀ bytes i = (length bytes ≡ length bytes₀) × (sets bytes i (lowBytes (drop i cells)) ≡ sets bytes₀ 0 (lowBytes cells))
+Inv-loop cells bytes₀ i₀ bytes i = (length bytes ≡ length bytes₀) × (sets bytes i (lowBytes (drop i cells)) ≡ sets
+    bytes₀ 0 (lowBytes cells))
 
 abbrev μ-loop : tie.MeasureT-loop
 μ-loop cells bytes₀ i₀ bytes i = length bytes₀ - i
@@ -53,9 +54,11 @@ loop-less c = search needs
 loop-again : tie.Need-loop-again Inv-loop μ-loop
 unfolding lowBytes
 loop-again c =
-    let a = c .before .before .before .before .args in
     let loop = c .before .before .before .loop in
-    (simp length-set (loop .inv .0), rw (← loop .inv .1, drop-cons (now (a .cells)) (loop .i) 0 (omega arith), add-one (loop .i)))
+    let a = c .before .before .before .before .args in (
+      simp length-set (loop .inv .0),
+      rw (← loop .inv .1, drop-cons (now (a .cells)) (loop .i) 0 (omega arith), add-one (loop .i)),
+    )
 
 same-length-2 : tie.Need-same-length-2 Inv-loop μ-loop
 same-length-2 c = search needs
@@ -63,9 +66,10 @@ same-length-2 c = search needs
 returns-2 : tie.Need-returns-2 Inv-loop μ-loop
 unfolding lowBytes
 returns-2 c =
-    let a = c .before .before .args in
     let loop = c .before .loop in
-    rw (← loop .inv .1) (sym (sets-out (loop .bytes) (lowBytes (drop (loop .i) (now (a .cells)))) (loop .i) (omega arith)))
+    let a = c .before .before .args in
+    rw (← loop .inv .1) (sym (sets-out (loop .bytes) (lowBytes (drop (loop .i) (now (a .cells)))) (loop .i)
+    (omega arith)))
 
 pub narrow-spec : {M : Type 1} → statement M
 narrow-spec =

@@ -1,3 +1,5 @@
+-- The items that are left, typed from the table as it is, give what all of them give from the table at entry
+-- (`items-fine`). Only a block all of whose items are fine is asked for its terminator (`items-ended`).
 use Rattle.lexer.specs.Decoded.{tokensOf}
 use Rattle.sema.specs.Globals.{globalsIn}
 use Rattle.sema.specs.Blocks.{itemsAt, typeItemsD}

@@ -1,3 +1,4 @@
+-- The record read is the one from which `itemAt` makes the item, so typing the record is typing the item.
 use borrow.Author.Needs.{needs}
 use Rattle.sema.proofs.blocks.analyze_op.Statement.{statement}
 use Rattle.sema.proofs.blocks.analyze_op.Tie as tie

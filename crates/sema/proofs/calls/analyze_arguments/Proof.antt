@@ -1,3 +1,5 @@
+-- The two counts compared are the lengths of the lists that `typeArgumentsD` compares (`length-types`,
+-- `length-variables`); only where they agree is anything looked up, and all look-ups come before any comparison.
 use Rattle.sema.proofs.Turns.{length-types, length-variables}
 use Rattle.sema.proofs.Steps.{typed-refused, typed-fine}
 use Rattle.sema.specs.Typing.{typeArgumentsD}

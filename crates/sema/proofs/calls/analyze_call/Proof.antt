@@ -1,3 +1,5 @@
+-- Callee, result type and arguments are judged in the order of `typeCallD`. The row that was found is one of the n
+-- (`found-below`), so it lies in the header table.
 use Rattle.sema.proofs.Turns.{found-below}
 use Rattle.sema.specs.Typing.{typeCallD, thenGlobal}
 use Rattle.utils.specs.Bytes.{pick}

@@ -1,3 +1,5 @@
+-- Callee, void, type, then entry and arguments are judged in the order of `typeCallIntoD`. The row that was found is
+-- one of the n (`found-below`), so its cells are there to be read.
 use Rattle.sema.proofs.Turns.{found-below}
 use Rattle.sema.proofs.Steps.{same-refused, same-fine}
 use Rattle.sema.specs.Typing.{typeCallIntoD, thenGlobal}

@@ -1,3 +1,4 @@
+-- An argument takes two cells, its name the first; `cell_at` gives 0 past the end as `getD` does.
 use mathlib.Core.Path.{ap}
 use borrow.Author.Needs.{needs}
 use Rattle.body.specs.Records.{named}

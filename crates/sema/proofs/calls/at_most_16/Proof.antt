@@ -1,3 +1,4 @@
+-- The one test is that of `atMost16`, and what each branch returns is at most 16.
 use Rattle.utils.specs.Bytes.{pick}
 use borrow.Author.Tests.{le-leb, lt-leb}
 use native.Mathlib.Omega.{arith}

@@ -1,3 +1,5 @@
+-- The pairs passed by were of equal types, so those that are left compare as all of them do (`same-fine`). A turn takes
+-- one argument and the two cells of its formal, so both runs stay in step.
 use Rattle.sema.proofs.Steps.{same-refused, same-fine}
 use Rattle.functions.specs.Rows.{typesAt}
 use Rattle.sema.proofs.Turns.{variables-more, variables-none, types-more}

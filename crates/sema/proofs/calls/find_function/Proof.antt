@@ -1,3 +1,5 @@
+-- No row before i has the name, so searching from row i on finds what searching all rows finds (`row-later`), and the
+-- first row that has it is the answer (`row-here`).
 use Rattle.sema.proofs.Turns.{row-here, row-later, row-none}
 use Rattle.sema.specs.Globals.{rowFrom}
 use native.Mathlib.Nat.{sub-zero}

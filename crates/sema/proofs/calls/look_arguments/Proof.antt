@@ -1,3 +1,5 @@
+-- Every argument passed by has a type, and `presentD` goes on behind such a one: so those that are left answer as all
+-- of them do (`variables-more`).
 use Rattle.sema.proofs.Turns.{variables-more, variables-none}
 use Rattle.sema.specs.Items.{variablesAt}
 use Rattle.sema.specs.Typing.{presentD}

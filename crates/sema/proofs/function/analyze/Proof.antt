@@ -1,3 +1,5 @@
+-- The table is cleared first, so whatever it held the formals enter the blank one of `typeRowD`; blocks are typed only
+-- where they all entered (`typed-refused`, `typed-fine`).
 use Rattle.sema.specs.Blocks.{typeFunctionD}
 use Rattle.sema.proofs.Steps.{typed-refused, typed-fine}
 use mathlib.Core.Path.{_∙_}

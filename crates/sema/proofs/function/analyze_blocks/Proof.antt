@@ -1,3 +1,5 @@
+-- A new worklist still has the whole order (`all-remaining`), so typing what it has is typing the function's blocks
+-- `inOrder`.
 use lib.Seq.{length-sets}
 use Rattle.lexer.specs.Decoded.{tokensOf}
 use Rattle.graph.proofs.Callers.{blocks-most}

@@ -1,3 +1,5 @@
+-- Typing what the worklist still has, from the table as it is, gives what typing all of it gave from the table at
+-- entry: a pop takes the first block and leaves the rest (`blocks-fine`), which is fewer (`fewer`).
 use Rattle.lexer.specs.Decoded.{tokensOf}
 use Rattle.graph.specs.Worklist.{remaining}
 use Rattle.sema.specs.Globals.{globalsIn}

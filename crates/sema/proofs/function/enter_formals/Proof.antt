@@ -1,3 +1,5 @@
+-- Entering the formals that are left into the table as it is gives what entering all of them into the table at entry
+-- gives (`formals-fine`), and the first that is refused is refused there too (`formals-refused`).
 use Rattle.sema.specs.Blocks.{formalsFrom, enterFormalsD}
 use Rattle.sema.proofs.Threads.{formals-refused, formals-fine, formals-ended}
 use borrow.Author.Needs.{needs}

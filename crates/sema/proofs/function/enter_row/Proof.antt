@@ -1,3 +1,5 @@
+-- The formals' place and number are those of `formalsIn`. The number is cut at 16 as there, so the formals lie in their
+-- row, whatever its cell holds.
 use borrow.Author.Needs.{needs}
 use Rattle.sema.proofs.function.enter_row.Statement.{statement}
 use Rattle.sema.proofs.function.enter_row.Tie as tie

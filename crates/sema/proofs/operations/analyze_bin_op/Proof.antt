@@ -1,3 +1,5 @@
+-- Both operands are looked up in the table at entry, left before right, and the result is entered before their types
+-- are compared: the order of `typeBinaryD`, in which the first refusal is the answer.
 use Rattle.sema.proofs.Steps.{typed-refused, typed-fine}
 use Rattle.sema.specs.Typing.{typeBinaryD}
 use Rattle.sema.specs.Symbols.{thenLook}

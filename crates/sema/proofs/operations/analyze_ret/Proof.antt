@@ -1,3 +1,4 @@
+-- Only the function's result type decides, as in `typeRetD`. No table is read, so the answer is right in every table.
 use Rattle.sema.specs.Typing.{typeRetD}
 use Rattle.utils.specs.Bytes.{pick}
 use borrow.Author.Tests.{eq-eqb, ne-eqb}

@@ -1,3 +1,4 @@
+-- x is looked up even in a void function, so 16 comes before 18, and 18 before the comparison, as in `typeRetValueD`.
 use Rattle.sema.specs.Typing.{typeRetValueD}
 use Rattle.sema.specs.Symbols.{thenLook}
 use Rattle.utils.specs.Bytes.{pick}

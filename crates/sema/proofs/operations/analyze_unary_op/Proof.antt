@@ -1,3 +1,5 @@
+-- The operand's type is taken before the result is entered and compared after, so an operand that is first named as
+-- this result is refused with 16, as in `typeUnaryD`.
 use Rattle.sema.proofs.Steps.{typed-refused, typed-fine}
 use Rattle.sema.specs.Typing.{typeUnaryD}
 use Rattle.sema.specs.Symbols.{thenLook}

@@ -1,3 +1,4 @@
+-- 4 is the kind of an integer's token, and every other constant is a boolean.
 use Rattle.utils.specs.Bytes.{pick}
 use borrow.Author.Tests.{eq-eqb, ne-eqb}
 use Rattle.sema.proofs.operations.constant_type.Statement.{statement}

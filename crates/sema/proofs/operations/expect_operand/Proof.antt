@@ -1,3 +1,5 @@
+-- `id` makes one comparison and `not` two, as in `operandD`; the second is made only where the first was fine
+-- (`same-refused`, `same-fine`).
 use Rattle.sema.proofs.Steps.{same-refused, same-fine}
 use Rattle.sema.specs.Typing.{operandD}
 use Rattle.utils.specs.Bytes.{pick}

@@ -1,3 +1,5 @@
+-- Operators stand in the order of their kinds, so the bounds 9, 12 and 16, which are `mod`, `eq` and `ge`, part them
+-- into the four cases of `operandsD`; `eq` compares right against left before the result.
 use Rattle.sema.proofs.Steps.{same-refused, same-fine}
 use Rattle.sema.specs.Typing.{operandsD}
 use Rattle.utils.specs.Bytes.{pick}

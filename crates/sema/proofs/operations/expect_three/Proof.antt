@@ -1,3 +1,5 @@
+-- The first comparison that refuses is the answer, and one that is fine hands on to the next (`same-refused`,
+-- `same-fine`): so `thenThree` nests them.
 use Rattle.sema.proofs.Steps.{same-refused, same-fine}
 use Rattle.sema.specs.Typing.{thenThree}
 use mathlib.Core.Path.{_∙_}

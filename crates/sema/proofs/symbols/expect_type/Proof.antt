@@ -1,3 +1,4 @@
+-- The one test is `thenSame`'s. No table is read or written, so the answer is that of `thenSame` in every table.
 use Rattle.sema.specs.Symbols.{thenSame}
 use Rattle.utils.specs.Bytes.{pick}
 use borrow.Author.Tests.{eq-eqb, ne-eqb}

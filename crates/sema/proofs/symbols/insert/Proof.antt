@@ -1,3 +1,5 @@
+-- The tests are those of `enterD` in its order. A name past the table's end reads as absent, and entering it changes
+-- nothing (`set-out`), so there it is right to leave the table alone.
 use lib.Seq.{set-out}
 use lib.ListN.{List·getD-eq-default}
 use Rattle.sema.specs.Symbols.{enterD}

@@ -1,3 +1,5 @@
+-- Each slice is cleared by itself, and clearing one leaves the others alone: the five zeroed slices together are
+-- `cleared`.
 use borrow.Author.Needs.{needs}
 use Rattle.unit.proofs.clear.clear_five.Statement.{statement}
 use Rattle.unit.proofs.clear.clear_five.Tie as tie

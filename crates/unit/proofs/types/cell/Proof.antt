@@ -1,3 +1,4 @@
+-- A cell is a u32, so it is the same number as a usize.
 use native.Mathlib.Omega.{arith}
 use borrow.Author.Needs.{needs}
 use Rattle.unit.proofs.types.cell.Statement.{statement}
