@@ -3,7 +3,7 @@ ghost use mathlib.Core.Path.{_≡_};
 ghost use Prim.Native.Nat.{_+_, _≤_, _<_};
 ghost use lib.ListN.{length, getD};
 ghost use lib.Seq.{sets};
-ghost use Rattle.functions.specs.Columns.{rowAt, IsRow, tableSize};
+ghost use Rattle.functions.specs.Columns.{rowAt, rowWidth, tableSize};
 ghost use Rattle.utils.specs.Limits.{mostFunctions};
 ghost use Rattle.headers.specs.Spelled.{rowName, nameSpelled};
 ghost use Rattle.headers.specs.Brought.{cellsFrom, rowPut, brought, broughtAs, broughtFrom, Brings};
@@ -16,9 +16,9 @@ use utils::cell_at;
 
 // Row n as row i of the old table.
 pub fn copy_row(out: &mut [u32], n: usize, rows: &[u32], i: usize)
-    requires { ⌜ (n < mostFunctions) × IsRow (now out) i ⌝ }
+    requires { ⌜ (n < mostFunctions) × (i < mostFunctions) × (tableSize ≤ length (now out)) ⌝ }
     ensures { λ r. ⌜ now (out .exit)
-        ≡ sets (now (out .entry)) (rowAt n) (cellsFrom (now (rows .entry)) (rowAt i) 45) ⌝ }
+        ≡ sets (now (out .entry)) (rowAt n) (cellsFrom (now (rows .entry)) (rowAt i) rowWidth) ⌝ }
 {
     let to = columns::TOKEN + n * columns::ROW;
     let from = columns::TOKEN + i * columns::ROW;
@@ -32,7 +32,7 @@ pub fn copy_row(out: &mut [u32], n: usize, rows: &[u32], i: usize)
 
 // Row n as row i of the old table, but with the name x.
 fn put_row(out: &mut [u32], n: usize, rows: &[u32], i: usize, x: Identifier)
-    requires { ⌜ (n < mostFunctions) × IsRow (now out) i ⌝ }
+    requires { ⌜ (n < mostFunctions) × (i < mostFunctions) × (tableSize ≤ length (now out)) ⌝ }
     ensures { λ r. ⌜ now (out .exit) ≡ rowPut (now (out .entry)) n (now (rows .entry)) i (x .0) ⌝ }
 {
     copy_row(out, n, rows, i);
@@ -51,7 +51,7 @@ fn bring_row<'t, 'c>(
     names: &'c [u32],
     known: u32,
 ) -> usize
-    requires { ⌜ (n < mostFunctions) × IsRow (now out) i ⌝ }
+    requires { ⌜ (n < mostFunctions) × (i < mostFunctions) × (tableSize ≤ length (now out)) ⌝ }
     ensures { λ r. ⌜ brought (now (out .exit)) r
         ≡ broughtAs (brought (now (out .entry)) n) (now (rows .entry)) i
         (nameSpelled (now (new .entry)) (now (names .entry)) 0 known

@@ -141,7 +141,7 @@ fn analyze_blocks(
     arguments: &[u32],
     blocks: &[u32],
 ) -> Checked
-    requires { ⌜ (n ≤ mostFunctions) × IsRow (now rows) row ⌝ }
+    requires { ⌜ (n ≤ mostFunctions) × (row < mostFunctions) × (tableSize ≤ length (now rows)) ⌝ }
     ensures { λ r. ⌜ typed (now (table .exit)) r
         ≡ typeBlocksD (tokensOf (now (tokens .entry))) (globalsIn (now (rows .entry)) n)
         (getD (now (rows .entry)) (retAt row) 0) (now (table .entry))
@@ -179,7 +179,7 @@ pub fn analyze(
     arguments: &[u32],
     blocks: &[u32],
 ) -> Checked
-    requires { ⌜ (n ≤ mostFunctions) × IsRow (now rows) row ⌝ }
+    requires { ⌜ (n ≤ mostFunctions) × (row < mostFunctions) × (tableSize ≤ length (now rows)) ⌝ }
     ensures { λ r. ⌜ typed (now (table .exit)) r
         ≡ typeRowD (tokensOf (now (tokens .entry))) (now (rows .entry)) n (now (items .entry)) (now (arguments .entry))
         (now (blocks .entry)) row (now (table .entry)) ⌝ }
