@@ -4,7 +4,7 @@ import re
 
 # `use A.B.{x, y as z}`, also over several lines, `use A.B as z`, and in code `ghost use A.B.{x};`, `use a::b;`
 LISTED = re.compile(r"^(?:ghost )?use (\S+?)\.\{([^}]*)\};?[ \t]*$", re.M)
-ALIAS = re.compile(r"^(?:ghost )?use (\S+) as (\S+?);?[ \t]*$", re.M)
+ALIAS = re.compile(r"^(?:ghost )?use ([^\s{]+) as (\S+?);?[ \t]*$", re.M)
 ITEM = re.compile(r"^use (\S+)::(\w+);[ \t]*$", re.M)
 # `-- src/lib.rt:148:9`, as the prover prints it above each need
 POSITION = re.compile(r"^\s*(--|//).*\b[\w/]+\.(rt|antt|rs):\d+")

@@ -5,7 +5,6 @@ use mathlib.Core.List.{List, []}
 use mathlib.Core.Bool.{Bool, true, false}
 use native.Mathlib.Omega.{arith}
 use borrow.Author.Tests.{eq-eqb, ne-eqb, le-ltb}
-use lib.Dec.{eqb}
 use lib.ListN.{length, take}
 use Rattle.utils.specs.Bytes.{pick, padTo}
 use Rattle.lexer.specs.Read.{Reading, readFrom, readOf, readDef, Reads}
@@ -16,12 +15,11 @@ use Rattle.lexer.specs.declared.TokenAt.{TokenAt}
 use Rattle.messages.specs.Messages.{messageOf}
 use Rattle.lexer.specs.declared.ReadAnswer.{ReadAnswer}
 use Rattle.parser.specs.declared.Refusal.{Refusal}
-use Rattle.functions.specs.Answer.{Slices, slices, countsFrom}
+use Rattle.functions.specs.Answer.{Slices, countsFrom}
 use Rattle.functions.specs.declared.Counts.{Counts}
-use Rattle.functions.specs.declared.ProgramRead.{ProgramRead}
 use Rattle.functions.specs.declared.ProgramRead.the-variants as U
 use Rattle.unit.specs.Outcome.{UnitOutcome, checked, refused, unitD, unitRead, unitSlices, asLong, cleared, none}
-use Rattle.checker.specs.Check.{Checking, accepted, checkRefusal, refusing, refusedAt, checkedOr, readAs, checkOf}
+use Rattle.checker.specs.Check.{Checking, accepted, checkRefusal, checkedOr, checkOf}
 use Rattle.checker.specs.Promise.{checking, padded, sized, sizedUnit, allSized, checkDef, Lexed, Refuses, Sizes}
 use Rattle.checker.specs.Promise.{IfSized, IfSizedUnit, gated, Gives, Checks}
 use Rattle.checker.specs.declared.CheckAnswer.{CheckAnswer}

@@ -1,20 +1,18 @@
 -- What is left of a text that is read and accepted, as the functions of the checker take it. Its first line has any
 -- number.
-use Prim.Native.Nat.{ℕ, _+_, _*_, _-_, _≤_, _<_}
+use Prim.Native.Nat.{ℕ, _*_, _-_, _≤_}
 use mathlib.Core.Path.{_≡_, refl, sym, ap, subst, _∙_}
-use mathlib.Core.List.{List, [], _∷_, _++_, append-nil}
+use mathlib.Core.List.{List, [], _++_, append-nil}
 use native.Mathlib.Nat.{sub-zero}
 use native.Mathlib.Omega.{arith}
-use lib.ListN.{length, getD, take, drop, replicate}
+use lib.ListN.{length, take, drop, replicate}
 use lib.Seq.{take-at}
 use Rattle.utils.specs.Bytes.{padTo}
-use Rattle.pieces.specs.Refusals.{factsOf}
 use Rattle.lexer.specs.Numbered.{Outcome, tokensCells, namesCells}
 use Rattle.lexer.specs.Read.{Reading, reading, accepted, lexedFrom, readFrom}
-use Rattle.lexer.specs.Decoded.{Tok, tokensOf, tokenAt}
+use Rattle.lexer.specs.Decoded.{tokensOf}
 use Rattle.lexer.specs.declared.ReadAnswer.{ReadAnswer}
 use Rattle.lexer.specs.declared.TokenAt.{TokenAt}
-use Rattle.lexer.specs.Sound.{Sound}
 use Rattle.lexer.proofs.Sound.{read-sound, never-cut}
 use Rattle.lexer.proofs.Accepted.{Done, refusal-number}
 use Rattle.lexer.proofs.Promise.{done-reading}

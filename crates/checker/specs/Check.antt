@@ -1,7 +1,7 @@
 -- What a text checks as: number, line, place, counts, message, and what every slice holds, unpadded, of the text alone.
 -- "All lexing is before all parsing, all parsing (with labels and edges of each function) before all typing."
 use Prim.Native.Nat.{ℕ}
-use mathlib.Core.List.{List, [], _∷_}
+use mathlib.Core.List.{List, []}
 use lib.Dec.{eqb}
 use Rattle.utils.specs.Bytes.{pick}
 use Rattle.lexer.specs.Read.{Reading, readOf}

@@ -5,14 +5,12 @@ use mathlib.Core.Bool.{Bool, true, false}
 use mathlib.Core.List.{List}
 use native.Mathlib.Omega.{arith}
 use lib.Dec.{eqb}
-use Rattle.utils.specs.Bytes.{pick}
 use Rattle.pieces.proofs.Progress.{pick-either}
 use Rattle.pieces.specs.declared.Identifier.{Identifier}
 use Rattle.lexer.specs.Decoded.{Tok, tokenAt}
-use Rattle.parser.specs.Step.{look, thenAt, thenDefined, thenNamed, thenType}
+use Rattle.parser.specs.Step.{look, thenAt, thenDefined, thenType}
 use Rattle.parser.specs.Grammar.{consumeD, typeD}
-use Rattle.parser.specs.Runs.{Variables, ended, stopped, andThen, formalD, formalsFromD, formalsD}
-use Rattle.parser.specs.declared.Refusal.{Refusal}
+use Rattle.parser.specs.Runs.{Variables, stopped, formalD, formalsFromD, formalsD}
 use Rattle.parser.specs.declared.Ty.{Ty}
 use Rattle.parser.specs.declared.Variable.{Variable}
 use Rattle.parser.specs.declared.Consumed.{Consumed}

@@ -9,19 +9,18 @@ use native.Mathlib.Nat.{eq-or-lt-of-le}
 use borrow.Author.Tests.{le-leb, lt-leb, eq-eqb, ne-eqb}
 use lib.Dec.{leb, eqb}
 use Rattle.utils.specs.Bytes.{pick}
-use lib.ListN.{length, set}
-use lib.Seq.{sets, length-sets}
+use lib.ListN.{length}
+use lib.Seq.{length-sets}
 use Rattle.lexer.specs.Decoded.{Tok, tokenAt}
 use Rattle.lexer.specs.declared.TokenAt.{TokenAt}
 use Rattle.parser.specs.Step.{opened}
 use Rattle.parser.specs.declared.Refusal.{Refusal}
-use Rattle.parser.specs.declared.Consumed.{Consumed}
 use Rattle.parser.specs.declared.Consumed.the-variants as C
 use Rattle.functions.specs.Known.{Known, typesAfter}
 use Rattle.functions.specs.Functions.{Function, Program, programEnd, programStop, programThen, knownOf, programD}
 use Rattle.functions.specs.Functions.{FunctionAt, function, noFunction, thenFunction, functionD, functionsD}
 use Rattle.functions.specs.Rows.{knownFrom}
-use Rattle.functions.specs.Answer.{counts, countsWith, countsFrom, Room, Slices, slices, storedFunction}
+use Rattle.functions.specs.Answer.{counts, countsWith, countsFrom, Room, Slices}
 use Rattle.functions.specs.Answer.{storedFrom}
 use Rattle.functions.specs.Answer.{Taken, functionRead, FunctionHeld, withCount, Held, programRead}
 use Rattle.functions.specs.declared.FunctionRead.the-variants as F

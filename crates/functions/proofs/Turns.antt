@@ -1,10 +1,9 @@
 -- One turn of each loop over the rows: what stands from here on is the first of it and the rest, or nothing.
-use Prim.Native.Nat.{ℕ, zero, suc, _+_, _-_, _≤_, _<_}
-use mathlib.Core.Path.{_≡_, refl}
+use Prim.Native.Nat.{ℕ, suc, _+_, _-_, _≤_, _<_}
+use mathlib.Core.Path.{_≡_}
 use mathlib.Core.List.{List, [], _∷_}
 use native.Mathlib.Omega.{arith}
 use lib.ListN.{getD}
-use Rattle.functions.specs.Known.{Known}
 use Rattle.functions.specs.Rows.{typesAt, knownAt, knownFrom}
 
 pub known-more : (cells : List ℕ) (i n : ℕ) → i < n

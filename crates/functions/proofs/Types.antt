@@ -22,7 +22,6 @@ use Rattle.functions.specs.Functions.{optionalFormals}
 use Rattle.functions.specs.Functions.{optionalType, enteredD, signatureD, headerD, BuiltAt, built, notBuilt}
 use Rattle.functions.specs.Functions.{thenBuilt, builtD}
 use Rattle.functions.specs.Functions.{isVoid, Function, FunctionAt, function, noFunction, functionD}
-use Rattle.functions.specs.declared.Entered.{Entered}
 use Rattle.functions.specs.declared.Entered.the-variants as E
 
 -- no number among these is above `types`

@@ -7,8 +7,8 @@ mod rows;
 pub mod sizes;
 
 ghost use mathlib.Core.Path.{_≡_};
-ghost use Prim.Native.Nat.{ℕ, _≤_};
-ghost use lib.Dec.{leb, eqb};
+ghost use Prim.Native.Nat.{_≤_};
+ghost use lib.Dec.{leb};
 ghost use lib.ListN.{length};
 ghost use Rattle.lexer.specs.Decoded.{tokensOf};
 ghost use Rattle.body.specs.Room.{Within};

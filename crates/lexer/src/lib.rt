@@ -4,12 +4,11 @@ mod report;
 pub mod sizes;
 
 ghost use mathlib.Core.Path.{_≡_};
-ghost use mathlib.Core.List.{[]};
-ghost use Prim.Native.Nat.{ℕ, _+_, _-_, _*_, _≤_, _<_};
+ghost use Prim.Native.Nat.{_+_, _-_, _*_, _≤_, _<_};
 ghost use lib.Dec.{ltb};
-ghost use lib.ListN.{length, take};
+ghost use lib.ListN.{length};
 ghost use lib.Seq.{sets};
-ghost use Rattle.utils.specs.Bytes.{pick, padTo};
+ghost use Rattle.utils.specs.Bytes.{padTo};
 ghost use Rattle.pieces.specs.Pieces.{pieceAt};
 ghost use Rattle.pieces.specs.Tokens.{tokenCells};
 ghost use Rattle.utils.specs.Limits.{mostBytes, mostTokens, messageSize};

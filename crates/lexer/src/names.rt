@@ -1,7 +1,7 @@
 // The table of names: IdentifierTable of the Rust. A name is two cells, its first appearance's place and its length.
 ghost use mathlib.Core.Path.{_≡_};
-ghost use Prim.Native.Nat.{ℕ, _+_, _-_, _*_, _≤_, _<_};
-ghost use lib.ListN.{length, take};
+ghost use Prim.Native.Nat.{_+_, _-_, _*_, _≤_, _<_};
+ghost use lib.ListN.{length};
 ghost use lib.Seq.{slice, sets};
 ghost use Rattle.utils.specs.Bytes.{sameBytes};
 ghost use Rattle.lexer.specs.Sizes.{nameWidth};

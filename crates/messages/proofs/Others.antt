@@ -1,9 +1,9 @@
 -- A number of none of the fixed texts says nothing.
 use Prim.Native.Nat.{ℕ}
-use mathlib.Core.Path.{_≡_, refl}
+use mathlib.Core.Path.{_≡_}
 use mathlib.Core.List.{[]}
 use borrow.Author.Tests.{ne-eqb}
-use Rattle.utils.specs.Bytes.{pick, bytes}
+use Rattle.utils.specs.Bytes.{pick}
 use Rattle.messages.specs.Messages.{fixed}
 
 pub no-text : (n : ℕ)

@@ -1,6 +1,6 @@
 // The labels of a function: the Rust's LabelsToBlocks as a run of numbers with a count, looked up one by one.
 ghost use mathlib.Core.Path.{_≡_};
-ghost use Prim.Native.Nat.{ℕ, _≤_};
+ghost use Prim.Native.Nat.{_≤_};
 ghost use lib.ListN.{length, take};
 ghost use Rattle.lexer.specs.Decoded.{tokensOf};
 ghost use Rattle.parser.specs.Labels.{has, labelledD};

@@ -1,7 +1,7 @@
 // One piece of a text at a place: what Cursor::lex answers, by the byte that stands there.
 ghost use mathlib.Core.Path.{_≡_};
-ghost use Prim.Native.Nat.{ℕ, _+_, _-_, _≤_, _<_};
-ghost use lib.ListN.{length, drop, getD};
+ghost use Prim.Native.Nat.{_+_, _-_, _<_};
+ghost use lib.ListN.{length};
 ghost use Rattle.pieces.specs.Pieces.{slashAt, digitAt, minusAt, nameAt, sigilAt, wordAt, symbolAt, tokenFrom};
 use crate::Comment;
 use crate::Cursor;

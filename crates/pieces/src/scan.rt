@@ -1,8 +1,8 @@
 // The classes of bytes, and the scans to the end of a comment, a number, a name.
 ghost use mathlib.Core.Path.{_≡_};
 ghost use mathlib.Core.Bool.{true, false};
-ghost use Prim.Native.Nat.{ℕ, _+_, _-_, _*_, _≤_, _<_};
-ghost use lib.ListN.{length, drop, getD};
+ghost use Prim.Native.Nat.{_+_, _-_, _*_, _≤_, _<_};
+ghost use lib.ListN.{drop, getD};
 ghost use Rattle.pieces.specs.Classes.{isBlank, isDigit, isLetter, isNamePart, isAscii};
 ghost use Rattle.pieces.specs.Pieces.{lineEnd, closes, starAfter, commentEnd, nameEnd, numberAt};
 ghost use Rattle.pieces.specs.Capped.{capped, cappedNumber};

@@ -1,8 +1,7 @@
 -- The cells of a check as bytes, one slice after the other.
-use Prim.Native.Nat.{ℕ, _+_, _-_, _*_, _≤_, _<_}
+use Prim.Native.Nat.{ℕ, _+_, _-_, _≤_}
 use mathlib.Core.Path.{_≡_, refl, sym, ap, _∙_}
-use mathlib.Core.List.{List, [], _∷_, _++_, append-nil}
-use mathlib.Core.Bool.{true}
+use mathlib.Core.List.{List, _++_, append-nil}
 use borrow.Author.Tests.{le-ltb}
 use native.Mathlib.Omega.{arith}
 use native.Mathlib.Nat.{zero-add}
@@ -18,7 +17,7 @@ use Rattle.checker.specs.Promise as cells
 use Rattle.checker.specs.declared.CheckAnswer.{CheckAnswer}
 use Rattle.pitchsleet.specs.Bytes.{le32s}
 use Rattle.recheck.specs.Recheck.{recheckOf}
-use Rattle.pitchsleet.specs.CheckBytes.{cellBytes, sizedUnit, bytesOf, Export, export, exported, gated}
+use Rattle.pitchsleet.specs.CheckBytes.{cellBytes, bytesOf, Export, export, exported, gated}
 use Rattle.pitchsleet.specs.CheckBytes.{exportDef, Sizes}
 use Rattle.pitchsleet.specs.CheckBytes.{Gives, Exports}
 use Rattle.pitchsleet.specs.RecheckBytes.{tableOf, recheckDef, Rechecks}

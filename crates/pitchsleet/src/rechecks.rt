@@ -1,6 +1,6 @@
 // From an old text, the bytes of its header table, a number and a new text to the bytes of the recheck.
 ghost use mathlib.Core.Path.{_≡_};
-ghost use Prim.Native.Nat.{ℕ, _+_, _*_, _/_, _≤_};
+ghost use Prim.Native.Nat.{_+_, _*_, _/_, _≤_};
 ghost use lib.ListN.{length};
 ghost use lib.Seq.{sets};
 ghost use Rattle.functions.specs.Answer.{slices};

@@ -2,8 +2,7 @@
 // Each function over it takes it apart and calls a covered function on the slice and the numbers.
 ghost use mathlib.Core.Path.{_≡_};
 ghost use Prim.Native.Nat.{_<_, _-_};
-ghost use lib.ListN.{length};
-ghost use Rattle.pieces.specs.Pieces.{cursor, pieceAt};
+ghost use Rattle.pieces.specs.Pieces.{pieceAt};
 ghost use Rattle.reader.specs.Reader.{lexer, behind, steppedAt, stepOf, leftOf};
 use pieces::Cursor;
 use pieces::Lexed;

@@ -22,7 +22,7 @@ use Rattle.lexer.specs.Read.{lexedFrom, readingOf}
 use Rattle.lexer.specs.Decoded.{Tok, tokensOf, tokenAt}
 use Rattle.lexer.proofs.Sound.{never-cut}
 use Rattle.lexer.proofs.Accepted.{refusal-number}
-use Rattle.parser.specs.Step.{refusal, look}
+use Rattle.parser.specs.Step.{look}
 use Rattle.parser.specs.declared.Refusal.{Refusal}
 use Rattle.body.specs.Room.{Within}
 use Rattle.functions.specs.Functions.{Function, FunctionAt, function, noFunction, thenFunction}

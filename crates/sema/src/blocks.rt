@@ -1,7 +1,7 @@
 // A record's operation, a block's, and whether the block ends as it should.
 ghost use mathlib.Core.Path.{_≡_};
 ghost use mathlib.Core.List.{List};
-ghost use Prim.Native.Nat.{ℕ, _+_, _*_, _≤_, _<_};
+ghost use Prim.Native.Nat.{ℕ, _+_, _≤_, _<_};
 ghost use lib.ListN.{length};
 ghost use Rattle.lexer.specs.Decoded.{tokensOf};
 ghost use Rattle.functions.specs.Columns.{HasRows, tableSize};

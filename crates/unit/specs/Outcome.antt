@@ -10,7 +10,7 @@ use Rattle.utils.specs.Limits.{mostNames, mostFunctions}
 use Rattle.parser.specs.declared.Refusal.{Refusal}
 use Rattle.parser.specs.declared.Consumed.{Consumed}
 use Rattle.parser.specs.declared.Consumed.the-variants as C
-use Rattle.functions.specs.Functions.{Function, Program, programD}
+use Rattle.functions.specs.Functions.{Function, programD}
 use Rattle.functions.specs.Answer.{Slices, slices, counts, countsWith, countsFrom}
 use Rattle.functions.specs.Laid.{rowsCells, allBlocks, allPredecessors}
 use Rattle.functions.specs.declared.Counts.{Counts}

@@ -1,6 +1,5 @@
 // The five slices of functions.
 ghost use mathlib.Core.Path.{_≡_};
-ghost use lib.ListN.{length};
 ghost use Rattle.functions.specs.Answer.{slices};
 ghost use Rattle.unit.specs.Outcome.{cleared};
 

@@ -1,7 +1,7 @@
 // Typing, function by function: the types of a function's operands are written while the table still has its names.
 ghost use mathlib.Core.Path.{_≡_};
 ghost use mathlib.Core.List.{[]};
-ghost use Prim.Native.Nat.{ℕ, _+_, _*_, _≤_, _<_};
+ghost use Prim.Native.Nat.{_+_, _*_, _≤_, _<_};
 ghost use lib.ListN.{length, getD};
 ghost use Rattle.utils.specs.Bytes.{padTo};
 ghost use Rattle.lexer.specs.Decoded.{tokensOf};

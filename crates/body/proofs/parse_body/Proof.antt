@@ -41,9 +41,6 @@ turn-requires c κs =
       omega (arith, v .long-labels, pre .1 .1 .2),
     )
 
-enum-known-next : tie.Need-enum-known-next Inv-loop μ-loop
-enum-known-next c = search needs
-
 loop-less : tie.Need-loop-less Inv-loop μ-loop
 loop-less c =
     let back8 = c .before .before .before .before .before .before .before .before in
@@ -65,9 +62,6 @@ loop-again c =
     let v = loop .inv .2 in
     let g = rw (next .given .1) at (turn .ensures) in
     onward (pre .1 .0 .0) (pre .1 .0 .1) (loop .inv .0) (loop .inv .1) v (turn .kept .1 .1 .1 .1 .1 .0) g
-
-enum-known-e : tie.Need-enum-known-e Inv-loop μ-loop
-enum-known-e c = search needs
 
 sub-t20 : tie.Need-sub-t20 Inv-loop μ-loop
 sub-t20 c =
@@ -139,9 +133,6 @@ returns c =
     (now (a .items)) (turn .last .1 .1 .1 .0) (now (a .arguments)) (turn .last .1 .1 .1 .1 .0)
     (now (a .labels)) (turn .last .1 .1 .1 .1 .1 .0) f
 
-enum-known-e-2 : tie.Need-enum-known-e-2 Inv-loop μ-loop
-enum-known-e-2 c = search needs
-
 same-length-4 : tie.Need-same-length-4 Inv-loop μ-loop
 same-length-4 c =
     let back8 = c .before .before .before .before .before .before .before .before in
@@ -186,23 +177,6 @@ returns-2 c =
 pub parse-body-spec : {M : Type 1} → statement M
 parse-body-spec =
     tie.close
-    (tie.spec
-    Inv-loop
-    μ-loop
-    loop-holds
-    turn-requires
-    enum-known-next
-    loop-less
-    loop-again
-    enum-known-e
-    sub-t20
-    sub-t21
-    same-length
-    same-length-2
-    same-length-3
-    returns
-    enum-known-e-2
-    same-length-4
-    same-length-5
-    same-length-6
-    returns-2)
+    (tie.spec Inv-loop μ-loop loop-holds turn-requires (λ c. search needs) loop-less loop-again (λ c. search needs)
+    sub-t20 sub-t21 same-length same-length-2 same-length-3 returns (λ c. search needs) same-length-4 same-length-5
+    same-length-6 returns-2)

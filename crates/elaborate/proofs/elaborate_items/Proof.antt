@@ -22,15 +22,6 @@ abbrev μ-loop : tie.MeasureT-loop
 loop-holds : tie.Need-loop-holds Inv-loop μ-loop
 loop-holds c = (refl, refl, refl)
 
-record-at-requires : tie.Need-record-at-requires Inv-loop μ-loop
-record-at-requires c κs = search needs
-
-typed-record-requires : tie.Need-typed-record-requires Inv-loop μ-loop
-typed-record-requires c κs = search needs
-
-put-record-requires : tie.Need-put-record-requires Inv-loop μ-loop
-put-record-requires c κs = search needs
-
 add-at : tie.Need-add-at Inv-loop μ-loop
 add-at c =
     let back8 = c .before .before .before .before .before .before .before .before in
@@ -38,12 +29,6 @@ add-at c =
     let loop = c .before .before .before .before .before .before .before .before .loop in
     let loop-test = c .before .before .before .before .before .before .before .loop-test in
     omega (arith, loop .inv .0, loop .inv .1, loop-test .taken, pre .3)
-
-sub-left : tie.Need-sub-left Inv-loop μ-loop
-sub-left c = search needs
-
-loop-less : tie.Need-loop-less Inv-loop μ-loop
-loop-less c = search needs
 
 loop-again : tie.Need-loop-again Inv-loop μ-loop
 loop-again c =
@@ -61,9 +46,6 @@ loop-again c =
       rw (put-record .ensures, typed-record .ensures, record-at .ensures) (sym m ∙ loop .inv .2),
     )
 
-same-length : tie.Need-same-length Inv-loop μ-loop
-same-length c = search needs
-
 returns : tie.Need-returns Inv-loop μ-loop
 returns c =
     let loop = c .before .loop in
@@ -74,16 +56,5 @@ returns c =
 pub elaborate-items-spec : {M : Type 1} → statement M
 elaborate-items-spec =
     tie.close
-    (tie.spec
-    Inv-loop
-    μ-loop
-    loop-holds
-    record-at-requires
-    typed-record-requires
-    put-record-requires
-    add-at
-    sub-left
-    loop-less
-    loop-again
-    same-length
-    returns)
+    (tie.spec Inv-loop μ-loop loop-holds (λ c κs. search needs) (λ c κs. search needs) (λ c κs. search needs) add-at
+    (λ c. search needs) (λ c. search needs) loop-again (λ c. search needs) returns)

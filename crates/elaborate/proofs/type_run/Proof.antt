@@ -22,33 +22,6 @@ abbrev μ-loop : tie.MeasureT-loop
 loop-holds : tie.Need-loop-holds Inv-loop μ-loop
 loop-holds c = (refl, refl, refl)
 
-mul-i : tie.Need-mul-i Inv-loop μ-loop
-mul-i c = search needs
-
-cell-at-requires : tie.Need-cell-at-requires Inv-loop μ-loop
-cell-at-requires c κs = search needs
-
-cast-cell-at : tie.Need-cast-cell-at Inv-loop μ-loop
-cast-cell-at c = search needs
-
-cell-at-requires-2 : tie.Need-cell-at-requires-2 Inv-loop μ-loop
-cell-at-requires-2 c κs = search needs
-
-add-put-cell : tie.Need-add-put-cell Inv-loop μ-loop
-add-put-cell c = search needs
-
-put-cell-requires : tie.Need-put-cell-requires Inv-loop μ-loop
-put-cell-requires c κs = search needs
-
-add-at : tie.Need-add-at Inv-loop μ-loop
-add-at c = search needs
-
-sub-left : tie.Need-sub-left Inv-loop μ-loop
-sub-left c = search needs
-
-loop-less : tie.Need-loop-less Inv-loop μ-loop
-loop-less c = search needs
-
 loop-again : tie.Need-loop-again Inv-loop μ-loop
 loop-again c =
     let a = c .before .before .before .before .before .before .before .before .before .before .before .args in
@@ -65,9 +38,6 @@ loop-again c =
       rw (put-cell .ensures, cell-at2 .ensures, cell-at .ensures) (sym m ∙ loop .inv .2),
     )
 
-same-length : tie.Need-same-length Inv-loop μ-loop
-same-length c = search needs
-
 returns : tie.Need-returns Inv-loop μ-loop
 returns c =
     let a = c .before .before .before .before .args in
@@ -77,19 +47,6 @@ returns c =
 pub type-run-spec : {M : Type 1} → statement M
 type-run-spec =
     tie.close
-    (tie.spec
-    Inv-loop
-    μ-loop
-    loop-holds
-    mul-i
-    cell-at-requires
-    cast-cell-at
-    cell-at-requires-2
-    add-put-cell
-    put-cell-requires
-    add-at
-    sub-left
-    loop-less
-    loop-again
-    same-length
-    returns)
+    (tie.spec Inv-loop μ-loop loop-holds (λ c. search needs) (λ c κs. search needs) (λ c. search needs)
+    (λ c κs. search needs) (λ c. search needs) (λ c κs. search needs) (λ c. search needs) (λ c. search needs)
+    (λ c. search needs) loop-again (λ c. search needs) returns)

@@ -36,9 +36,6 @@ loop-holds c =
       predecessors-few = omega arith;
     })
 
-token-at-requires : tie.Need-token-at-requires Inv-loop μ-loop
-token-at-requires c κs = search needs
-
 cast-functions : tie.Need-cast-functions Inv-loop μ-loop
 cast-functions c = omega (arith, c .before .before .before .before .loop .inv .few)
 
@@ -90,9 +87,6 @@ parse-function-requires c κs =
         predecessors-long = omega (arith, g .predecessors-kept, long .predecessors-long);
       },
     )
-
-enum-known-e : tie.Need-enum-known-e Inv-loop μ-loop
-enum-known-e c = search needs
 
 same-length-6 : tie.Need-same-length-6 Inv-loop μ-loop
 same-length-6 c =
@@ -147,9 +141,6 @@ returns-2 c =
     refused-read (tokensOf (now (a .tokens))) (now (a .names)) _ (loop .inv) (token-at .ensures) (if1 .left) _ refl
     (sym (c .before .e .given .1) ∙ parse-function .ensures .0) _
 
-enum-known-next : tie.Need-enum-known-next Inv-loop μ-loop
-enum-known-next c = search needs
-
 loop-less : tie.Need-loop-less Inv-loop μ-loop
 loop-less c =
     let back8 = c .before .before .before .before .before .before .before .before in
@@ -183,27 +174,7 @@ loop-again c =
 pub parse-spec : {M : Type 1} → statement M
 parse-spec =
     tie.close
-    (tie.spec
-    Inv-loop
-    μ-loop
-    loop-holds
-    token-at-requires
-    cast-functions
-    slice-write-functions
-    same-length
-    same-length-2
-    same-length-3
-    same-length-4
-    same-length-5
-    returns
-    parse-function-requires
-    enum-known-e
-    same-length-6
-    same-length-7
-    same-length-8
-    same-length-9
-    same-length-10
-    returns-2
-    enum-known-next
-    loop-less
+    (tie.spec Inv-loop μ-loop loop-holds (λ c κs. search needs) cast-functions slice-write-functions same-length
+    same-length-2 same-length-3 same-length-4 same-length-5 returns parse-function-requires (λ c. search needs)
+    same-length-6 same-length-7 same-length-8 same-length-9 same-length-10 returns-2 (λ c. search needs) loop-less
     loop-again)

@@ -19,12 +19,6 @@ Inv-loop text line tokens₀ names₀ count₀ known₀ at₀ tokens names count
 abbrev μ-loop : tie.MeasureT-loop
 μ-loop text line tokens₀ names₀ count₀ known₀ at₀ tokens names count known at = length text - at .place
 
-clear-requires : tie.Need-clear-requires Inv-loop μ-loop
-clear-requires c κs = search needs
-
-clear-requires-2 : tie.Need-clear-requires-2 Inv-loop μ-loop
-clear-requires-2 c κs = search needs
-
 loop-holds : tie.Need-loop-holds Inv-loop μ-loop
 loop-holds c =
     let back8 = c .before .before .before .before .before .before .before .before in
@@ -57,9 +51,6 @@ next-token-requires c κs =
       v .within,
       omega (arith, v .lines, v .within, pre),
     )
-
-enum-known-next : tie.Need-enum-known-next Inv-loop μ-loop
-enum-known-next c = search needs
 
 loop-less : tie.Need-loop-less Inv-loop μ-loop
 loop-less c =
@@ -97,9 +88,6 @@ loop-again c =
     (next-token .ensures .1)) in
     after .0
 
-enum-known-token : tie.Need-enum-known-token Inv-loop μ-loop
-enum-known-token c = search needs
-
 push-token-requires : tie.Need-push-token-requires Inv-loop μ-loop
 push-token-requires c κs =
     let back8 = c .before .before .before .before .before .before .before .before in
@@ -117,9 +105,6 @@ push-token-requires c κs =
     (turn ts ns (loop .inv) (next-token .result) (next-token .last .1 .0) (next-token .ensures .0)
     (next-token .ensures .1)) in
     omega (arith, loop .inv .long, ts, after .place, pre)
-
-too-many-requires : tie.Need-too-many-requires Inv-loop μ-loop
-too-many-requires c κs = search needs
 
 same-length : tie.Need-same-length Inv-loop μ-loop
 same-length c =
@@ -211,9 +196,6 @@ loop-again-2 c =
     let put = rw (sym (push-token .ensures .0) ∙ not-false _ (if1 .left)) at (push-token .ensures .1) in
     after .more room _ put
 
-enum-known-token-2 : tie.Need-enum-known-token-2 Inv-loop μ-loop
-enum-known-token-2 c = search needs
-
 push-token-requires-2 : tie.Need-push-token-requires-2 Inv-loop μ-loop
 push-token-requires-2 c κs =
     let back8 = c .before .before .before .before .before .before .before .before in
@@ -231,9 +213,6 @@ push-token-requires-2 c κs =
     (turn ts ns (loop .inv) (next-token .result) (next-token .last .1 .0) (next-token .ensures .0)
     (next-token .ensures .1)) in
     omega (arith, loop .inv .long, ts, after .place, pre)
-
-too-many-requires-2 : tie.Need-too-many-requires-2 Inv-loop μ-loop
-too-many-requires-2 c κs = search needs
 
 same-length-3 : tie.Need-same-length-3 Inv-loop μ-loop
 same-length-3 c =
@@ -338,9 +317,6 @@ returns-3 c =
     finish (after .done room _ put) (now (a .tokens)) (now (a .names)) (clear .kept .0) (clear2 .kept .0) in
     (end .0, end .1)
 
-enum-known-refusal : tie.Need-enum-known-refusal Inv-loop μ-loop
-enum-known-refusal c = search needs
-
 same-length-7 : tie.Need-same-length-7 Inv-loop μ-loop
 same-length-7 c =
     let back8 = c .before .before .before .before .before .before .before .before in
@@ -377,38 +353,8 @@ returns-4 c =
 pub lex-all-spec : {M : Type 1} → statement M
 lex-all-spec =
     tie.close
-    (tie.spec
-    Inv-loop
-    μ-loop
-    clear-requires
-    clear-requires-2
-    loop-holds
-    next-token-requires
-    enum-known-next
-    loop-less
-    loop-again
-    enum-known-token
-    push-token-requires
-    too-many-requires
-    same-length
-    same-length-2
-    returns
-    add-count
-    loop-less-2
-    loop-again-2
-    enum-known-token-2
-    push-token-requires-2
-    too-many-requires-2
-    same-length-3
-    same-length-4
-    returns-2
-    cast-t32
-    add-t33
-    cast-t34
-    same-length-5
-    same-length-6
-    returns-3
-    enum-known-refusal
-    same-length-7
-    same-length-8
-    returns-4)
+    (tie.spec Inv-loop μ-loop (λ c κs. search needs) (λ c κs. search needs) loop-holds next-token-requires
+    (λ c. search needs) loop-less loop-again (λ c. search needs) push-token-requires (λ c κs. search needs)
+    same-length same-length-2 returns add-count loop-less-2 loop-again-2 (λ c. search needs) push-token-requires-2
+    (λ c κs. search needs) same-length-3 same-length-4 returns-2 cast-t32 add-t33 cast-t34 same-length-5 same-length-6
+    returns-3 (λ c. search needs) same-length-7 same-length-8 returns-4)

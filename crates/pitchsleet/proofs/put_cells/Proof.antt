@@ -23,27 +23,6 @@ abbrev μ-loop : tie.MeasureT-loop
 loop-holds : tie.Need-loop-holds Inv-loop μ-loop
 loop-holds c = (omega arith, refl, rw (zero-mul, add-zero))
 
-mul-put-cell : tie.Need-mul-put-cell Inv-loop μ-loop
-mul-put-cell c = search needs
-
-add-put-cell : tie.Need-add-put-cell Inv-loop μ-loop
-add-put-cell c = search needs
-
-mul-put-cell-2 : tie.Need-mul-put-cell-2 Inv-loop μ-loop
-mul-put-cell-2 c = search needs
-
-shared-slice-read-put-cell : tie.Need-shared-slice-read-put-cell Inv-loop μ-loop
-shared-slice-read-put-cell c = search needs
-
-put-cell-requires : tie.Need-put-cell-requires Inv-loop μ-loop
-put-cell-requires c κs = search needs
-
-add-i : tie.Need-add-i Inv-loop μ-loop
-add-i c = search needs
-
-loop-less : tie.Need-loop-less Inv-loop μ-loop
-loop-less c = search needs
-
 loop-again : tie.Need-loop-again Inv-loop μ-loop
 loop-again c =
     let back8 = c .before .before .before .before .before .before .before .before in
@@ -57,9 +36,6 @@ loop-again c =
       rw (p .ensures) (stored (now (a .cells)) (loop .out) (a .at) (loop .i) (loop-test .taken)) ∙ loop .inv .2,
     )
 
-same-length : tie.Need-same-length Inv-loop μ-loop
-same-length c = search needs
-
 returns : tie.Need-returns Inv-loop μ-loop
 unfolding le32s
 returns c =
@@ -69,17 +45,6 @@ returns c =
 pub put-cells-spec : {M : Type 1} → statement M
 put-cells-spec =
     tie.close
-    (tie.spec
-    Inv-loop
-    μ-loop
-    loop-holds
-    mul-put-cell
-    add-put-cell
-    mul-put-cell-2
-    shared-slice-read-put-cell
-    put-cell-requires
-    add-i
-    loop-less
-    loop-again
-    same-length
+    (tie.spec Inv-loop μ-loop loop-holds (λ c. search needs) (λ c. search needs) (λ c. search needs)
+    (λ c. search needs) (λ c κs. search needs) (λ c. search needs) (λ c. search needs) loop-again (λ c. search needs)
     returns)

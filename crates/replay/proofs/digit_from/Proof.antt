@@ -19,18 +19,6 @@ Inv-loop «data» from at₀ comment₀ at comment = toDigit comment (drop at «
 abbrev μ-loop : tie.MeasureT-loop
 μ-loop «data» from at₀ comment₀ at comment = length «data» - at
 
-loop-holds : tie.Need-loop-holds Inv-loop μ-loop
-loop-holds c = search needs
-
-shared-slice-read-b : tie.Need-shared-slice-read-b Inv-loop μ-loop
-shared-slice-read-b c = search needs
-
-in-comment-requires : tie.Need-in-comment-requires Inv-loop μ-loop
-in-comment-requires c κs = search needs
-
-begins-number-requires : tie.Need-begins-number-requires Inv-loop μ-loop
-begins-number-requires c κs = search needs
-
 returns : tie.Need-returns Inv-loop μ-loop
 unfolding toDigit pick
 returns c =
@@ -50,12 +38,6 @@ returns c =
         if1 .taken,
       ),
     )
-
-add-at : tie.Need-add-at Inv-loop μ-loop
-add-at c = search needs
-
-loop-less : tie.Need-loop-less Inv-loop μ-loop
-loop-less c = search needs
 
 loop-again : tie.Need-loop-again Inv-loop μ-loop
 unfolding toDigit pick
@@ -88,15 +70,5 @@ returns-2 c =
 pub digit-from-spec : {M : Type 1} → statement M
 digit-from-spec =
     tie.close
-    (tie.spec
-    Inv-loop
-    μ-loop
-    loop-holds
-    shared-slice-read-b
-    in-comment-requires
-    begins-number-requires
-    returns
-    add-at
-    loop-less
-    loop-again
-    returns-2)
+    (tie.spec Inv-loop μ-loop (λ c. search needs) (λ c. search needs) (λ c κs. search needs) (λ c κs. search needs)
+    returns (λ c. search needs) (λ c. search needs) loop-again returns-2)

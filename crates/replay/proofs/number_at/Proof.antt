@@ -15,19 +15,10 @@ Inv-loop «data» from at₀ value₀ at value = Reading «data» from at value
 abbrev μ-loop : tie.MeasureT-loop
 μ-loop «data» from at₀ value₀ at value = length «data» - at
 
-digit-from-requires : tie.Need-digit-from-requires Inv-loop μ-loop
-digit-from-requires c κs = search needs
-
 loop-holds : tie.Need-loop-holds Inv-loop μ-loop
 loop-holds c =
     let digit-from = c .digit-from in
     start _ _ _ (digit-from .ensures .0) (digit-from .ensures .1)
-
-shared-slice-read-b : tie.Need-shared-slice-read-b Inv-loop μ-loop
-shared-slice-read-b c = search needs
-
-is-digit-requires : tie.Need-is-digit-requires Inv-loop μ-loop
-is-digit-requires c κs = search needs
 
 returns : tie.Need-returns Inv-loop μ-loop
 returns c =
@@ -43,12 +34,6 @@ with-digit-requires : tie.Need-with-digit-requires Inv-loop μ-loop
 with-digit-requires c κs =
     let is-digit = c .before .is-digit in
     digit-low _ (sym (is-digit .ensures) ∙ not-false (is-digit .result) (c .if1 .left))
-
-add-at : tie.Need-add-at Inv-loop μ-loop
-add-at c = search needs
-
-loop-less : tie.Need-loop-less Inv-loop μ-loop
-loop-less c = search needs
 
 loop-again : tie.Need-loop-again Inv-loop μ-loop
 loop-again c =
@@ -71,16 +56,5 @@ returns-2 c =
 pub number-at-spec : {M : Type 1} → statement M
 number-at-spec =
     tie.close
-    (tie.spec
-    Inv-loop
-    μ-loop
-    digit-from-requires
-    loop-holds
-    shared-slice-read-b
-    is-digit-requires
-    returns
-    with-digit-requires
-    add-at
-    loop-less
-    loop-again
-    returns-2)
+    (tie.spec Inv-loop μ-loop (λ c κs. search needs) loop-holds (λ c. search needs) (λ c κs. search needs) returns
+    with-digit-requires (λ c. search needs) (λ c. search needs) loop-again returns-2)

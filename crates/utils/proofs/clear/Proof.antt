@@ -22,14 +22,8 @@ loop-holds c = (omega arith, refl, refl)
 mul-cells : tie.Need-mul-cells Inv-loop μ-loop
 mul-cells c = omega (arith, c .before .before .good .0 .1)
 
-slice-write-cells : tie.Need-slice-write-cells Inv-loop μ-loop
-slice-write-cells c = search needs
-
 add-i : tie.Need-add-i Inv-loop μ-loop
 add-i c = omega (arith, c .before .before .good .0 .1)
-
-loop-less : tie.Need-loop-less Inv-loop μ-loop
-loop-less c = search needs
 
 loop-again : tie.Need-loop-again Inv-loop μ-loop
 loop-again c =
@@ -41,9 +35,6 @@ loop-again c =
       ap (λ (l : List ℕ). set l (loop .i) 0) (loop .inv .2) ∙ fill-more (loop .i) 0 (now (a .cells)) (omega arith),
     )
 
-same-length : tie.Need-same-length Inv-loop μ-loop
-same-length c = search needs
-
 returns : tie.Need-returns Inv-loop μ-loop
 returns c =
     let a = c .before .before .args in
@@ -54,14 +45,5 @@ returns c =
 pub clear-spec : {M : Type 1} → statement M
 clear-spec =
     tie.close
-    (tie.spec
-    Inv-loop
-    μ-loop
-    loop-holds
-    mul-cells
-    slice-write-cells
-    add-i
-    loop-less
-    loop-again
-    same-length
-    returns)
+    (tie.spec Inv-loop μ-loop loop-holds mul-cells (λ c. search needs) add-i (λ c. search needs) loop-again
+    (λ c. search needs) returns)

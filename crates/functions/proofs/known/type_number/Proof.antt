@@ -26,21 +26,6 @@ abbrev μ-loop : tie.MeasureT-loop
 loop-holds : tie.Need-loop-holds Inv-loop μ-loop
 loop-holds c = (omega arith, rw sub-zero)
 
-same-type-requires : tie.Need-same-type-requires Inv-loop μ-loop
-same-type-requires c κs = search needs
-
-mul-result : tie.Need-mul-result Inv-loop μ-loop
-mul-result c = search needs
-
-add-result : tie.Need-add-result Inv-loop μ-loop
-add-result c = search needs
-
-mul-result-2 : tie.Need-mul-result-2 Inv-loop μ-loop
-mul-result-2 c = search needs
-
-shared-slice-read-result : tie.Need-shared-slice-read-result Inv-loop μ-loop
-shared-slice-read-result c = search needs
-
 returns : tie.Need-returns Inv-loop μ-loop
 unfolding typeNumber pick
 returns c =
@@ -55,12 +40,6 @@ returns c =
       ← same-type .ensures,
       if1 .taken,
     )
-
-add-i : tie.Need-add-i Inv-loop μ-loop
-add-i c = search needs
-
-loop-less : tie.Need-loop-less Inv-loop μ-loop
-loop-less c = search needs
 
 loop-again : tie.Need-loop-again Inv-loop μ-loop
 unfolding typeNumber pick
@@ -90,17 +69,5 @@ returns-2 c =
 pub type-number-spec : {M : Type 1} → statement M
 type-number-spec =
     tie.close
-    (tie.spec
-    Inv-loop
-    μ-loop
-    loop-holds
-    same-type-requires
-    mul-result
-    add-result
-    mul-result-2
-    shared-slice-read-result
-    returns
-    add-i
-    loop-less
-    loop-again
-    returns-2)
+    (tie.spec Inv-loop μ-loop loop-holds (λ c κs. search needs) (λ c. search needs) (λ c. search needs)
+    (λ c. search needs) (λ c. search needs) returns (λ c. search needs) (λ c. search needs) loop-again returns-2)

@@ -23,15 +23,6 @@ abbrev μ-loop : tie.MeasureT-loop
 loop-holds : tie.Need-loop-holds Inv-loop μ-loop
 loop-holds c = (0, omega arith, c .pre .0, refl)
 
-next-block-requires : tie.Need-next-block-requires Inv-loop μ-loop
-next-block-requires c κs = search needs
-
-cast-i : tie.Need-cast-i Inv-loop μ-loop
-cast-i c = search needs
-
-element-copy-out-put-one : tie.Need-element-copy-out-put-one Inv-loop μ-loop
-element-copy-out-put-one c = search needs
-
 put-one-requires : tie.Need-put-one-requires Inv-loop μ-loop
 put-one-requires c κs =
     let loop = c .before .before .before .before .before .loop in
@@ -41,12 +32,6 @@ put-one-requires c κs =
     let w = waiting-more (a .met .now) (a .n) k (omega arith) (omega arith) in
     let room : loop .at + waiting (drop k (take (a .n) (a .met .now))) ≤ 256 = rw same (loop .inv .2) in
     omega (arith, w, room)
-
-sub-rest : tie.Need-sub-rest Inv-loop μ-loop
-sub-rest c = search needs
-
-loop-less : tie.Need-loop-less Inv-loop μ-loop
-loop-less c = search needs
 
 loop-again : tie.Need-loop-again Inv-loop μ-loop
 loop-again c =
@@ -80,15 +65,5 @@ returns c =
 pub put-unmet-spec : {M : Type 1} → statement M
 put-unmet-spec =
     tie.close
-    (tie.spec
-    Inv-loop
-    μ-loop
-    loop-holds
-    next-block-requires
-    cast-i
-    element-copy-out-put-one
-    put-one-requires
-    sub-rest
-    loop-less
-    loop-again
-    returns)
+    (tie.spec Inv-loop μ-loop loop-holds (λ c κs. search needs) (λ c. search needs) (λ c. search needs)
+    put-one-requires (λ c. search needs) (λ c. search needs) loop-again returns)

@@ -22,9 +22,6 @@ abbrev μ-loop : tie.MeasureT-loop
 loop-holds : tie.Need-loop-holds Inv-loop μ-loop
 loop-holds c = (c .pre, refl)
 
-turn-requires : tie.Need-turn-requires Inv-loop μ-loop
-turn-requires c κs = search needs
-
 loop-less : tie.Need-loop-less Inv-loop μ-loop
 loop-less c = c .turn .ensures .less
 
@@ -54,4 +51,4 @@ returns c =
 
 pub process-spec : {M : Type 1} → statement M
 process-spec =
-    tie.close (tie.spec Inv-loop μ-loop loop-holds turn-requires loop-less loop-again returns)
+    tie.close (tie.spec Inv-loop μ-loop loop-holds (λ c κs. search needs) loop-less loop-again returns)

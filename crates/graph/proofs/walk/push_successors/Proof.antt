@@ -10,6 +10,7 @@ use Rattle.graph.proofs.walk.push_successors.Statement.{statement}
 use Rattle.graph.proofs.walk.push_successors.Tie as tie
 
 -- the block's pair
+
 abbrev pair : tie.Start → ℕ → ℕ
 pair s j = getD (getD (s .args .succs .now) (s .args .block .0) []) j 0
 

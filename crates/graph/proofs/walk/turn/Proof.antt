@@ -10,6 +10,7 @@ use Rattle.graph.proofs.walk.turn.Statement.{statement}
 use Rattle.graph.proofs.walk.turn.Tie as tie
 
 -- The graph, and what is in hand at the start.
+
 abbrev G : tie.Start → ℕ → List ℕ
 G s = rowOf (s .args .succs .now) (s .args .counts .now)
 

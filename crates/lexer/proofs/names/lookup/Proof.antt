@@ -27,29 +27,11 @@ loop-holds c =
     let pre = c .before .before .pre in
     (omega arith, refl, pre .0 .within)
 
-mul-p : tie.Need-mul-p Inv-loop μ-loop
-mul-p c = search needs
-
-add-q : tie.Need-add-q Inv-loop μ-loop
-add-q c = search needs
-
-mul-a : tie.Need-mul-a Inv-loop μ-loop
-mul-a c = search needs
-
-shared-slice-read-a : tie.Need-shared-slice-read-a Inv-loop μ-loop
-shared-slice-read-a c = search needs
-
 cast-a : tie.Need-cast-a Inv-loop μ-loop
 cast-a c =
     let shared-slice-known3 = c .shared-slice-known3 in
     let loop = c .before .before .loop in
     omega (arith, shared-slice-known3 .given (loop .k * 2))
-
-mul-n : tie.Need-mul-n Inv-loop μ-loop
-mul-n c = search needs
-
-shared-slice-read-n : tie.Need-shared-slice-read-n Inv-loop μ-loop
-shared-slice-read-n c = search needs
 
 cast-n : tie.Need-cast-n Inv-loop μ-loop
 cast-n c =
@@ -65,9 +47,6 @@ same-name-requires c κs =
     let step = parts-step (now (a .names)) (loop .k) (a .count) (loop-test .taken) (omega arith) in
     omega (arith, (rw step at (loop .inv .2)) .0)
 
-cast-t17 : tie.Need-cast-t17 Inv-loop μ-loop
-cast-t17 c = search needs
-
 returns : tie.Need-returns Inv-loop μ-loop
 unfolding indexOf spellings pick
 returns c =
@@ -78,9 +57,6 @@ returns c =
     let if1 = c .if1 in
     let step = parts-step (now (a .names)) (loop .k) (a .count) (loop-test .taken) (omega arith) in
     rw (← loop .inv .1, step, ← same-name .ensures, if1 .taken)
-
-add-k : tie.Need-add-k Inv-loop μ-loop
-add-k c = search needs
 
 loop-less : tie.Need-loop-less Inv-loop μ-loop
 loop-less c = omega arith
@@ -107,22 +83,6 @@ returns-2 c =
 pub lookup-spec : {M : Type 1} → statement M
 lookup-spec =
     tie.close
-    (tie.spec
-    Inv-loop
-    μ-loop
-    loop-holds
-    mul-p
-    add-q
-    mul-a
-    shared-slice-read-a
-    cast-a
-    mul-n
-    shared-slice-read-n
-    cast-n
-    same-name-requires
-    cast-t17
-    returns
-    add-k
-    loop-less
-    loop-again
-    returns-2)
+    (tie.spec Inv-loop μ-loop loop-holds (λ c. search needs) (λ c. search needs) (λ c. search needs)
+    (λ c. search needs) cast-a (λ c. search needs) (λ c. search needs) cast-n same-name-requires (λ c. search needs)
+    returns (λ c. search needs) loop-less loop-again returns-2)

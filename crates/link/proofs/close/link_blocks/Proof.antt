@@ -27,9 +27,6 @@ add-end c =
     let pre = c .before .before .before .pre in
     omega (arith, pre .few-items)
 
-refuse-requires : tie.Need-refuse-requires Inv-loop μ-loop
-refuse-requires c κs = search needs
-
 add-from : tie.Need-add-from Inv-loop μ-loop
 add-from c =
     let pre = c .before .before .before .before .pre in
@@ -73,9 +70,6 @@ add-block-requires c κs =
           stop ends (a .before) names same,
     )
 
-enum-known-e : tie.Need-enum-known-e Inv-loop μ-loop
-enum-known-e c = search needs
-
 same-length : tie.Need-same-length Inv-loop μ-loop
 same-length c =
     let loop = c .before .before .before .before .before .before .before .before .loop in
@@ -107,9 +101,6 @@ returns c =
     (loop .k) (loop .inv)
     stop ends (a .before) names same e is in
     rw r (refl, tt)
-
-enum-known-next : tie.Need-enum-known-next Inv-loop μ-loop
-enum-known-next c = search needs
 
 sub-t21 : tie.Need-sub-t21 Inv-loop μ-loop
 sub-t21 c =
@@ -229,22 +220,6 @@ loop-again c =
 pub link-blocks-spec : {M : Type 1} → statement M
 link-blocks-spec =
     tie.close
-    (tie.spec
-    Inv-loop
-    μ-loop
-    add-end
-    refuse-requires
-    add-from
-    loop-holds
-    block-end-requires
-    add-block-requires
-    enum-known-e
-    same-length
-    returns
-    enum-known-next
-    sub-t21
-    same-length-2
-    returns-2
-    add-from-2
-    loop-less
+    (tie.spec Inv-loop μ-loop add-end (λ c κs. search needs) add-from loop-holds block-end-requires add-block-requires
+    (λ c. search needs) same-length returns (λ c. search needs) sub-t21 same-length-2 returns-2 add-from-2 loop-less
     loop-again)

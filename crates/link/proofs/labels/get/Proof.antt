@@ -31,18 +31,6 @@ loop-holds c =
     let none : n - n ≡ 0 = omega arith in
     (omega arith, rw none)
 
-sub-i : tie.Need-sub-i Inv-loop μ-loop
-sub-i c = search needs
-
-mul-if1 : tie.Need-mul-if1 Inv-loop μ-loop
-mul-if1 c = search needs
-
-shared-slice-read-if1 : tie.Need-shared-slice-read-if1 Inv-loop μ-loop
-shared-slice-read-if1 c = search needs
-
-block-of-requires : tie.Need-block-of-requires Inv-loop μ-loop
-block-of-requires c κs = search needs
-
 returns : tie.Need-returns Inv-loop μ-loop
 unfolding labelPlace pick
 returns c =
@@ -62,9 +50,6 @@ returns c =
     let d = drop-cons t i 0 (omega (arith, less, l)) in
     let g = getD-take n s i 0 less in
     rw (← loop .inv .1, d, g, eq-eqb _ _ same, block-of .ensures)
-
-sub-rest : tie.Need-sub-rest Inv-loop μ-loop
-sub-rest c = search needs
 
 loop-less : tie.Need-loop-less Inv-loop μ-loop
 loop-less c = omega arith
@@ -106,16 +91,5 @@ returns-2 c =
 pub get-spec : {M : Type 1} → statement M
 get-spec =
     tie.close
-    (tie.spec
-    Inv-loop
-    μ-loop
-    loop-holds
-    sub-i
-    mul-if1
-    shared-slice-read-if1
-    block-of-requires
-    returns
-    sub-rest
-    loop-less
-    loop-again
-    returns-2)
+    (tie.spec Inv-loop μ-loop loop-holds (λ c. search needs) (λ c. search needs) (λ c. search needs)
+    (λ c κs. search needs) returns (λ c. search needs) loop-less loop-again returns-2)

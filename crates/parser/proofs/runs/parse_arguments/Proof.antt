@@ -24,9 +24,6 @@ loop-holds c =
     let a = c .before .before .args in
     begin (argumentsD (tokensOf (now (a .tokens))) 16 (a .at)) (a .used) (now (a .cells))
 
-token-at-requires : tie.Need-token-at-requires Inv-loop μ-loop
-token-at-requires c κs = search needs
-
 same-length : tie.Need-same-length Inv-loop μ-loop
 same-length c =
     let loop = c .before .before .before .loop in
@@ -43,12 +40,6 @@ returns c =
     let turn = arguments-end ts (16 - loop .n) (loop .here) (token-at .ensures) (if1 .taken) in
     let s = stop (C.At (token-at .result .next)) (loop .inv) turn in
     (s .0, s .1)
-
-consume-named-requires : tie.Need-consume-named-requires Inv-loop μ-loop
-consume-named-requires c κs = search needs
-
-enum-known-e : tie.Need-enum-known-e Inv-loop μ-loop
-enum-known-e c = search needs
 
 same-length-2 : tie.Need-same-length-2 Inv-loop μ-loop
 same-length-2 c =
@@ -71,12 +62,6 @@ returns-2 c =
     (e .given .1) in
     let s = stop (C.Refused (e .given .0 .0)) (loop .inv) turn in
     (s .0, s .1)
-
-enum-known-id : tie.Need-enum-known-id Inv-loop μ-loop
-enum-known-id c = search needs
-
-refuse-requires : tie.Need-refuse-requires Inv-loop μ-loop
-refuse-requires c κs = search needs
 
 same-length-3 : tie.Need-same-length-3 Inv-loop μ-loop
 same-length-3 c =
@@ -156,24 +141,6 @@ loop-again c =
 pub parse-arguments-spec : {M : Type 1} → statement M
 parse-arguments-spec =
     tie.close
-    (tie.spec
-    Inv-loop
-    μ-loop
-    loop-holds
-    token-at-requires
-    same-length
-    returns
-    consume-named-requires
-    enum-known-e
-    same-length-2
-    returns-2
-    enum-known-id
-    refuse-requires
-    same-length-3
-    returns-3
-    mul-put-variable
-    add-put-variable
-    put-variable-requires
-    add-n
-    loop-less
-    loop-again)
+    (tie.spec Inv-loop μ-loop loop-holds (λ c κs. search needs) same-length returns (λ c κs. search needs)
+    (λ c. search needs) same-length-2 returns-2 (λ c. search needs) (λ c κs. search needs) same-length-3 returns-3
+    mul-put-variable add-put-variable put-variable-requires add-n loop-less loop-again)

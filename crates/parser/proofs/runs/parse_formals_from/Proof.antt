@@ -26,12 +26,6 @@ loop-holds c =
     let a = c .before .before .args in
     begin (formalsFromD (tokensOf (now (a .tokens))) 16 (a .at)) (a .used) (now (a .cells))
 
-parse-formal-requires : tie.Need-parse-formal-requires Inv-loop μ-loop
-parse-formal-requires c κs = search needs
-
-enum-known-e : tie.Need-enum-known-e Inv-loop μ-loop
-enum-known-e c = search needs
-
 same-length : tie.Need-same-length Inv-loop μ-loop
 same-length c =
     let loop = c .before .before .before .before .loop in
@@ -48,9 +42,6 @@ returns c =
     let turn = formals-refused ts (loop .n) (loop .here) (loop .inv .few) (parse-formal .ensures) (e .given .1) in
     let s = stop (C.Refused (e .given .0 .0)) (loop .inv) turn in
     (s .0, s .1)
-
-enum-known-v : tie.Need-enum-known-v Inv-loop μ-loop
-enum-known-v c = search needs
 
 mul-put-variable : tie.Need-mul-put-variable Inv-loop μ-loop
 mul-put-variable c =
@@ -78,12 +69,6 @@ add-n : tie.Need-add-n Inv-loop μ-loop
 add-n c =
     let loop = c .before .before .before .before .before .before .before .before .loop in
     omega (arith, loop .inv .few)
-
-token-at-requires : tie.Need-token-at-requires Inv-loop μ-loop
-token-at-requires c κs = search needs
-
-close-formals-requires : tie.Need-close-formals-requires Inv-loop μ-loop
-close-formals-requires c κs = search needs
 
 same-length-2 : tie.Need-same-length-2 Inv-loop μ-loop
 same-length-2 c =
@@ -144,22 +129,6 @@ loop-again c =
 pub parse-formals-from-spec : {M : Type 1} → statement M
 parse-formals-from-spec =
     tie.close
-    (tie.spec
-    Inv-loop
-    μ-loop
-    loop-holds
-    parse-formal-requires
-    enum-known-e
-    same-length
-    returns
-    enum-known-v
-    mul-put-variable
-    add-put-variable
-    put-variable-requires
-    add-n
-    token-at-requires
-    close-formals-requires
-    same-length-2
-    returns-2
-    loop-less
-    loop-again)
+    (tie.spec Inv-loop μ-loop loop-holds (λ c κs. search needs) (λ c. search needs) same-length returns
+    (λ c. search needs) mul-put-variable add-put-variable put-variable-requires add-n (λ c κs. search needs)
+    (λ c κs. search needs) same-length-2 returns-2 loop-less loop-again)

@@ -18,18 +18,6 @@ Inv-loop text at star₀ i₀ star i = commentEnd star (drop i text) i ≡ comme
 abbrev μ-loop : tie.MeasureT-loop
 μ-loop text at star₀ i₀ star i = length text - i
 
-loop-holds : tie.Need-loop-holds Inv-loop μ-loop
-loop-holds c = search needs
-
-shared-slice-read-b : tie.Need-shared-slice-read-b Inv-loop μ-loop
-shared-slice-read-b c = search needs
-
-closes-comment-requires : tie.Need-closes-comment-requires Inv-loop μ-loop
-closes-comment-requires c κs = search needs
-
-add-t11 : tie.Need-add-t11 Inv-loop μ-loop
-add-t11 c = search needs
-
 returns : tie.Need-returns Inv-loop μ-loop
 unfolding commentEnd pick
 returns c =
@@ -40,15 +28,6 @@ returns c =
     let if1 = c .if1 in
     let s = now (a .text) in
     rw (← loop .inv, drop-cons s (loop .i) 0 (loop-test .taken), ← closes-comment .ensures, if1 .taken)
-
-star-after-requires : tie.Need-star-after-requires Inv-loop μ-loop
-star-after-requires c κs = search needs
-
-add-i : tie.Need-add-i Inv-loop μ-loop
-add-i c = search needs
-
-loop-less : tie.Need-loop-less Inv-loop μ-loop
-loop-less c = search needs
 
 loop-again : tie.Need-loop-again Inv-loop μ-loop
 unfolding commentEnd pick
@@ -81,16 +60,5 @@ returns-2 c =
 pub comment-end-spec : {M : Type 1} → statement M
 comment-end-spec =
     tie.close
-    (tie.spec
-    Inv-loop
-    μ-loop
-    loop-holds
-    shared-slice-read-b
-    closes-comment-requires
-    add-t11
-    returns
-    star-after-requires
-    add-i
-    loop-less
-    loop-again
-    returns-2)
+    (tie.spec Inv-loop μ-loop (λ c. search needs) (λ c. search needs) (λ c κs. search needs) (λ c. search needs)
+    returns (λ c κs. search needs) (λ c. search needs) (λ c. search needs) loop-again returns-2)

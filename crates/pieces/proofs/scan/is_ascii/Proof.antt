@@ -18,12 +18,6 @@ Inv-loop text i₀ i = isAscii (drop i text) ≡ isAscii text
 abbrev μ-loop : tie.MeasureT-loop
 μ-loop text i₀ i = length text - i
 
-loop-holds : tie.Need-loop-holds Inv-loop μ-loop
-loop-holds c = search needs
-
-shared-slice-read-if1 : tie.Need-shared-slice-read-if1 Inv-loop μ-loop
-shared-slice-read-if1 c = search needs
-
 returns : tie.Need-returns Inv-loop μ-loop
 unfolding isAscii pick
 returns c =
@@ -33,12 +27,6 @@ returns c =
     let if1 = c .if1 in
     let s = now (a .text) in
     rw (← loop .inv, drop-cons s (loop .i) 0 (loop-test .taken), lt-ltb _ _ (if1 .taken))
-
-add-i : tie.Need-add-i Inv-loop μ-loop
-add-i c = search needs
-
-loop-less : tie.Need-loop-less Inv-loop μ-loop
-loop-less c = search needs
 
 loop-again : tie.Need-loop-again Inv-loop μ-loop
 unfolding isAscii pick
@@ -62,13 +50,5 @@ returns-2 c =
 pub is-ascii-spec : {M : Type 1} → statement M
 is-ascii-spec =
     tie.close
-    (tie.spec
-    Inv-loop
-    μ-loop
-    loop-holds
-    shared-slice-read-if1
-    returns
-    add-i
-    loop-less
-    loop-again
-    returns-2)
+    (tie.spec Inv-loop μ-loop (λ c. search needs) (λ c. search needs) returns (λ c. search needs) (λ c. search needs)
+    loop-again returns-2)

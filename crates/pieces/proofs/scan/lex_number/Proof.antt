@@ -24,12 +24,6 @@ abbrev μ-loop : tie.MeasureT-loop
 loop-holds : tie.Need-loop-holds Inv-loop μ-loop
 loop-holds c = (0, sym (capped-low 0 (omega arith)), refl)
 
-shared-slice-read-b : tie.Need-shared-slice-read-b Inv-loop μ-loop
-shared-slice-read-b c = search needs
-
-is-digit-requires : tie.Need-is-digit-requires Inv-loop μ-loop
-is-digit-requires c κs = search needs
-
 returns : tie.Need-returns Inv-loop μ-loop
 unfolding digitsFrom pick
 returns c =
@@ -53,9 +47,6 @@ grow-requires c κs =
     let is-digit = c .before .is-digit in
     let if1 = c .if1 in
     (rw (loop .inv .1) (capped-most (loop .inv .0)), sym (is-digit .ensures) ∙ not-false _ (if1 .left))
-
-add-i : tie.Need-add-i Inv-loop μ-loop
-add-i c = search needs
 
 loop-less : tie.Need-loop-less Inv-loop μ-loop
 loop-less c = omega arith
@@ -95,15 +86,5 @@ returns-2 c =
 pub lex-number-spec : {M : Type 1} → statement M
 lex-number-spec =
     tie.close
-    (tie.spec
-    Inv-loop
-    μ-loop
-    loop-holds
-    shared-slice-read-b
-    is-digit-requires
-    returns
-    grow-requires
-    add-i
-    loop-less
-    loop-again
-    returns-2)
+    (tie.spec Inv-loop μ-loop loop-holds (λ c. search needs) (λ c κs. search needs) returns grow-requires
+    (λ c. search needs) loop-less loop-again returns-2)

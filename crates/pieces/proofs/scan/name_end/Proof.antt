@@ -18,15 +18,6 @@ Inv-loop text at i₀ i = nameEnd (drop i text) i ≡ nameEnd (drop at text) at
 abbrev μ-loop : tie.MeasureT-loop
 μ-loop text at i₀ i = length text - i
 
-loop-holds : tie.Need-loop-holds Inv-loop μ-loop
-loop-holds c = search needs
-
-shared-slice-read-b : tie.Need-shared-slice-read-b Inv-loop μ-loop
-shared-slice-read-b c = search needs
-
-is-name-part-requires : tie.Need-is-name-part-requires Inv-loop μ-loop
-is-name-part-requires c κs = search needs
-
 returns : tie.Need-returns Inv-loop μ-loop
 unfolding nameEnd pick
 returns c =
@@ -42,12 +33,6 @@ returns c =
       ← is-name-part .ensures,
       not-true (is-name-part .result) (if1 .taken),
     )
-
-add-i : tie.Need-add-i Inv-loop μ-loop
-add-i c = search needs
-
-loop-less : tie.Need-loop-less Inv-loop μ-loop
-loop-less c = search needs
 
 loop-again : tie.Need-loop-again Inv-loop μ-loop
 unfolding nameEnd pick
@@ -78,14 +63,5 @@ returns-2 c =
 pub name-end-spec : {M : Type 1} → statement M
 name-end-spec =
     tie.close
-    (tie.spec
-    Inv-loop
-    μ-loop
-    loop-holds
-    shared-slice-read-b
-    is-name-part-requires
-    returns
-    add-i
-    loop-less
-    loop-again
-    returns-2)
+    (tie.spec Inv-loop μ-loop (λ c. search needs) (λ c. search needs) (λ c κs. search needs) returns
+    (λ c. search needs) (λ c. search needs) loop-again returns-2)

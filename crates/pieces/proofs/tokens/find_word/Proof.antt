@@ -35,20 +35,11 @@ is-row-requires c κs =
     let fit = fit-step (25 - (loop .row + 1)) (loop .row) (now (a .table)) (rw (← e) (loop .inv .2)) in
     omega arith
 
-mul-kind : tie.Need-mul-kind Inv-loop μ-loop
-mul-kind c = search needs
-
-shared-slice-read-value-of : tie.Need-shared-slice-read-value-of Inv-loop μ-loop
-shared-slice-read-value-of c = search needs
-
 cast-value-of : tie.Need-cast-value-of Inv-loop μ-loop
 cast-value-of c =
     let shared-slice-known3 = c .shared-slice-known3 in
     let loop = c .before .before .before .before .loop in
     omega (arith, shared-slice-known3 .given (loop .row * 7))
-
-value-of-requires : tie.Need-value-of-requires Inv-loop μ-loop
-value-of-requires c κs = search needs
 
 returns : tie.Need-returns Inv-loop μ-loop
 unfolding rowsFrom wordIn pick
@@ -59,9 +50,6 @@ returns c =
     let value-of = c .value-of in
     let e : 25 - loop .row ≡ suc (25 - (loop .row + 1)) = omega arith in
     rw (← loop .inv .1, e, ← is-row .ensures, if1 .taken, value-of .ensures)
-
-add-row : tie.Need-add-row Inv-loop μ-loop
-add-row c = search needs
 
 loop-less : tie.Need-loop-less Inv-loop μ-loop
 loop-less c = omega arith
@@ -87,17 +75,5 @@ returns-2 c =
 pub find-word-spec : {M : Type 1} → statement M
 find-word-spec =
     tie.close
-    (tie.spec
-    Inv-loop
-    μ-loop
-    loop-holds
-    is-row-requires
-    mul-kind
-    shared-slice-read-value-of
-    cast-value-of
-    value-of-requires
-    returns
-    add-row
-    loop-less
-    loop-again
-    returns-2)
+    (tie.spec Inv-loop μ-loop loop-holds is-row-requires (λ c. search needs) (λ c. search needs) cast-value-of
+    (λ c κs. search needs) returns (λ c. search needs) loop-less loop-again returns-2)

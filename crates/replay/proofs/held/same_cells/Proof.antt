@@ -19,15 +19,6 @@ abbrev μ-loop : tie.MeasureT-loop
 loop-holds : tie.Need-loop-holds Inv-loop μ-loop
 loop-holds c = (omega arith, refl)
 
-mul-is-at : tie.Need-mul-is-at Inv-loop μ-loop
-mul-is-at c = search needs
-
-shared-slice-read-is-at : tie.Need-shared-slice-read-is-at Inv-loop μ-loop
-shared-slice-read-is-at c = search needs
-
-is-at-requires : tie.Need-is-at-requires Inv-loop μ-loop
-is-at-requires c κs = search needs
-
 returns : tie.Need-returns Inv-loop μ-loop
 returns c =
     let a = c .before .before .before .before .before .before .before .args in
@@ -37,12 +28,6 @@ returns c =
     let if1 = c .if1 in
     differs (a .rest) (now (a .got)) (now (a .list)) (loop .i) (loop .inv .1) (loop-test .taken)
     (sym (is-at .ensures) ∙ not-true (is-at .result) (if1 .taken))
-
-add-i : tie.Need-add-i Inv-loop μ-loop
-add-i c = search needs
-
-loop-less : tie.Need-loop-less Inv-loop μ-loop
-loop-less c = search needs
 
 loop-again : tie.Need-loop-again Inv-loop μ-loop
 loop-again c =
@@ -65,15 +50,5 @@ returns-2 c =
 pub same-cells-spec : {M : Type 1} → statement M
 same-cells-spec =
     tie.close
-    (tie.spec
-    Inv-loop
-    μ-loop
-    loop-holds
-    mul-is-at
-    shared-slice-read-is-at
-    is-at-requires
-    returns
-    add-i
-    loop-less
-    loop-again
-    returns-2)
+    (tie.spec Inv-loop μ-loop loop-holds (λ c. search needs) (λ c. search needs) (λ c κs. search needs) returns
+    (λ c. search needs) (λ c. search needs) loop-again returns-2)

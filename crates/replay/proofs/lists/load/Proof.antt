@@ -13,14 +13,8 @@ Inv-loop «data» from quoted cells₀ left₀ at₀ count₀ cells left at coun
 abbrev μ-loop : tie.MeasureT-loop
 μ-loop «data» from quoted cells₀ left₀ at₀ count₀ cells left at count = left
 
-number-at-requires : tie.Need-number-at-requires Inv-loop μ-loop
-number-at-requires c κs = search needs
-
 loop-holds : tie.Need-loop-holds Inv-loop μ-loop
 loop-holds c = all-left _ _ _ _ _ (c .number-at .ensures)
-
-same-length : tie.Need-same-length Inv-loop μ-loop
-same-length c = search needs
 
 returns : tie.Need-returns Inv-loop μ-loop
 returns c =
@@ -29,15 +23,6 @@ returns c =
     let a = c .before .before .before .before .before .before .args in
     at-end (a .quoted) (now (a .«data»)) (a .from) (now (a .cells)) (loop .cells) (loop .left) (loop .at)
     (loop .count) (loop .inv) _ refl refl (if1 .taken)
-
-load-run-requires : tie.Need-load-run-requires Inv-loop μ-loop
-load-run-requires c κs = search needs
-
-sub-left : tie.Need-sub-left Inv-loop μ-loop
-sub-left c = search needs
-
-loop-less : tie.Need-loop-less Inv-loop μ-loop
-loop-less c = search needs
 
 loop-again : tie.Need-loop-again Inv-loop μ-loop
 loop-again c =
@@ -50,9 +35,6 @@ loop-again c =
     (loop .count) (loop .inv)
     (load-run .last .1 .1 .1 .0) (load-run .result) (loop-test .taken) (load-run .kept .1 .1 .1 .0) (load-run .ensures)
 
-same-length-2 : tie.Need-same-length-2 Inv-loop μ-loop
-same-length-2 c = search needs
-
 returns-2 : tie.Need-returns-2 Inv-loop μ-loop
 returns-2 c =
     let loop-test = c .loop-test in
@@ -64,16 +46,5 @@ returns-2 c =
 pub load-spec : {M : Type 1} → statement M
 load-spec =
     tie.close
-    (tie.spec
-    Inv-loop
-    μ-loop
-    number-at-requires
-    loop-holds
-    same-length
-    returns
-    load-run-requires
-    sub-left
-    loop-less
-    loop-again
-    same-length-2
-    returns-2)
+    (tie.spec Inv-loop μ-loop (λ c κs. search needs) loop-holds (λ c. search needs) returns (λ c κs. search needs)
+    (λ c. search needs) (λ c. search needs) loop-again (λ c. search needs) returns-2)

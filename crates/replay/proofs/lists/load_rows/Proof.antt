@@ -37,15 +37,6 @@ load-row-requires c κs =
     let less = once-less (loop .left) w (c .before .loop-test .taken) in
     omega (arith, less)
 
-add-row : tie.Need-add-row Inv-loop μ-loop
-add-row c = search needs
-
-sub-left : tie.Need-sub-left Inv-loop μ-loop
-sub-left c = search needs
-
-loop-less : tie.Need-loop-less Inv-loop μ-loop
-loop-less c = search needs
-
 loop-again : tie.Need-loop-again Inv-loop μ-loop
 unfolding pick
 loop-again c =
@@ -63,12 +54,6 @@ loop-again c =
           (values-length false (now (a .«data»)) (a .width) (a .from)) (omega arith) (load-row .ensures .1)
           ∙ loop .inv .3,
     )
-
-add-t15 : tie.Need-add-t15 Inv-loop μ-loop
-add-t15 c = search needs
-
-same-length : tie.Need-same-length Inv-loop μ-loop
-same-length c = search needs
 
 returns : tie.Need-returns Inv-loop μ-loop
 unfolding pick
@@ -88,15 +73,5 @@ returns c =
 pub load-rows-spec : {M : Type 1} → statement M
 load-rows-spec =
     tie.close
-    (tie.spec
-    Inv-loop
-    μ-loop
-    loop-holds
-    load-row-requires
-    add-row
-    sub-left
-    loop-less
-    loop-again
-    add-t15
-    same-length
-    returns)
+    (tie.spec Inv-loop μ-loop loop-holds load-row-requires (λ c. search needs) (λ c. search needs) (λ c. search needs)
+    loop-again (λ c. search needs) (λ c. search needs) returns)

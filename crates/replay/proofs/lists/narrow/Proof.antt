@@ -22,9 +22,6 @@ abbrev μ-loop : tie.MeasureT-loop
 loop-holds : tie.Need-loop-holds Inv-loop μ-loop
 loop-holds c = (refl, refl)
 
-same-length : tie.Need-same-length Inv-loop μ-loop
-same-length c = search needs
-
 returns : tie.Need-returns Inv-loop μ-loop
 unfolding lowBytes
 returns c =
@@ -32,24 +29,6 @@ returns c =
     let loop = c .before .before .loop in
     let if1 = c .if1 in
     rw (← loop .inv .1, drop-of-length-le (now (a .cells)) {i = loop .i} (if1 .taken))
-
-mul-bytes : tie.Need-mul-bytes Inv-loop μ-loop
-mul-bytes c = search needs
-
-shared-slice-read-bytes : tie.Need-shared-slice-read-bytes Inv-loop μ-loop
-shared-slice-read-bytes c = search needs
-
-cast-bytes : tie.Need-cast-bytes Inv-loop μ-loop
-cast-bytes c = search needs
-
-slice-write-bytes : tie.Need-slice-write-bytes Inv-loop μ-loop
-slice-write-bytes c = search needs
-
-add-i : tie.Need-add-i Inv-loop μ-loop
-add-i c = search needs
-
-loop-less : tie.Need-loop-less Inv-loop μ-loop
-loop-less c = search needs
 
 loop-again : tie.Need-loop-again Inv-loop μ-loop
 unfolding lowBytes
@@ -59,9 +38,6 @@ loop-again c =
       simp length-set (loop .inv .0),
       rw (← loop .inv .1, drop-cons (now (a .cells)) (loop .i) 0 (omega arith), add-one (loop .i)),
     )
-
-same-length-2 : tie.Need-same-length-2 Inv-loop μ-loop
-same-length-2 c = search needs
 
 returns-2 : tie.Need-returns-2 Inv-loop μ-loop
 unfolding lowBytes
@@ -74,18 +50,6 @@ returns-2 c =
 pub narrow-spec : {M : Type 1} → statement M
 narrow-spec =
     tie.close
-    (tie.spec
-    Inv-loop
-    μ-loop
-    loop-holds
-    same-length
-    returns
-    mul-bytes
-    shared-slice-read-bytes
-    cast-bytes
-    slice-write-bytes
-    add-i
-    loop-less
-    loop-again
-    same-length-2
+    (tie.spec Inv-loop μ-loop loop-holds (λ c. search needs) returns (λ c. search needs) (λ c. search needs)
+    (λ c. search needs) (λ c. search needs) (λ c. search needs) (λ c. search needs) loop-again (λ c. search needs)
     returns-2)

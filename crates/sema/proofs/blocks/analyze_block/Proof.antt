@@ -25,15 +25,6 @@ abbrev μ-loop : tie.MeasureT-loop
 loop-holds : tie.Need-loop-holds Inv-loop μ-loop
 loop-holds c = (refl, refl, refl)
 
-analyze-op-requires : tie.Need-analyze-op-requires Inv-loop μ-loop
-analyze-op-requires c κs = search needs
-
-enum-known-e : tie.Need-enum-known-e Inv-loop μ-loop
-enum-known-e c = search needs
-
-same-length : tie.Need-same-length Inv-loop μ-loop
-same-length c = search needs
-
 returns : tie.Need-returns Inv-loop μ-loop
 returns c =
     let e = c .before .e in
@@ -49,15 +40,6 @@ returns c =
 
 enum-told : tie.Need-enum-told Inv-loop μ-loop
 enum-told c = search needs
-
-add-at : tie.Need-add-at Inv-loop μ-loop
-add-at c = search needs
-
-sub-left : tie.Need-sub-left Inv-loop μ-loop
-sub-left c = search needs
-
-loop-less : tie.Need-loop-less Inv-loop μ-loop
-loop-less c = search needs
 
 loop-again : tie.Need-loop-again Inv-loop μ-loop
 loop-again c =
@@ -75,12 +57,6 @@ loop-again c =
           (loop .at) (loop .left) (loop .inv .2) (loop-test .taken) (analyze-op .ensures) (enum-told .given .1),
     )
 
-expect-terminator-requires : tie.Need-expect-terminator-requires Inv-loop μ-loop
-expect-terminator-requires c κs = search needs
-
-same-length-2 : tie.Need-same-length-2 Inv-loop μ-loop
-same-length-2 c = search needs
-
 returns-2 : tie.Need-returns-2 Inv-loop μ-loop
 returns-2 c =
     let expect-terminator = c .expect-terminator in
@@ -95,19 +71,6 @@ returns-2 c =
 pub analyze-block-spec : {M : Type 1} → statement M
 analyze-block-spec =
     tie.close
-    (tie.spec
-    Inv-loop
-    μ-loop
-    loop-holds
-    analyze-op-requires
-    enum-known-e
-    same-length
-    returns
-    enum-told
-    add-at
-    sub-left
-    loop-less
-    loop-again
-    expect-terminator-requires
-    same-length-2
-    returns-2)
+    (tie.spec Inv-loop μ-loop loop-holds (λ c κs. search needs) (λ c. search needs) (λ c. search needs) returns
+    enum-told (λ c. search needs) (λ c. search needs) (λ c. search needs) loop-again (λ c κs. search needs)
+    (λ c. search needs) returns-2)

@@ -27,27 +27,6 @@ abbrev μ-loop : tie.MeasureT-loop
 loop-holds : tie.Need-loop-holds Inv-loop μ-loop
 loop-holds c = (refl, refl, refl)
 
-argument-at-requires : tie.Need-argument-at-requires Inv-loop μ-loop
-argument-at-requires c κs = search needs
-
-get-requires : tie.Need-get-requires Inv-loop μ-loop
-get-requires c κs = search needs
-
-add-expect-type : tie.Need-add-expect-type Inv-loop μ-loop
-add-expect-type c = search needs
-
-mul-expect-type : tie.Need-mul-expect-type Inv-loop μ-loop
-mul-expect-type c = search needs
-
-shared-slice-read-expect-type : tie.Need-shared-slice-read-expect-type Inv-loop μ-loop
-shared-slice-read-expect-type c = search needs
-
-expect-type-requires : tie.Need-expect-type-requires Inv-loop μ-loop
-expect-type-requires c κs = search needs
-
-enum-known-e : tie.Need-enum-known-e Inv-loop μ-loop
-enum-known-e c = search needs
-
 returns : tie.Need-returns Inv-loop μ-loop
 unfolding typesOf sameAll
 returns c =
@@ -66,18 +45,6 @@ returns c =
 
 enum-told : tie.Need-enum-told Inv-loop μ-loop
 enum-told c = search needs
-
-add-at : tie.Need-add-at Inv-loop μ-loop
-add-at c = search needs
-
-add-wanted : tie.Need-add-wanted Inv-loop μ-loop
-add-wanted c = search needs
-
-sub-left : tie.Need-sub-left Inv-loop μ-loop
-sub-left c = search needs
-
-loop-less : tie.Need-loop-less Inv-loop μ-loop
-loop-less c = search needs
 
 loop-again : tie.Need-loop-again Inv-loop μ-loop
 unfolding typesOf sameAll
@@ -109,22 +76,6 @@ returns-2 c =
 pub compare-arguments-spec : {M : Type 1} → statement M
 compare-arguments-spec =
     tie.close
-    (tie.spec
-    Inv-loop
-    μ-loop
-    loop-holds
-    argument-at-requires
-    get-requires
-    add-expect-type
-    mul-expect-type
-    shared-slice-read-expect-type
-    expect-type-requires
-    enum-known-e
-    returns
-    enum-told
-    add-at
-    add-wanted
-    sub-left
-    loop-less
-    loop-again
-    returns-2)
+    (tie.spec Inv-loop μ-loop loop-holds (λ c κs. search needs) (λ c κs. search needs) (λ c. search needs)
+    (λ c. search needs) (λ c. search needs) (λ c κs. search needs) (λ c. search needs) returns enum-told
+    (λ c. search needs) (λ c. search needs) (λ c. search needs) (λ c. search needs) loop-again returns-2)

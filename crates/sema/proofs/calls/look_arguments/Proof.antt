@@ -27,15 +27,6 @@ abbrev μ-loop : tie.MeasureT-loop
 loop-holds : tie.Need-loop-holds Inv-loop μ-loop
 loop-holds c = (refl, refl)
 
-argument-at-requires : tie.Need-argument-at-requires Inv-loop μ-loop
-argument-at-requires c κs = search needs
-
-get-requires : tie.Need-get-requires Inv-loop μ-loop
-get-requires c κs = search needs
-
-refuse-requires : tie.Need-refuse-requires Inv-loop μ-loop
-refuse-requires c κs = search needs
-
 returns : tie.Need-returns Inv-loop μ-loop
 unfolding presentD thenLook pick
 returns c =
@@ -50,15 +41,6 @@ returns c =
     let v = ap (λ (x : Identifier). getD t (x .0) 0) (sym (argument-at .ensures)) ∙ sym (get .ensures) in
     let m = variables-more (now (a .arguments)) (loop .at) (loop .left) (loop-test .taken) in
     rw (← loop .inv .1, m, eq-eqb _ _ (v ∙ if1 .taken), refuse .ensures, argument-at .ensures)
-
-add-at : tie.Need-add-at Inv-loop μ-loop
-add-at c = search needs
-
-sub-left : tie.Need-sub-left Inv-loop μ-loop
-sub-left c = search needs
-
-loop-less : tie.Need-loop-less Inv-loop μ-loop
-loop-less c = search needs
 
 loop-again : tie.Need-loop-again Inv-loop μ-loop
 unfolding presentD thenLook pick
@@ -84,16 +66,5 @@ returns-2 c =
 pub look-arguments-spec : {M : Type 1} → statement M
 look-arguments-spec =
     tie.close
-    (tie.spec
-    Inv-loop
-    μ-loop
-    loop-holds
-    argument-at-requires
-    get-requires
-    refuse-requires
-    returns
-    add-at
-    sub-left
-    loop-less
-    loop-again
-    returns-2)
+    (tie.spec Inv-loop μ-loop loop-holds (λ c κs. search needs) (λ c κs. search needs) (λ c κs. search needs) returns
+    (λ c. search needs) (λ c. search needs) (λ c. search needs) loop-again returns-2)

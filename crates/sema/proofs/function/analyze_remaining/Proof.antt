@@ -25,17 +25,8 @@ Inv-loop tokens rows n ret table₀ items arguments blocks first order left₀ t
 abbrev μ-loop : tie.MeasureT-loop
 μ-loop tokens rows n ret table₀ items arguments blocks first order left₀ table left = left .blocks - left .taken
 
-loop-holds : tie.Need-loop-holds Inv-loop μ-loop
-loop-holds c = search needs
-
-pop-requires : tie.Need-pop-requires Inv-loop μ-loop
-pop-requires c κs = search needs
-
 enum-told : tie.Need-enum-told Inv-loop μ-loop
 enum-told c = search needs
-
-same-length : tie.Need-same-length Inv-loop μ-loop
-same-length c = search needs
 
 returns : tie.Need-returns Inv-loop μ-loop
 returns c =
@@ -48,24 +39,6 @@ returns c =
     (blocksAt (now (a .items)) (now (a .arguments)) (now (a .blocks)) (a .first) (remaining (now (a .order)) (a .work)))
     (loop .table) (now (a .items)) (now (a .arguments)) (now (a .blocks)) (a .first) (now (a .order)) (loop .left)
     (loop .inv .0) (pre .2) (loop .inv .2) (sym (pop .ensures) ∙ enum-told .given .1)
-
-enum-known-b : tie.Need-enum-known-b Inv-loop μ-loop
-enum-known-b c = search needs
-
-cast-k : tie.Need-cast-k Inv-loop μ-loop
-cast-k c = search needs
-
-add-k : tie.Need-add-k Inv-loop μ-loop
-add-k c = search needs
-
-analyze-recorded-requires : tie.Need-analyze-recorded-requires Inv-loop μ-loop
-analyze-recorded-requires c κs = search needs
-
-enum-known-e : tie.Need-enum-known-e Inv-loop μ-loop
-enum-known-e c = search needs
-
-same-length-2 : tie.Need-same-length-2 Inv-loop μ-loop
-same-length-2 c = search needs
 
 returns-2 : tie.Need-returns-2 Inv-loop μ-loop
 returns-2 c =
@@ -82,9 +55,6 @@ returns-2 c =
     (blocksAt (now (a .items)) (now (a .arguments)) (now (a .blocks)) (a .first) (remaining (now (a .order)) (a .work)))
     (loop .table) (now (a .items)) (now (a .arguments)) (now (a .blocks)) (a .first) (now (a .order)) (loop .left)
     (loop .inv .0) (pre .2) (loop .inv .2) (sym (pop .ensures) ∙ b .given .1) (analyze-recorded .ensures) (e .given .1)
-
-enum-told-2 : tie.Need-enum-told-2 Inv-loop μ-loop
-enum-told-2 c = search needs
 
 loop-less : tie.Need-loop-less Inv-loop μ-loop
 loop-less c =
@@ -129,21 +99,6 @@ loop-again c =
 pub analyze-remaining-spec : {M : Type 1} → statement M
 analyze-remaining-spec =
     tie.close
-    (tie.spec
-    Inv-loop
-    μ-loop
-    loop-holds
-    pop-requires
-    enum-told
-    same-length
-    returns
-    enum-known-b
-    cast-k
-    add-k
-    analyze-recorded-requires
-    enum-known-e
-    same-length-2
-    returns-2
-    enum-told-2
-    loop-less
-    loop-again)
+    (tie.spec Inv-loop μ-loop (λ c. search needs) (λ c κs. search needs) enum-told (λ c. search needs) returns
+    (λ c. search needs) (λ c. search needs) (λ c. search needs) (λ c κs. search needs) (λ c. search needs)
+    (λ c. search needs) returns-2 (λ c. search needs) loop-less loop-again)
