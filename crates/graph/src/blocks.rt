@@ -8,28 +8,24 @@ use crate::BLOCK_CELLS;
 use crate::BlockId;
 use crate::BlockRecord;
 use utils::cell_at;
+use utils::put_cells;
 
 // Stores record i.
 pub fn put_block(blocks: &mut [u32], i: usize, b: BlockRecord)
     requires { ⌜ i * 8 + 8 ≤ length (now blocks) ⌝ }
     ensures { λ _. ⌜ now (blocks .exit) ≡ sets (now (blocks .entry)) (i * 8) (cellsOf b) ⌝ }
 {
-    let at = i * BLOCK_CELLS;
-    let a1 = at + 1;
-    let a2 = at + 2;
-    let a3 = at + 3;
-    let a4 = at + 4;
-    let a5 = at + 5;
-    let a6 = at + 6;
-    let a7 = at + 7;
-    blocks[at] = b.first;
-    blocks[a1] = b.operations;
-    blocks[a2] = b.successors;
-    blocks[a3] = b.to.0;
-    blocks[a4] = b.other.0;
-    blocks[a5] = b.entries;
-    blocks[a6] = b.predecessors;
-    blocks[a7] = b.dead;
+    let cells = [
+        b.first,
+        b.operations,
+        b.successors,
+        b.to.0,
+        b.other.0,
+        b.entries,
+        b.predecessors,
+        b.dead,
+    ];
+    put_cells(blocks, i * BLOCK_CELLS, &cells);
 }
 
 // Record i, with 0 for every cell past the end.

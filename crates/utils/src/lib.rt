@@ -42,6 +42,18 @@ pub fn cell_at(cells: &[u32], at: usize) -> u32
     0
 }
 
+// Stores cells one after the other, from a place on.
+pub fn put_cells(cells: &mut [u32], at: usize, part: &[u32])
+    requires { ⌜ at + length (now part) ≤ length (now cells) ⌝ }
+    ensures { λ _. ⌜ now (cells .exit) ≡ sets (now (cells .entry)) at (now (part .entry)) ⌝ }
+{
+    let mut i: usize = 0;
+    while i < part.len() {
+        cells[at + i] = part[i];
+        i += 1;
+    }
+}
+
 // Stores a part from a place on, and hands back the place after it.
 pub fn put(buf: &mut [u8], at: usize, part: &[u8]) -> usize
     requires { ⌜ at + length (now part) ≤ length (now buf) ⌝ }
