@@ -2,30 +2,47 @@
 use Prim.Native.Nat.{ℕ, suc, _+_, _-_, _*_, _%_, _/_, _≤_, _<_}
 use mathlib.Core.Path.{_≡_, refl, sym, ap, _∙_}
 use mathlib.Core.List.{List, [], _∷_}
-use mathlib.Core.Bool.{Bool, true, false}
+use mathlib.Core.Bool.{Bool, true, false, not, _&&_}
 use native.Mathlib.Omega.{arith}
 use native.Mathlib.Nat.{mod-mod, mod-eq-of-lt, mod-lt, add-mul-mod-self-left, mod-add-div, add-zero}
 use native.Mathlib.Numerals.{add-one}
 use borrow.Author.Tests.{leb-true, ne-eqb, eq-eqb}
 use lib.Dec.{leb}
 use lib.ListN.{length, drop, getD, length-drop, drop-of-length-le}
-use lib.Seq.{drop-cons}
+use lib.Seq.{drop-cons, drop-length}
 use Rattle.utils.specs.Bytes.{pick}
-use Rattle.replay.specs.Numbers.{number, isDigit, toDigit, digitsOf, decimal, numberAt}
+use Rattle.replay.specs.Numbers.{number, isDigit, inComment, toDigit, digitsOf, decimal, numberAt}
 
--- a choice between a test and false is true where both are
-both-true : (t u : Bool) → pick t u false ≡ true → (t ≡ true) × (u ≡ true)
-unfolding pick
+both-true : (t u : Bool) → t && u ≡ true → (t ≡ true) × (u ≡ true)
 both-true true u e = (refl, e)
 both-true false u e = absurd (let z : _≡_ {A = ℕ} 0 1 = cc in omega arith)
 
 pub digit-low : (b : ℕ) → isDigit b ≡ true → 48 ≤ b
-unfolding isDigit
 digit-low b e = leb-true 48 b (both-true (leb 48 b) (leb b 57) e .0)
 
 pub digit-high : (b : ℕ) → isDigit b ≡ true → b ≤ 57
-unfolding isDigit
 digit-high b e = leb-true b 57 (both-true (leb 48 b) (leb b 57) e .1)
+
+-- one byte of what is left, before the next digit
+module _ (s : List ℕ) (from at : ℕ) (before : Bool)
+    (known : toDigit before (drop at s) ≡ toDigit false (drop from s)) where
+  module _ (comment digit : Bool) (h : at < length s) (in-comment : comment ≡ inComment before (getD s at 0))
+      (is-digit : digit ≡ isDigit (getD s at 0)) where
+    one-byte : toDigit before (drop at s) ≡ pick (digit && not comment) (drop at s) (toDigit comment (drop (at + 1) s))
+    unfolding toDigit
+    one-byte = rw (drop-cons s at 0 h, in-comment, is-digit, add-one at)
+
+    pub digit-here : digit && not comment ≡ true → drop at s ≡ toDigit false (drop from s)
+    unfolding pick
+    digit-here e = (rw e at (sym one-byte)) ∙ known
+
+    pub digit-later : digit && not comment ≡ false → toDigit comment (drop (at + 1) s) ≡ toDigit false (drop from s)
+    unfolding pick
+    digit-later e = (rw e at (sym one-byte)) ∙ known
+
+  pub digit-nowhere : length s ≤ at → drop (length s) s ≡ toDigit false (drop from s)
+  unfolding toDigit
+  digit-nowhere h = rw (← known, drop-of-length-le s {i = at} h) (drop-length s)
 
 digit-mod : (v d : ℕ) → (v % 4294967296 * 10 + d) % 4294967296 ≡ (v * 10 + d) % 4294967296
 digit-mod v d =

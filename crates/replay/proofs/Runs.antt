@@ -1,14 +1,14 @@
 -- Runs one behind the other: what the code makes of a run's numbers, and what is left at the file's end.
 use Prim.Native.Nat.{ℕ, zero, suc, _+_, _-_, _*_, _≤_, _<_, min}
 use mathlib.Core.Path.{_≡_, refl, sym, ap, _∙_}
-use mathlib.Core.List.{List, [], _++_, append-nil}
+use mathlib.Core.List.{List, [], _∷_, _++_, append-nil}
 use mathlib.Core.Bool.{Bool, true, false}
 use native.Mathlib.Omega.{arith}
 use native.Mathlib.Nat.{add-zero}
-use borrow.Author.Tests.{lt-ltb, le-ltb, le-leb, leb-true, ltb-true, ltb-false, eq-eqb, ne-eqb, eqb-true, eqb-false}
+use borrow.Author.Tests.{lt-ltb, le-ltb, le-leb, lt-leb, leb-true, ltb-true, ltb-false, eq-eqb, ne-eqb, eqb-true, eqb-false}
 use lib.Dec.{leb, ltb, eqb}
 use lib.ListN.{length, take, drop, length-append}
-use lib.Seq.{sets, sets-eq, slice, drop-length, take-at}
+use lib.Seq.{sets, sets-eq, slice, drop-length, take-at, length-take-le}
 use Rattle.utils.specs.Bytes.{pick}
 use Rattle.utils.proofs.Runs.{sets-append}
 use Rattle.replay.specs.Numbers.{number, toDigit, digitsOf, numberAt}
@@ -24,6 +24,8 @@ use Rattle.replay.specs.Lists.{
   runsAt,
   listAt,
   Stored,
+  lowBytes,
+  textAt,
 }
 use Rattle.replay.specs.declared.Number.{Number}
 use Rattle.replay.specs.declared.Loaded.{Loaded}
@@ -275,6 +277,10 @@ module _ (quoted : Bool) (s : List ℕ) (from : ℕ) (before : List ℕ) where
               ∙ rw (new .cells) (sym (sets-append (run .cells) (rest .cells) cells count) ∙ c);
         }
 
+-- a part of a slice with so many cells has so many
+pub count-lent : (n m : ℕ) (after : List ℕ) → n ≤ m → length after ≡ m → n ≡ length (take n after)
+count-lent n m after h l = sym (length-take-le n after (omega arith))
+
 -- a list that is stored stands first
 pub stored-first : (list : Values) (before after : List ℕ) (r : Loaded) → Stored 0 list before r after
     → r .count ≤ length before
@@ -284,3 +290,30 @@ stored-first list before after r stored h =
     let k : 0 + length (list .cells) ≤ length before = omega arith in
     rw (stored .cells, sets-eq (list .cells) before 0 k)
     (take-at (list .cells) (drop (0 + length (list .cells)) before) (r .count) l)
+
+low-length : (l : List ℕ) → length (lowBytes l) ≡ length l
+unfolding lowBytes
+low-length [] = refl
+low-length (x ∷ xs) = ap suc (low-length xs)
+
+-- a text from the list that was loaded for it
+module _ (s before text : List ℕ) (room from : ℕ) (list : Loaded) (after : List ℕ)
+    (stored : Stored 0 (listAt true s room from) before list after) where
+  pub text-too-long : (r : Loaded) → length text < list .count → r .count ≡ 0 → r .next ≡ length s
+      → Stored 0 (textAt s room (length text) from) text r text
+  unfolding textAt fitting pick lowBytes
+  text-too-long r h p q =
+      let l : length text < length (listAt true s room from .cells) = omega (arith, stored .count) in
+      rw (lt-leb _ _ l) record { count = p; next = q; cells = refl }
+
+  pub text-fits : (text′ : List ℕ) → list .count ≤ length text
+      → text′ ≡ sets text 0 (lowBytes (listAt true s room from .cells))
+      → Stored 0 (textAt s room (length text) from) text list text′
+  unfolding textAt fitting pick
+  text-fits text′ h e =
+      let l : length (listAt true s room from .cells) ≤ length text = omega (arith, stored .count) in
+      rw (le-leb _ _ l) record {
+        count = omega (arith, stored .count, low-length (listAt true s room from .cells));
+        next = stored .next;
+        cells = e;
+      }

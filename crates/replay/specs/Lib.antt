@@ -3,5 +3,7 @@
 pub mod Numbers
 -- lists of numbers and of bytes
 pub mod Lists
--- what a slice must hold by a list, and what the file must hold at its end
+-- an answer's numbers and slices, held to the file
 pub mod Held
+-- lists of cases, and what the file must hold at its end
+pub mod Cases

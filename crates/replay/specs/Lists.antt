@@ -3,7 +3,7 @@
 -- The values of a list of bytes stand between quotes, behind a blank.
 use Prim.Native.Nat.{ℕ, zero, suc, _+_, _-_, _*_, _%_, min}
 use mathlib.Core.List.{List, [], _∷_, _++_}
-use mathlib.Core.Bool.{Bool, false}
+use mathlib.Core.Bool.{Bool, true, false}
 use mathlib.Core.Path.{_≡_}
 use lib.Dec.{leb, ltb, eqb}
 use lib.ListN.{length, getD}
@@ -71,6 +71,10 @@ runAt quoted s at =
     let steps = valuesAt false s (width .value) (once .next) in
     pick (ltb 1 (times .value)) (values (repeated (times .value) (once .cells) (steps .cells)) (steps .next)) once
 
+-- so many cells a list of a file has at the most
+abbrev pub room : ℕ
+room = 24592
+
 -- A run for which a slice has no room makes the file malformed.
 unfoldable pub fitting : ℕ → ℕ → Values → Values
 fitting room end run = pick (leb (length (run .cells)) room) run (values [] end)
@@ -97,3 +101,9 @@ pub record Stored (start : ℕ) (read : Values) (before : List ℕ) (r : Loaded)
 unfoldable pub lowBytes : List ℕ → List ℕ
 lowBytes [] = []
 lowBytes (x ∷ xs) = x % 256 ∷ lowBytes xs
+
+-- The text at a place, for a slice of cells and a text with so much room.
+unfoldable pub textAt : List ℕ → ℕ → ℕ → ℕ → Values
+textAt s room most from =
+    let list = fitting most (length s) (listAt true s room from) in
+    values (lowBytes (list .cells)) (list .next)

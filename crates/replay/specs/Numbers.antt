@@ -2,7 +2,7 @@
 -- A byte follows every number of a good file. So a place that is the file's length says that the file is malformed.
 use Prim.Native.Nat.{ℕ, _+_, _-_, _*_, _%_}
 use mathlib.Core.List.{List, [], _∷_}
-use mathlib.Core.Bool.{Bool, true, false}
+use mathlib.Core.Bool.{Bool, false, not, _&&_, _||_}
 use lib.Dec.{leb, eqb}
 use lib.ListN.{length, drop}
 use Rattle.utils.specs.Bytes.{pick}
@@ -11,15 +11,12 @@ use Rattle.replay.specs.declared.Number.{Number}
 abbrev pub number : ℕ → ℕ → Number
 number value next = record { value = value; next = next }
 
-unfoldable pub isDigit : ℕ → Bool
-isDigit b = pick (leb 48 b) (leb b 57) false
+abbrev pub isDigit : ℕ → Bool
+isDigit b = leb 48 b && leb b 57
 
 -- whether a byte stands in a comment, by whether the byte before it did
-unfoldable pub inComment : Bool → ℕ → Bool
-inComment before b = pick (eqb b 10) false (pick (eqb b 35) true before)
-
-unfoldable pub beginsNumber : Bool → ℕ → Bool
-beginsNumber comment b = pick comment false (isDigit b)
+abbrev pub inComment : Bool → ℕ → Bool
+inComment before b = not (eqb b 10) && (eqb b 35 || before)
 
 -- what is left of the file from the next digit on that stands in no comment
 unfoldable pub toDigit : Bool → List ℕ → List ℕ
@@ -27,7 +24,7 @@ toDigit before [] = []
 toDigit before (b ∷ r) =
     let comment = inComment before b in
     let more = toDigit comment r in
-    pick (beginsNumber comment b) (b ∷ r) more
+    pick (isDigit b && not comment) (b ∷ r) more
 
 -- the digits that stand first
 unfoldable pub digitsOf : List ℕ → List ℕ

@@ -1,14 +1,17 @@
-// Whether a lent slice holds what a list of the file says.
+// Whether an answer's numbers and the lent slices are what the file says.
 ghost use mathlib.Core.Path.{_≡_};
 ghost use mathlib.Core.Bool.{true, false};
 ghost use lib.Dec.{eqb};
 ghost use lib.ListN.{length, getD};
-ghost use lib.Seq.{sets};
 ghost use Rattle.utils.specs.Bytes.{sameBytes};
-ghost use Rattle.replay.specs.Lists.{listAt};
-ghost use Rattle.replay.specs.Held.{oldCell, oldByte, filled, restOf, holding};
-use crate::Compared;
+ghost use Rattle.replay.specs.Lists.{room, listAt};
+ghost use Rattle.replay.specs.Held.{oldCell, oldByte, filled, restOf};
+ghost use Rattle.replay.specs.Held.{keeping, answerHeld, holding};
+use crate::Outcome;
 use crate::lists;
+use crate::number_at;
+use crate::parts;
+use crate::pick;
 use utils::numbers;
 
 // What every lent cell and byte holds before a call, which must write over all of them, or leave all alone.
@@ -65,46 +68,77 @@ fn same_bytes(got: &[u8], list: &[u32], rest: u32) -> bool
 fn rest_of(number: u32, old: u32) -> u32
     ensures { λ r. ⌜ r ≡ restOf number old ⌝ }
 {
-    if number == numbers::SHORT_BUFFER {
-        return old;
-    }
-    0
+    pick(number == numbers::SHORT_BUFFER, old, 0)
 }
 
-// Whether a slice of cells holds the file's next list, and behind it what it must after an answer's number.
-pub fn holds_cells(
-    data: &[u8],
-    from: usize,
-    number: u32,
-    cells: &mut [u32],
-    got: &[u32],
-) -> Compared
-    ensures { λ r. ⌜ r ≡ holding (now (got .entry))
-        (listAt false (now («data» .entry)) (length (now (cells .entry))) from) number oldCell ⌝ }
-    ensures { λ r. ⌜ now (cells .exit) ≡ sets (now (cells .entry)) 0
-        (listAt false (now («data» .entry)) (length (now (cells .entry))) from .cells) ⌝ }
+// One thing more, and the place after it: the first part that differs stays.
+fn kept(seen: Outcome, part: u32, same: bool, next: usize) -> Outcome
+    ensures { λ r. ⌜ r ≡ keeping seen part same next ⌝ }
 {
-    let list = lists::load(data, from, false, cells);
-    let n = list.count;
-    let rest = rest_of(number, OLD_CELL);
-    Compared {
-        same: same_cells(got, &cells[..n], rest),
-        next: list.next,
+    Outcome {
+        part: pick((seen.part == parts::NOTHING) & !same, part, seen.part),
+        number: seen.number,
+        next,
     }
+}
+
+// An answer's numbers, held to those that stand in the file from a place on.
+pub fn holds_numbers(data: &[u8], from: usize, got: &[u32]) -> Outcome
+    ensures { λ r. ⌜ r ≡ answerHeld (now («data» .entry)) from (now (got .entry)) ⌝ }
+{
+    let first = number_at(data, from);
+    let mut seen = Outcome {
+        part: parts::NOTHING,
+        number: first.value,
+        next: from,
+    };
+    let mut part = parts::NUMBER;
+    let mut i: usize = 0;
+    while i < got.len() {
+        let wanted = number_at(data, seen.next);
+        seen = kept(seen, part, got[i] == wanted.value, wanted.next);
+        part = std::num::wrapping_add_u32(part, 1);
+        i += 1;
+    }
+    seen
+}
+
+// A slice of cells, held to the file's next list, by way of `cells`.
+fn cells_by(data: &[u8], seen: Outcome, part: u32, cells: &mut [u32], got: &[u32]) -> Outcome
+    ensures { λ r. ⌜ r ≡ holding seen part (now (got .entry))
+        (listAt false (now («data» .entry)) (length (now (cells .entry))) (seen .next)) oldCell ⌝ }
+{
+    let list = lists::load(data, seen.next, false, cells);
+    let n = list.count;
+    let rest = rest_of(seen.number, OLD_CELL);
+    kept(seen, part, same_cells(got, &cells[..n], rest), list.next)
 }
 
 // The same of a slice of bytes.
-pub fn holds_bytes(data: &[u8], from: usize, number: u32, cells: &mut [u32], got: &[u8]) -> Compared
-    ensures { λ r. ⌜ r ≡ holding (now (got .entry))
-        (listAt true (now («data» .entry)) (length (now (cells .entry))) from) number oldByte ⌝ }
-    ensures { λ r. ⌜ now (cells .exit) ≡ sets (now (cells .entry)) 0
-        (listAt true (now («data» .entry)) (length (now (cells .entry))) from .cells) ⌝ }
+fn bytes_by(data: &[u8], seen: Outcome, part: u32, cells: &mut [u32], got: &[u8]) -> Outcome
+    ensures { λ r. ⌜ r ≡ holding seen part (now (got .entry))
+        (listAt true (now («data» .entry)) (length (now (cells .entry))) (seen .next)) oldByte ⌝ }
 {
-    let list = lists::load(data, from, true, cells);
+    let list = lists::load(data, seen.next, true, cells);
     let n = list.count;
-    let rest = rest_of(number, wide(OLD_BYTE));
-    Compared {
-        same: same_bytes(got, &cells[..n], rest),
-        next: list.next,
-    }
+    let rest = rest_of(seen.number, wide(OLD_BYTE));
+    kept(seen, part, same_bytes(got, &cells[..n], rest), list.next)
+}
+
+// A slice of cells, held to the file's next list, and behind it to what it must hold after the answer's number.
+pub fn holds_cells(data: &[u8], seen: Outcome, part: u32, got: &[u32]) -> Outcome
+    ensures { λ r. ⌜ r ≡ holding seen part (now (got .entry))
+        (listAt false (now («data» .entry)) room (seen .next)) oldCell ⌝ }
+{
+    let mut cells = [0u32; lists::ROOM];
+    cells_by(data, seen, part, &mut cells, got)
+}
+
+// The same of a slice of bytes.
+pub fn holds_bytes(data: &[u8], seen: Outcome, part: u32, got: &[u8]) -> Outcome
+    ensures { λ r. ⌜ r ≡ holding seen part (now (got .entry))
+        (listAt true (now («data» .entry)) room (seen .next)) oldByte ⌝ }
+{
+    let mut cells = [0u32; lists::ROOM];
+    bytes_by(data, seen, part, &mut cells, got)
 }

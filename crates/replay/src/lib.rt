@@ -5,11 +5,13 @@ ghost use mathlib.Core.Path.{_≡_};
 ghost use mathlib.Core.Bool.{false};
 ghost use Prim.Native.Nat.{_+_, _-_, _*_, _%_, _≤_, _<_};
 ghost use lib.ListN.{length, drop};
-ghost use Rattle.replay.specs.Numbers.{isDigit, inComment, beginsNumber, toDigit, numberAt};
-ghost use Rattle.replay.specs.Held.{wholeWith};
+ghost use Rattle.utils.specs.Bytes.{pick};
+ghost use Rattle.replay.specs.Numbers.{isDigit, inComment, toDigit, numberAt};
 
+pub mod cases;
 pub mod held;
 pub mod lists;
+pub mod parts;
 
 pub struct Number {
     pub value: u32,
@@ -22,48 +24,45 @@ pub struct Loaded {
     pub next: usize,
 }
 
-// Whether a slice holds what it must, and the place in the file after its list.
-pub struct Compared {
-    pub same: bool,
+// What a case showed: the first part that differs, the number that the answer must have, and the place in the file
+// after what was held to it.
+pub struct Outcome {
+    pub part: u32,
+    pub number: u32,
     pub next: usize,
 }
 
-// How many cases there were, how many came out as expected, and the place in the file after them.
+// How many cases a list has, how many came out as expected so far, how many are left; how many cases of the file there
+// were so far in all, and the place after them.
 pub struct Tally {
-    pub count: u64,
-    pub right: u64,
+    pub count: u32,
+    pub right: u32,
+    pub left: u32,
+    pub index: u64,
     pub next: usize,
+}
+
+// One of two, by a test.
+pub(crate) fn pick(test: bool, a: u32, b: u32) -> u32
+    ensures { λ r. ⌜ r ≡ pick test a b ⌝ }
+{
+    if test {
+        return a;
+    }
+    b
 }
 
 pub(crate) fn is_digit(b: u8) -> bool
     ensures { λ r. ⌜ r ≡ isDigit b ⌝ }
 {
-    if b'0' <= b {
-        return b <= b'9';
-    }
-    false
+    (b'0' <= b) & (b <= b'9')
 }
 
 // Whether a byte stands in a comment, by whether the byte before it did.
 fn in_comment(before: bool, b: u8) -> bool
     ensures { λ r. ⌜ r ≡ inComment before b ⌝ }
 {
-    if b == b'\n' {
-        return false;
-    }
-    if b == b'#' {
-        return true;
-    }
-    before
-}
-
-fn begins_number(comment: bool, b: u8) -> bool
-    ensures { λ r. ⌜ r ≡ beginsNumber comment b ⌝ }
-{
-    if comment {
-        return false;
-    }
-    is_digit(b)
+    (b != b'\n') & ((b == b'#') | before)
 }
 
 // The place of the next digit that stands in no comment.
@@ -76,7 +75,7 @@ fn digit_from(data: &[u8], from: usize) -> usize
     while at < data.len() {
         let b = data[at];
         comment = in_comment(comment, b);
-        if begins_number(comment, b) {
+        if is_digit(b) & !comment {
             return at;
         }
         at += 1;
@@ -109,15 +108,4 @@ pub fn number_at(data: &[u8], from: usize) -> Number
         value: 0,
         next: data.len(),
     }
-}
-
-// Whether the mark at the file's end, behind the second of two lists of cases, is the count of them all.
-pub fn is_whole(data: &[u8], texts: Tally, shorts: Tally) -> bool
-    ensures { λ r. ⌜ r ≡ wholeWith (now («data» .entry)) texts shorts ⌝ }
-{
-    let end = number_at(data, shorts.next);
-    if end.next == data.len() {
-        return false;
-    }
-    end.value as u64 == std::num::wrapping_add_u64(texts.count, shorts.count)
 }

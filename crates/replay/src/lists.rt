@@ -1,16 +1,20 @@
 // The lists of a file.
 ghost use mathlib.Core.Path.{_≡_};
 ghost use mathlib.Core.Bool.{true, false};
-ghost use Prim.Native.Nat.{_+_, _-_, _*_, _%_, _≤_, _<_};
+ghost use Prim.Native.Nat.{_+_, _-_, _*_, _%_, _≤_, _<_, min};
 ghost use lib.Dec.{leb, ltb, eqb};
-ghost use lib.ListN.{length};
+ghost use lib.ListN.{length, getD};
 ghost use lib.Seq.{sets, slice};
 ghost use Rattle.utils.specs.Bytes.{pick};
 ghost use Rattle.replay.specs.Lists.{hexOf, escapedAt, byteAt, valueAt, valuesAt, stepped, repeated};
-ghost use Rattle.replay.specs.Lists.{behindQuote, runAt, fitting, listAt, Stored, lowBytes};
+ghost use Rattle.replay.specs.Lists.{behindQuote, runAt, fitting, room, listAt, Stored, lowBytes, textAt};
 use crate::Loaded;
 use crate::Number;
 use crate::number_at;
+use crate::pick;
+
+// As many cells as the longest slice that is lent: no list of a file has more.
+pub const ROOM: usize = 24592;
 
 // The digit 0.
 const ZERO: u32 = b'0' as u32;
@@ -82,13 +86,7 @@ fn behind_quote(data: &[u8], at: usize, quoted: bool) -> usize
     if !quoted {
         return at;
     }
-    if data.len() < 2 {
-        return data.len();
-    }
-    if data.len() - 2 < at {
-        return data.len();
-    }
-    at + 2
+    at_most(at_most(at, data.len()) + 2, data.len())
 }
 
 // Stores `width` values of the file behind `start` cells, and answers the place after them.
@@ -116,6 +114,37 @@ fn load_values(
         left -= 1;
     }
     at
+}
+
+// The file's next numbers, as many as there are cells for them. Answers the place after them.
+pub fn load_numbers(data: &[u8], from: usize, cells: &mut [u32]) -> usize
+    requires { ⌜ length (now cells) < 4294967296 ⌝ }
+    ensures { λ r. ⌜ r ≡ valuesAt false (now («data» .entry)) (length (now (cells .entry))) from .next ⌝ }
+    ensures { λ r. ⌜ now (cells .exit) ≡ sets (now (cells .entry)) 0
+        (valuesAt false (now («data» .entry)) (length (now (cells .entry))) from .cells) ⌝ }
+{
+    let n = cells.len() as u32;
+    load_values(data, from, false, cells, 0, n)
+}
+
+// The lesser of two.
+pub fn at_most(n: usize, room: usize) -> usize
+    ensures { λ r. ⌜ r ≡ min n room ⌝ }
+    ensures { λ r. ⌜ r ≤ room ⌝ }
+{
+    if n < room {
+        return n;
+    }
+    room
+}
+
+// As much of a slice as the file says, by the length at an index of those that were loaded, and at most all of it.
+pub fn lent(lengths: &[u32], at: usize, room: usize) -> usize
+    ensures { λ r. ⌜ r ≡ min (getD (now (lengths .entry)) at 0) room ⌝ }
+    ensures { λ r. ⌜ r ≤ room ⌝ }
+{
+    let length = utils::cell_at(lengths, at);
+    at_most(length as usize, room)
 }
 
 // Stores a row of `width` cells behind the row at `start`, each larger by a step of the file, and answers the place
@@ -177,13 +206,7 @@ fn load_rows(
 fn times_more(times: u32, width: u32) -> u32
     ensures { λ r. ⌜ r ≡ pick (eqb width 0) 0 (times - 1) ⌝ }
 {
-    if width == 0 {
-        return 0;
-    }
-    if times == 0 {
-        return 0;
-    }
-    times - 1
+    pick(width == 0, 0, times - pick(times == 0, 0, 1))
 }
 
 fn has_room(room: usize, width: u32, more: u32) -> bool
@@ -251,15 +274,31 @@ fn narrow(cells: &[u32], bytes: &mut [u8])
     }
 }
 
-// A list of bytes, as cells and as a text.
-pub fn load_text(data: &[u8], from: usize, cells: &mut [u32], text: &mut [u8]) -> Loaded
-    ensures { λ r. ⌜ Stored 0 (listAt true (now («data» .entry)) (length (now (cells .entry))) from)
-        (now (cells .entry)) r (now (cells .exit)) ⌝ }
-    ensures { λ r. ⌜ now (text .exit) ≡ sets (now (text .entry)) 0
-        (lowBytes (listAt true (now («data» .entry)) (length (now (cells .entry))) from .cells)) ⌝ }
+// A list of bytes as a text, by way of the cells. Where the text has no room for it, the file is malformed.
+fn text_by(data: &[u8], from: usize, cells: &mut [u32], text: &mut [u8]) -> Loaded
+    ensures { λ r. ⌜ Stored 0
+        (textAt (now («data» .entry)) (length (now (cells .entry))) (length (now (text .entry))) from)
+        (now (text .entry)) r (now (text .exit)) ⌝ }
+    ensures { λ r. ⌜ r .count ≤ length (now (text .entry)) ⌝ }
 {
     let list = load(data, from, true, cells);
     let n = list.count;
+    if text.len() < n {
+        return Loaded {
+            count: 0,
+            next: data.len(),
+        };
+    }
     narrow(&cells[..n], text);
     list
+}
+
+// The file's next list of bytes, as a text.
+pub fn load_text(data: &[u8], from: usize, text: &mut [u8]) -> Loaded
+    ensures { λ r. ⌜ Stored 0 (textAt (now («data» .entry)) room (length (now (text .entry))) from)
+        (now (text .entry)) r (now (text .exit)) ⌝ }
+    ensures { λ r. ⌜ r .count ≤ length (now (text .entry)) ⌝ }
+{
+    let mut cells = [0u32; ROOM];
+    text_by(data, from, &mut cells, text)
 }

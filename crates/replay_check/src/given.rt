@@ -14,7 +14,7 @@ pub struct Given {
     pub next: usize,
 }
 
-// A case of check, or a file that is malformed.
+// A case of check.
 fn nothing(next: usize) -> Given {
     Given {
         again: false,
@@ -66,19 +66,19 @@ fn change(data: &[u8], from: usize, table: &mut [u32]) -> usize {
     at
 }
 
-// What a case of recheck is given.
-fn load_given(
+// What a case is given: one of check, nothing.
+pub fn load_given(
     data: &[u8],
     from: usize,
-    cells: &mut [u32],
+    again: bool,
     old: &mut [u8],
     table: &mut [u32],
 ) -> Given {
-    let text = lists::load_text(data, from, cells, old);
-    let n = text.count;
-    if old.len() < n {
-        return nothing(data.len());
+    if !again {
+        return nothing(from);
     }
+    let text = lists::load_text(data, from, old);
+    let n = text.count;
     write_table(&old[..n], table);
     let changed = change(data, text.next, table);
     let length = number_at(data, changed);
@@ -90,19 +90,4 @@ fn load_given(
         number: number.value,
         next: number.next,
     }
-}
-
-// What a case is given: one of check, nothing.
-pub fn given_at(
-    data: &[u8],
-    from: usize,
-    again: bool,
-    cells: &mut [u32],
-    old: &mut [u8],
-    table: &mut [u32],
-) -> Given {
-    if again {
-        return load_given(data, from, cells, old, table);
-    }
-    nothing(from)
 }

@@ -1,23 +1,32 @@
 // Replays fixed cases against `lexer::read`, and compares all that it answers and writes. The cases stand on
 // standard input; host/examples/replay_read.rs makes them, and says what the file holds and where the expected answers
 // come from.
-mod compare;
-mod load;
-
-use compare::Outcome;
-use compare::Part;
 use lexer::sizes;
+use replay::Outcome;
 use replay::Tally;
+use replay::cases;
+use replay::held;
 use replay::held::OLD_BYTE;
 use replay::held::OLD_CELL;
 use replay::held::SPARE;
+use replay::lists;
+use replay::parts;
 use utils::limits;
 
-fn malformed(data: &[u8]) -> Outcome {
-    Outcome {
-        part: Part::Nothing,
-        next: data.len(),
-    }
+// An answer and the slices, held to the file.
+fn compare(
+    data: &[u8],
+    from: usize,
+    a: lexer::ReadAnswer,
+    tokens: &[u32],
+    names: &[u32],
+    message: &[u8],
+) -> Outcome {
+    let got = [a.number, a.line, a.place, a.tokens, a.names];
+    let answer = held::holds_numbers(data, from, &got);
+    let t = held::holds_cells(data, answer, parts::TOKENS, tokens);
+    let n = held::holds_cells(data, t, parts::NAMES, names);
+    held::holds_bytes(data, n, parts::MESSAGE, message)
 }
 
 // The call itself, and all that came of it held to the file.
@@ -25,132 +34,65 @@ fn ask(
     data: &[u8],
     from: usize,
     text: &[u8],
-    cells: &mut [u32],
     tokens: &mut [u32],
     names: &mut [u32],
     message: &mut [u8],
 ) -> Outcome {
-    let got = lexer::read(text, tokens, names, message);
-    compare::compare(data, from, got, cells, tokens, names, message)
+    let a = lexer::read(text, tokens, names, message);
+    compare(data, from, a, tokens, names, message)
 }
 
-// Lends as much of the slices as the file says.
-fn lend(
-    data: &[u8],
-    from: usize,
-    text: &[u8],
-    cells: &mut [u32],
-    tokens: &mut [u32],
-    names: &mut [u32],
-    message: &mut [u8],
-) -> Outcome {
-    let lengths = load::lengths_at(data, from);
-    let t = lengths.tokens;
-    let n = lengths.names;
-    let m = lengths.message;
-    if t <= tokens.len() {
-        if n <= names.len() {
-            if m <= message.len() {
-                return ask(
-                    data,
-                    lengths.next,
-                    text,
-                    cells,
-                    &mut tokens[..t],
-                    &mut names[..n],
-                    &mut message[..m],
-                );
-            }
-        }
-    }
-    malformed(data)
-}
-
-// A case with its text: the slices are made anew, longer than their sizes, and hold the old pattern.
-fn with_slices(data: &[u8], from: usize, text: &[u8], cells: &mut [u32]) -> Outcome {
+// A case with its text: the slices are made anew, longer than their sizes, and hold the old pattern. As much of each
+// is lent as the file says, where the lengths stand in the slices' order.
+fn with_slices(data: &[u8], from: usize, text: &[u8]) -> Outcome {
+    let mut lengths = [0u32; 3];
+    let next = lists::load_numbers(data, from, &mut lengths);
     let mut tokens = [OLD_CELL; sizes::TOKENS + SPARE];
     let mut names = [OLD_CELL; sizes::NAMES + SPARE];
     let mut message = [OLD_BYTE; limits::MESSAGE + SPARE];
-    lend(
+    let t = lists::lent(&lengths, 0, tokens.len());
+    let n = lists::lent(&lengths, 1, names.len());
+    let m = lists::lent(&lengths, 2, message.len());
+    ask(
         data,
-        from,
+        next,
         text,
-        cells,
-        &mut tokens,
-        &mut names,
-        &mut message,
+        &mut tokens[..t],
+        &mut names[..n],
+        &mut message[..m],
     )
 }
 
-fn run_case(data: &[u8], from: usize, cells: &mut [u32], text: &mut [u8]) -> Outcome {
-    let list = replay::lists::load_text(data, from, cells, text);
+// A case with room for its text.
+fn with_text(data: &[u8], from: usize, text: &mut [u8]) -> Outcome {
+    let list = lists::load_text(data, from, text);
     let n = list.count;
-    if n <= text.len() {
-        return with_slices(data, list.next, &text[..n], cells);
-    }
-    malformed(data)
+    with_slices(data, list.next, &text[..n])
 }
 
-// How many are right with this one, which is told of where it is not.
-fn tell(right: u64, index: u64, part: Part) -> u64 {
-    if compare::is_nothing(part) {
-        return std::num::wrapping_add_u64(right, 1);
-    }
-    io::write_all(1, b"case ");
-    io::print_decimal(1, index);
-    io::write_all(1, b": ");
-    compare::print(part);
-    io::write_all(1, b"\n");
-    right
+fn run_case(data: &[u8], from: usize) -> Outcome {
+    let mut text = [0u8; lists::ROOM];
+    with_text(data, from, &mut text)
 }
 
-// A list of cases, counted on from `first`.
-fn replay(data: &[u8], from: usize, first: u64, cells: &mut [u32], text: &mut [u8]) -> Tally {
-    let cases = replay::number_at(data, from);
-    let count = cases.value as u64;
-    let mut left = cases.value;
-    let mut at = cases.next;
-    let mut index = first;
-    let mut right: u64 = 0;
-    while 0 < left {
-        let case = run_case(data, at, cells, text);
-        at = case.next;
-        if data.len() <= at {
-            return Tally {
-                count,
-                right,
-                next: at,
-            };
-        }
-        let part = case.part;
-        right = tell(right, index, part);
-        index = std::num::wrapping_add_u64(index, 1);
-        left -= 1;
+// A list of cases, behind so many.
+fn replay(data: &[u8], from: usize, index: u64) -> Tally {
+    let mut list = cases::begin(data, from, index);
+    while 0 < list.left {
+        let case = run_case(data, list.next);
+        list = cases::step(data, list, case);
     }
-    Tally {
-        count,
-        right,
-        next: at,
-    }
+    list
 }
 
-fn print_tally(tally: Tally, what: &[u8]) {
-    io::print_decimal(1, tally.count);
-    io::write_all(1, what);
-    io::print_decimal(1, tally.right);
-    io::write_all(1, b" as expected\n");
-}
-
-// The two lists of cases, and the mark at the file's end: how many cases there were in all.
-fn run(data: &[u8], cells: &mut [u32], text: &mut [u8]) {
-    let texts = replay(data, 0, 0, cells, text);
-    let shorts = replay(data, texts.next, texts.count, cells, text);
-    if !replay::is_whole(data, texts, shorts) {
-        io::write_all(1, b"the file of cases is malformed\n");
-        return;
+// The two lists of cases.
+fn run(data: &[u8]) {
+    let texts = replay(data, 0, 0);
+    let shorts = replay(data, texts.next, texts.index);
+    if cases::is_whole(data, shorts) {
+        cases::print_tally(texts, b" texts: ");
+        cases::print_tally(shorts, b" calls with a short slice: ");
     }
-    print_tally(texts, b" texts: ");
-    print_tally(shorts, b" calls with a short slice: ");
 }
 
 // Room for the file of cases.
@@ -159,7 +101,5 @@ const FILE: usize = 131072;
 fn main() {
     let mut data = [0u8; FILE];
     let got = io::read_full(0, &mut data);
-    let mut cells = [0u32; sizes::TOKENS + SPARE];
-    let mut text = [0u8; sizes::TOKENS + SPARE];
-    run(&data[..got], &mut cells, &mut text);
+    run(&data[..got]);
 }

@@ -9,17 +9,13 @@ use Rattle.replay.proofs.lists.byte_at.Tie as tie
 
 returns : tie.Need-returns
 unfolding byteAt pick
-returns c =
-    let if1 = c .if1 in
-    rw (le-leb _ _ (if1 .taken))
+returns c = rw (le-leb _ _ (c .if1 .taken))
 
 returns-2 : tie.Need-returns-2
 unfolding byteAt pick
 returns-2 c =
-    let if1 = c .before .before .before .if1 in
-    let if2 = c .before .if2 in
-    let escaped-at = c .escaped-at in
-    rw (lt-leb _ _ (if1 .left), eq-eqb _ _ (if2 .taken)) (escaped-at .ensures)
+    let inside = c .before .before .before .if1 in
+    rw (lt-leb _ _ (inside .left), eq-eqb _ _ (c .before .if2 .taken)) (c .escaped-at .ensures)
 
 cast-t8 : tie.Need-cast-t8
 cast-t8 c = omega (arith, c .before .shared-slice-known2 .given (c .before .before .before .before .args .at))
@@ -27,9 +23,8 @@ cast-t8 c = omega (arith, c .before .shared-slice-known2 .given (c .before .befo
 returns-3 : tie.Need-returns-3
 unfolding byteAt pick
 returns-3 c =
-    let if1 = c .before .before .if1 in
-    let if2 = c .if2 in
-    rw (lt-leb _ _ (if1 .left), ne-eqb _ _ (if2 .left))
+    let inside = c .before .before .if1 in
+    rw (lt-leb _ _ (inside .left), ne-eqb _ _ (c .if2 .left))
 
 pub byte-at-spec : {M : Type 1} → statement M
 byte-at-spec =

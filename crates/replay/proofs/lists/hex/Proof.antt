@@ -11,24 +11,22 @@ use Rattle.replay.proofs.lists.hex.Statement.{statement}
 use Rattle.replay.proofs.lists.hex.Tie as tie
 
 sub-result : tie.Need-sub-result
-sub-result c = omega (arith, digit-low _ (sym (c .before .is-digit .ensures) ∙ c .if1 .taken))
+sub-result c =
+    let b = c .before .before .args .b in
+    omega (arith, digit-low b (sym (c .before .is-digit .ensures) ∙ c .if1 .taken))
 
 returns : tie.Need-returns
 unfolding hexOf pick
 returns c =
-    let is-digit = c .before .is-digit in
-    let if1 = c .if1 in
-    let digit = sym (is-digit .ensures) ∙ if1 .taken in
-    (rw digit, omega (arith, digit-high _ digit))
+    let b = c .before .before .args .b in
+    let digit = sym (c .before .is-digit .ensures) ∙ c .if1 .taken in
+    (rw digit, omega (arith, digit-high b digit))
 
 returns-2 : tie.Need-returns-2
 unfolding hexOf pick
 returns-2 c =
-    let a = c .before .before .args in
-    let is-digit = c .before .is-digit in
-    let if1 = c .if1 in
-    let digit = sym (is-digit .ensures) ∙ if1 .left in
-    (rw digit, omega (arith, mod-lt (a .b + 9) {m = 16} (omega arith)))
+    let b = c .before .before .args .b in
+    (rw (sym (c .before .is-digit .ensures) ∙ c .if1 .left), omega (arith, mod-lt (b + 9) {m = 16} (omega arith)))
 
 pub hex-spec : {M : Type 1} → statement M
 hex-spec =

@@ -7,17 +7,11 @@ use Rattle.replay.proofs.lists.value_at.Tie as tie
 
 returns : tie.Need-returns
 unfolding valueAt pick
-returns c =
-    let if1 = c .before .if1 in
-    let byte-at = c .byte-at in
-    rw (if1 .taken) (byte-at .ensures)
+returns c = rw (c .before .if1 .taken) (c .byte-at .ensures)
 
 returns-2 : tie.Need-returns-2
 unfolding valueAt pick
-returns-2 c =
-    let if1 = c .before .if1 in
-    let number-at = c .number-at in
-    rw (if1 .left) (number-at .ensures)
+returns-2 c = rw (c .before .if1 .left) (c .number-at .ensures)
 
 pub value-at-spec : {M : Type 1} → statement M
 value-at-spec =
