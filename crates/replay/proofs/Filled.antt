@@ -1,7 +1,7 @@
 -- A slice against a list that is filled up to its length, cell by cell.
 use Prim.Native.Nat.{ℕ, suc, _+_, _-_, _≤_, _<_}
 use mathlib.Core.Path.{_≡_, refl, sym, ap, _∙_}
-use mathlib.Core.List.{List, [], _∷_}
+use mathlib.Core.List.{List, [], _∷_, _++_}
 use mathlib.Core.Bool.{Bool, true, false}
 use mathlib.Core.Logic.{_⊎_, inl, inr, ⊎-elim}
 use native.Mathlib.Omega.{arith}
@@ -37,6 +37,12 @@ getD-any l i d e h =
     let p : getD l i d ∷ drop (suc i) l ≡ getD l i e ∷ drop (suc i) l = sym (drop-cons l i d h) ∙ drop-cons l i e h in
     cc
 
+-- behind the first of two lists `getD` gives what the second has
+pub getD-behind : (xs ys : List ℕ) (i d : ℕ) → length xs ≤ i → getD (xs ++ ys) i d ≡ getD ys (i - length xs) d
+getD-behind xs ys i d h =
+    let e : i ≡ length xs + (i - length xs) = omega arith in
+    ap (λ (j : ℕ). getD (xs ++ ys) j d) e ∙ getD-append-add xs ys (i - length xs) d
+
 module _ (rest : ℕ) (got list : List ℕ) where
   filled-length : length got ≤ length (filled rest (length got) list)
   filled-length = simp (length-append, length-replicate) (omega arith)
@@ -47,11 +53,9 @@ module _ (rest : ℕ) (got list : List ℕ) where
     where
       behind : length list ≤ i → getD (filled rest (length got) list) i rest ≡ getD list i rest
       behind k =
-          let e : i ≡ length list + (i - length list) = omega arith in
-          ap (λ (j : ℕ). getD (filled rest (length got) list) j rest) e
-          ∙ (getD-append-add list (replicate (length got - length list) rest) (i - length list) rest
+          getD-behind list (replicate (length got - length list) rest) i rest k
           ∙ (getD-replicate (length got - length list) (i - length list) rest rest (omega arith)
-          ∙ sym (List·getD-eq-default list rest k)))
+          ∙ sym (List·getD-eq-default list rest k))
 
       before : i < length list → getD (filled rest (length got) list) i rest ≡ getD list i rest
       before k = List·getD-append list (replicate (length got - length list) rest) rest i k

@@ -1,6 +1,7 @@
 // Whether an answer's numbers and the lent slices are what the file says.
 ghost use mathlib.Core.Path.{_≡_};
 ghost use mathlib.Core.Bool.{true, false};
+ghost use mathlib.Core.List.{_++_};
 ghost use lib.Dec.{eqb};
 ghost use lib.ListN.{length, getD};
 ghost use Rattle.utils.specs.Bytes.{sameBytes};
@@ -38,30 +39,34 @@ fn is_at(cell: u32, list: &[u32], at: usize, rest: u32) -> bool
     cell == rest
 }
 
-fn same_cells(got: &[u32], list: &[u32], rest: u32) -> bool
-    ensures { λ r. ⌜ r ≡ sameBytes (now (got .entry)) (filled rest (length (now (got .entry))) (now (list .entry))) ⌝ }
+// What stands at an index of cells and of bytes behind them, or 0 behind both.
+fn either(cells: &[u32], bytes: &[u8], at: usize) -> u32
+    ensures { λ r. ⌜ r ≡ getD (now (cells .entry) ++ now (bytes .entry)) at 0 ⌝ }
 {
-    let mut i: usize = 0;
-    while i < got.len() {
-        if !is_at(got[i], list, i, rest) {
-            return false;
-        }
-        i += 1;
+    if at < cells.len() {
+        return cells[at];
     }
-    list.len() <= got.len()
+    let behind = at - cells.len();
+    if behind < bytes.len() {
+        return wide(bytes[behind]);
+    }
+    0
 }
 
-fn same_bytes(got: &[u8], list: &[u32], rest: u32) -> bool
-    ensures { λ r. ⌜ r ≡ sameBytes (now (got .entry)) (filled rest (length (now (got .entry))) (now (list .entry))) ⌝ }
+// Whether cells, and bytes behind them, are a list and behind it `rest` alone. A slice is one or the other.
+fn same(cells: &[u32], bytes: &[u8], list: &[u32], rest: u32) -> bool
+    ensures { λ r. ⌜ r ≡ sameBytes (now (cells .entry) ++ now (bytes .entry))
+        (filled rest (length (now (cells .entry) ++ now (bytes .entry))) (now (list .entry))) ⌝ }
 {
+    let end = cells.len() + bytes.len();
     let mut i: usize = 0;
-    while i < got.len() {
-        if !is_at(wide(got[i]), list, i, rest) {
+    while i < end {
+        if !is_at(either(cells, bytes, i), list, i, rest) {
             return false;
         }
         i += 1;
     }
-    list.len() <= got.len()
+    list.len() <= end
 }
 
 // What stands behind a list: zeros, but what stood there before where a slice was too short.
@@ -103,26 +108,24 @@ pub fn holds_numbers(data: &[u8], from: usize, got: &[u32]) -> Outcome
     seen
 }
 
-// A slice of cells, held to the file's next list, by way of `cells`.
-fn cells_by(data: &[u8], seen: Outcome, part: u32, cells: &mut [u32], got: &[u32]) -> Outcome
-    ensures { λ r. ⌜ r ≡ holding seen part (now (got .entry))
-        (listAt false (now («data» .entry)) (length (now (cells .entry))) (seen .next)) oldCell ⌝ }
+// A slice of cells or of bytes, held to the file's next list by way of `room`. `old` is what it held before.
+fn held_by(
+    data: &[u8],
+    seen: Outcome,
+    part: u32,
+    quoted: bool,
+    old: u32,
+    room: &mut [u32],
+    cells: &[u32],
+    bytes: &[u8],
+) -> Outcome
+    ensures { λ r. ⌜ r ≡ holding seen part (now (cells .entry) ++ now (bytes .entry))
+        (listAt quoted (now («data» .entry)) (length (now (room .entry))) (seen .next)) old ⌝ }
 {
-    let list = lists::load(data, seen.next, false, cells);
+    let list = lists::load(data, seen.next, quoted, room);
     let n = list.count;
-    let rest = rest_of(seen.number, OLD_CELL);
-    kept(seen, part, same_cells(got, &cells[..n], rest), list.next)
-}
-
-// The same of a slice of bytes.
-fn bytes_by(data: &[u8], seen: Outcome, part: u32, cells: &mut [u32], got: &[u8]) -> Outcome
-    ensures { λ r. ⌜ r ≡ holding seen part (now (got .entry))
-        (listAt true (now («data» .entry)) (length (now (cells .entry))) (seen .next)) oldByte ⌝ }
-{
-    let list = lists::load(data, seen.next, true, cells);
-    let n = list.count;
-    let rest = rest_of(seen.number, wide(OLD_BYTE));
-    kept(seen, part, same_bytes(got, &cells[..n], rest), list.next)
+    let rest = rest_of(seen.number, old);
+    kept(seen, part, same(cells, bytes, &room[..n], rest), list.next)
 }
 
 // A slice of cells, held to the file's next list, and behind it to what it must hold after the answer's number.
@@ -130,8 +133,8 @@ pub fn holds_cells(data: &[u8], seen: Outcome, part: u32, got: &[u32]) -> Outcom
     ensures { λ r. ⌜ r ≡ holding seen part (now (got .entry))
         (listAt false (now («data» .entry)) room (seen .next)) oldCell ⌝ }
 {
-    let mut cells = [0u32; lists::ROOM];
-    cells_by(data, seen, part, &mut cells, got)
+    let mut room = [0u32; lists::ROOM];
+    held_by(data, seen, part, false, OLD_CELL, &mut room, got, b"")
 }
 
 // The same of a slice of bytes.
@@ -139,6 +142,16 @@ pub fn holds_bytes(data: &[u8], seen: Outcome, part: u32, got: &[u8]) -> Outcome
     ensures { λ r. ⌜ r ≡ holding seen part (now (got .entry))
         (listAt true (now («data» .entry)) room (seen .next)) oldByte ⌝ }
 {
-    let mut cells = [0u32; lists::ROOM];
-    bytes_by(data, seen, part, &mut cells, got)
+    let mut room = [0u32; lists::ROOM];
+    let none = [0u32; 0];
+    held_by(
+        data,
+        seen,
+        part,
+        true,
+        wide(OLD_BYTE),
+        &mut room,
+        &none,
+        got,
+    )
 }

@@ -3,7 +3,7 @@ ghost use mathlib.Core.Path.{_≡_};
 ghost use mathlib.Core.Bool.{true, false};
 ghost use Prim.Native.Nat.{_+_, _-_, _*_, _%_, _≤_, _<_, min};
 ghost use lib.Dec.{leb, ltb, eqb};
-ghost use lib.ListN.{length, getD};
+ghost use lib.ListN.{length};
 ghost use lib.Seq.{sets, slice};
 ghost use Rattle.utils.specs.Bytes.{pick};
 ghost use Rattle.replay.specs.Lists.{hexOf, escapedAt, byteAt, valueAt, valuesAt, stepped, repeated};
@@ -138,12 +138,11 @@ pub fn at_most(n: usize, room: usize) -> usize
     room
 }
 
-// As much of a slice as the file says, by the length at an index of those that were loaded, and at most all of it.
-pub fn lent(lengths: &[u32], at: usize, room: usize) -> usize
-    ensures { λ r. ⌜ r ≡ min (getD (now (lengths .entry)) at 0) room ⌝ }
+// As much of a slice as the file says, and at most all of it.
+pub fn lent(length: u32, room: usize) -> usize
+    ensures { λ r. ⌜ r ≡ min length room ⌝ }
     ensures { λ r. ⌜ r ≤ room ⌝ }
 {
-    let length = utils::cell_at(lengths, at);
     at_most(length as usize, room)
 }
 

@@ -159,14 +159,14 @@ pub fn with_slices<'t>(
     let mut blocks = [OLD_CELL; sizes::BLOCKS + SPARE];
     let mut predecessors = [OLD_CELL; sizes::PREDECESSORS + SPARE];
     let mut message = [OLD_BYTE; limits::MESSAGE + SPARE];
-    let t = lists::lent(&lengths, 0, tokens.len());
-    let n = lists::lent(&lengths, 1, names.len());
-    let f = lists::lent(&lengths, 2, functions.len());
-    let i = lists::lent(&lengths, 3, items.len());
-    let a = lists::lent(&lengths, 4, arguments.len());
-    let b = lists::lent(&lengths, 5, blocks.len());
-    let p = lists::lent(&lengths, 6, predecessors.len());
-    let m = lists::lent(&lengths, 7, message.len());
+    let t = lists::lent(lengths[0], tokens.len());
+    let n = lists::lent(lengths[1], names.len());
+    let f = lists::lent(lengths[2], functions.len());
+    let i = lists::lent(lengths[3], items.len());
+    let a = lists::lent(lengths[4], arguments.len());
+    let b = lists::lent(lengths[5], blocks.len());
+    let p = lists::lent(lengths[6], predecessors.len());
+    let m = lists::lent(lengths[7], message.len());
     ask(
         data,
         next,

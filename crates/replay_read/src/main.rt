@@ -50,9 +50,9 @@ fn with_slices(data: &[u8], from: usize, text: &[u8]) -> Outcome {
     let mut tokens = [OLD_CELL; sizes::TOKENS + SPARE];
     let mut names = [OLD_CELL; sizes::NAMES + SPARE];
     let mut message = [OLD_BYTE; limits::MESSAGE + SPARE];
-    let t = lists::lent(&lengths, 0, tokens.len());
-    let n = lists::lent(&lengths, 1, names.len());
-    let m = lists::lent(&lengths, 2, message.len());
+    let t = lists::lent(lengths[0], tokens.len());
+    let n = lists::lent(lengths[1], names.len());
+    let m = lists::lent(lengths[2], message.len());
     ask(
         data,
         next,

@@ -8,7 +8,7 @@ use Rattle.replay_read.proofs.with_slices.Tie as tie
 pub with-slices-spec : {M : Type 1} → statement M
 with-slices-spec =
     tie.close
-    (tie.spec (λ c. search needs) (λ c κs. search needs) (λ c. search needs) (λ c κs. search needs) (λ c. search needs)
-    (λ c κs. search needs) (λ c. search needs) (λ c κs. search needs) (λ c. search needs)
+    (tie.spec (λ c. search needs) (λ c κs. search needs) (λ c. search needs) (λ c κs. search needs)
+    (λ c. search needs) (λ c κs. search needs) (λ c. search needs) (λ c κs. search needs) (λ c. search needs)
     (λ c. sym (length-take-le _ _ (search needs))) (λ c. search needs) (λ c. sym (length-take-le _ _ (search needs)))
     (λ c. search needs) (λ c. sym (length-take-le _ _ (search needs))) (λ c κs. search needs) (λ c. search needs))
