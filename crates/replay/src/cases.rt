@@ -23,9 +23,9 @@ pub fn begin(data: &[u8], from: usize, index: u64) -> Tally
     }
 }
 
-// Tells of a case that came out otherwise than expected.
-fn tell(index: u64, part: u32) {
-    if part == parts::NOTHING {
+// Tells of a case that came out otherwise than expected, in a file that does not end in it.
+fn tell(index: u64, part: u32, inside: bool) {
+    if (part == parts::NOTHING) | !inside {
         return;
     }
     io::write_all(1, b"case ");
@@ -41,7 +41,7 @@ pub fn step(data: &[u8], list: Tally, case: Outcome) -> Tally
     ensures { λ r. ⌜ r ≡ oneMore (now («data» .entry)) list case ⌝ }
     ensures { λ r. ⌜ r .left < list .left ⌝ }
 {
-    tell(list.index, case.part);
+    tell(list.index, case.part, case.next < data.len());
     let right = pick(case.part == parts::NOTHING, 1, 0);
     let left = pick(case.next < data.len(), list.left - 1, 0);
     Tally {

@@ -19,10 +19,10 @@ returns : tie.Need-returns
 returns c =
     let left = c .before .before .pick2 in
     let right = c .before .before .before .before .before .pick in
-    let a = c .before .before .before .before .before .before .before .before .before .args in
-    let asked = c .before .before .before .before .before .before .before .before .before .pre in (
+    let start = c .before .before .before .before .before .before .before .before .before .before in
+    let a = start .args in (
       rw (left .ensures, c .before .wrapping-add-u32 .ensures, right .ensures, c .wrapping-add-u64 .ensures),
-      rw (left .ensures) (pick-below (ltb (a .case .next) (length (now (a .«data»)))) (a .list .left) asked),
+      rw (left .ensures) (pick-below (ltb (a .case .next) (length (now (a .«data»)))) (a .list .left) (start .pre)),
     )
 
 pub step-spec : {M : Type 1} → statement M
