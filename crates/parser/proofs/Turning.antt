@@ -3,26 +3,30 @@
 use Prim.Native.Nat.{ℕ, zero, suc, _+_, _-_, _≤_, _<_}
 use mathlib.Core.Path.{_≡_, refl, sym, _∙_}
 use mathlib.Core.List.{List}
-use mathlib.Core.Bool.{true}
+use mathlib.Core.Bool.{true, false}
 use mathlib.Core.Logic.{⊎-elim}
 use native.Mathlib.Omega.{arith}
 use native.Mathlib.Nat.{eq-or-lt-of-le}
 use borrow.Author.Tests.{le-leb, lt-leb, eq-eqb, ne-eqb}
 use lib.Dec.{leb}
-use lib.ListN.{length}
+use lib.ListN.{length, take}
+use lib.Seq.{length-take-le, sets}
 use Rattle.lexer.specs.Decoded.{Tok, tokenAt}
 use Rattle.lexer.specs.declared.TokenAt.{TokenAt}
 use Rattle.pieces.specs.declared.Identifier.{Identifier}
 use Rattle.parser.specs.Step.{refusal, opened, thenAt}
-use Rattle.parser.specs.Grammar.{consumeD, localD}
+use Rattle.parser.proofs.Taken.{taken}
+use Rattle.parser.specs.Grammar.{consumeD, localD, globalD}
 use Rattle.parser.specs.Runs.{Variables, runOf, ended, stopped, andThen, variable, formalD, formalsFromD}
-use Rattle.parser.specs.Runs.{argumentsD}
+use Rattle.parser.specs.Runs.{argumentsD, variablesCells, calling, callD, calledOf}
 use Rattle.parser.specs.declared.Refusal.{Refusal}
 use Rattle.parser.specs.declared.Ty.the-variants as Y
 use Rattle.parser.specs.declared.Variable.{Variable}
 use Rattle.parser.specs.declared.Consumed.{Consumed}
 use Rattle.parser.specs.declared.Consumed.the-variants as C
+use Rattle.parser.specs.declared.Run.{Run}
 use Rattle.parser.specs.declared.Run.the-variants as U
+use Rattle.parser.specs.declared.Called.the-variants as L
 use Rattle.parser.specs.declared.Named.{Named}
 use Rattle.parser.specs.declared.Named.the-variants as N
 use Rattle.parser.specs.declared.Defined.{Defined}
@@ -95,6 +99,13 @@ module _ (ts : List Tok) where
       let m : 16 - n ≡ suc (16 - (n + 1)) = omega arith in
       rw (m, ← lt-leb 16 n l, ← q, g, ← u, eq-eqb _ _ k)
 
+-- a label, by how many there are so far
+pub labels-full : (n : ℕ) (ls : List ℕ) → n ≤ length ls → 255 ≤ n → leb 255 (length (take n ls)) ≡ true
+labels-full n ls h f = rw (length-take-le n ls h) (le-leb 255 n f)
+
+pub labels-few : (n : ℕ) (ls : List ℕ) → n ≤ length ls → n < 255 → leb 255 (length (take n ls)) ≡ false
+labels-few n ls h f = rw (length-take-le n ls h) (lt-leb 255 n f)
+
 -- what a run's answer says of where it ended
 ended-done : (c : Consumed) (l n i : ℕ) → U.Done n i ≡ thenAt U.Refused c (λ j. U.Done l j) → (c ≡ C.At i) × (l ≡ n)
 unfolding thenAt
@@ -114,3 +125,24 @@ run-done r {n} {i} e = ended-done (r .end) (length (r .list)) n i e
 pub run-refused : (r : Variables) {q : Refusal} → U.Refused q ≡ runOf r → r .end ≡ C.Refused q
 unfolding runOf
 run-refused r {q} e = ended-refused (r .end) (length (r .list)) q e
+
+-- a call whose callee was read, by what the run of its arguments answered
+module _ (ts : List Tok) (word : ℕ) {at i : ℕ} {g : Identifier} {c : Consumed} {n : Named}
+    (called : c ≡ consumeD ts word 22) (on : c ≡ C.At at) (named : n ≡ globalD ts at) (callee : n ≡ N.At g i) where
+  call-is : calling g (argumentsD ts 16 i) ≡ callD ts word
+  unfolding callD
+  call-is = search taken
+
+  pub call-done : {run : Run} {count next : ℕ} → run ≡ runOf (argumentsD ts 16 i) → run ≡ U.Done count next
+      → L.Done g count next ≡ calledOf (callD ts word)
+  unfolding calledOf thenAt
+  call-done r e = let end = run-done (argumentsD ts 16 i) (sym e ∙ r) in rw (← call-is, end .0, end .1)
+
+  pub call-stopped : {run : Run} {e : Refusal} → run ≡ runOf (argumentsD ts 16 i) → run ≡ U.Refused e
+      → L.Refused e ≡ calledOf (callD ts word)
+  unfolding calledOf thenAt
+  call-stopped r e = rw (← call-is, run-refused (argumentsD ts 16 i) (sym e ∙ r))
+
+  pub call-stored : (used : ℕ) (b₀ : List ℕ) {b : List ℕ} → b ≡ sets b₀ used (variablesCells (argumentsD ts 16 i .list))
+      → b ≡ sets b₀ used (variablesCells (callD ts word .arguments .list))
+  call-stored used b₀ r = rw (← call-is) r

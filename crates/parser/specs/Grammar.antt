@@ -10,6 +10,7 @@ use Rattle.pieces.specs.Kinds as T
 use Rattle.parser.specs.Step.{refusal, look, thenAt, thenNamed, thenType, thenDefined}
 use Rattle.parser.specs.declared.Ty.the-variants as Y
 use Rattle.parser.specs.declared.Variable.{Variable}
+use Rattle.parser.specs.declared.Operation.{Operation}
 use Rattle.parser.specs.declared.Operation.the-variants as O
 use Rattle.parser.specs.declared.Consumed.{Consumed}
 use Rattle.parser.specs.declared.Consumed.the-variants as C
@@ -50,38 +51,33 @@ typeD ts at =
     (pick (eqb k T.bool) (R.At Y.Bool next)
     (R.Refused (refusal 9 at 0))))
 
+-- The end of an operation: its semicolon.
+abbrev pub endD : List Tok → Operation → ℕ → Parsed
+endD ts operation at = thenAt P.Refused (consumeD ts at T.semicolon) (λ i. P.Done operation i)
+
 -- Statements: `word` is the index of the operation's word, `at` of the token after it. ------------------------------
 
 unfoldable pub printD : List Tok → ℕ → ℕ → Parsed
-printD ts word at =
-    thenNamed P.Refused (localD ts at) (λ x at1.
-    thenAt P.Refused (consumeD ts at1 T.semicolon) (λ at2.
-    P.Done (O.Print word x) at2))
+printD ts word at = thenNamed P.Refused (localD ts at) (λ x at1. endD ts (O.Print word x) at1)
 
 unfoldable pub retD : List Tok → ℕ → ℕ → Parsed
 retD ts word at =
     look (tokenAt ts at) (λ k next.
     pick (eqb k T.semicolon) (P.Done (O.Ret word) next)
-    (thenNamed P.Refused (localD ts at) (λ x at1.
-    thenAt P.Refused (consumeD ts at1 T.semicolon) (λ at2.
-    P.Done (O.RetValue word x) at2))))
+    (thenNamed P.Refused (localD ts at) (λ x at1. endD ts (O.RetValue word x) at1)))
 
 unfoldable pub jumpD : List Tok → ℕ → ℕ → Parsed
-jumpD ts word at =
-    thenNamed P.Refused (labelD ts at) (λ l at1.
-    thenAt P.Refused (consumeD ts at1 T.semicolon) (λ at2.
-    P.Done (O.Jump word l) at2))
+jumpD ts word at = thenNamed P.Refused (labelD ts at) (λ l at1. endD ts (O.Jump word l) at1)
 
 unfoldable pub branchD : List Tok → ℕ → ℕ → Parsed
 branchD ts word at =
     thenNamed P.Refused (localD ts at) (λ x at1.
     thenNamed P.Refused (labelD ts at1) (λ l at2.
     thenNamed P.Refused (labelD ts at2) (λ m at3.
-    thenAt P.Refused (consumeD ts at3 T.semicolon) (λ at4.
-    P.Done (O.Branch word x l m) at4))))
+    endD ts (O.Branch word x l m) at3)))
 
 unfoldable pub nopD : List Tok → ℕ → ℕ → Parsed
-nopD ts word at = thenAt P.Refused (consumeD ts at T.semicolon) (λ at1. P.Done (O.Nop word) at1)
+nopD ts word at = endD ts (O.Nop word) at
 
 -- Operations with a result. -----------------------------------------------------------------------------------------
 
@@ -102,21 +98,17 @@ isConstant k = pick (eqb k T.integer) true (pick (eqb k T.trueWord) true (eqb k 
 unfoldable pub constD : List Tok → Variable → ℕ → ℕ → Parsed
 constD ts v word at =
     look (tokenAt ts at) (λ k next.
-    pick (isConstant k) (thenAt P.Refused (consumeD ts next T.semicolon) (λ at1. P.Done (O.Const at v) at1))
+    pick (isConstant k) (endD ts (O.Const at v) next)
     (P.Refused (refusal 10 word 0)))
 
 unfoldable pub unaryD : List Tok → Variable → ℕ → ℕ → Parsed
-unaryD ts v word at =
-    thenNamed P.Refused (localD ts at) (λ x at1.
-    thenAt P.Refused (consumeD ts at1 T.semicolon) (λ at2.
-    P.Done (O.UnaryOp word v x) at2))
+unaryD ts v word at = thenNamed P.Refused (localD ts at) (λ x at1. endD ts (O.UnaryOp word v x) at1)
 
 unfoldable pub binaryD : List Tok → Variable → ℕ → ℕ → Parsed
 binaryD ts v word at =
     thenNamed P.Refused (localD ts at) (λ x at1.
     thenNamed P.Refused (localD ts at1) (λ y at2.
-    thenAt P.Refused (consumeD ts at2 T.semicolon) (λ at3.
-    P.Done (O.BinaryOp word v x y) at3)))
+    endD ts (O.BinaryOp word v x y) at2))
 
 -- `id`, `not`
 unfoldable pub isUnary : ℕ → Bool

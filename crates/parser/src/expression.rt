@@ -11,6 +11,7 @@ use crate::TypeRead;
 use crate::Variable;
 use crate::consume;
 use crate::consume_named;
+use crate::parse_end;
 use crate::parse_type;
 use crate::refuse;
 use pieces::kinds;
@@ -53,10 +54,7 @@ fn parse_const(tokens: &[u32], result: Variable, word: usize, at: usize) -> Pars
     let t = lexer::token_at(tokens, at);
     let next = t.next;
     if is_constant(t.kind) {
-        return match consume(tokens, next, kinds::SEMICOLON) {
-            Consumed::Refused(e) => Parsed::Refused(e),
-            Consumed::At(at1) => Parsed::Done(Operation::Const(at, result), at1),
-        };
+        return parse_end(tokens, Operation::Const(at, result), next);
     }
     Parsed::Refused(refuse(numbers::NO_CONSTANT, word))
 }
@@ -66,10 +64,7 @@ fn parse_unary(tokens: &[u32], result: Variable, word: usize, at: usize) -> Pars
 {
     match consume_named(tokens, at, kinds::LOCAL, numbers::NO_LOCAL) {
         Named::Refused(e) => Parsed::Refused(e),
-        Named::At(x, at1) => match consume(tokens, at1, kinds::SEMICOLON) {
-            Consumed::Refused(e) => Parsed::Refused(e),
-            Consumed::At(at2) => Parsed::Done(Operation::UnaryOp(word, result, x), at2),
-        },
+        Named::At(x, at1) => parse_end(tokens, Operation::UnaryOp(word, result, x), at1),
     }
 }
 
@@ -80,10 +75,7 @@ fn parse_binary(tokens: &[u32], result: Variable, word: usize, at: usize) -> Par
         Named::Refused(e) => Parsed::Refused(e),
         Named::At(x, at1) => match consume_named(tokens, at1, kinds::LOCAL, numbers::NO_LOCAL) {
             Named::Refused(e) => Parsed::Refused(e),
-            Named::At(y, at2) => match consume(tokens, at2, kinds::SEMICOLON) {
-                Consumed::Refused(e) => Parsed::Refused(e),
-                Consumed::At(at3) => Parsed::Done(Operation::BinaryOp(word, result, x, y), at3),
-            },
+            Named::At(y, at2) => parse_end(tokens, Operation::BinaryOp(word, result, x, y), at2),
         },
     }
 }

@@ -9,7 +9,7 @@ pub mod types;
 ghost use mathlib.Core.Path.{_≡_};
 ghost use Rattle.lexer.specs.Decoded.{tokensOf};
 ghost use Rattle.parser.specs.Step.{refusal};
-ghost use Rattle.parser.specs.Grammar.{consumeD, namedD, typeD, definitionD, instructionD};
+ghost use Rattle.parser.specs.Grammar.{consumeD, namedD, typeD, endD, definitionD, instructionD};
 use pieces::Identifier;
 use pieces::kinds;
 use utils::numbers;
@@ -154,6 +154,16 @@ pub fn parse_type(tokens: &[u32], at: usize) -> TypeRead
     TypeRead::Refused(refuse(numbers::NO_TYPE, at))
 }
 
+// The semicolon behind an operation.
+pub(crate) fn parse_end(tokens: &[u32], operation: Operation, at: usize) -> Parsed
+    ensures { λ r. ⌜ r ≡ endD (tokensOf (now (tokens .entry))) operation at ⌝ }
+{
+    match consume(tokens, at, kinds::SEMICOLON) {
+        Consumed::Refused(e) => Parsed::Refused(e),
+        Consumed::At(next) => Parsed::Done(operation, next),
+    }
+}
+
 fn parse_definition(tokens: &[u32], at: usize) -> Parsed
     ensures { λ r. ⌜ r ≡ definitionD (tokensOf (now (tokens .entry))) at ⌝ }
 {
@@ -175,7 +185,7 @@ pub fn parse_instruction(tokens: &[u32], at: usize) -> Parsed
         kinds::RET => statement::parse_ret(tokens, at, next),
         kinds::JMP => statement::parse_jump(tokens, at, next),
         kinds::BR => statement::parse_branch(tokens, at, next),
-        kinds::NOP => statement::parse_nop(tokens, at, next),
+        kinds::NOP => parse_end(tokens, Operation::Nop(at), next),
         kinds::CALL => Parsed::Call(at),
         _ => parse_definition(tokens, at),
     }

@@ -24,6 +24,7 @@ use crate::types;
 use pieces::kinds;
 use utils::limits;
 use utils::numbers;
+use utils::put_cells;
 
 pub fn type_cell(ty: Ty) -> u32
     ensures { λ r. ⌜ r ≡ typeCell ty ⌝ }
@@ -41,10 +42,9 @@ fn put_variable(cells: &mut [u32], at: usize, v: Variable)
     requires { ⌜ at + 2 ≤ length (now cells) ⌝ }
     ensures { λ r. ⌜ now (cells .exit) ≡ sets (now (cells .entry)) at (variableCells v) ⌝ }
 {
-    let next = at + 1;
     let ty = v.ty;
-    cells[at] = v.id.0;
-    cells[next] = type_cell(ty);
+    let part = [v.id.0, type_cell(ty)];
+    put_cells(cells, at, &part);
 }
 
 // 36 comes once the local is read.
