@@ -2,9 +2,7 @@
 -- each way a step can go, from what the call ensures and what its answer was. `search taken` puts them together.
 use Prim.Native.Nat.{ℕ}
 use mathlib.Core.Path.{_≡_, ap}
-use mathlib.Core.Bool.{Bool, true, false}
-use borrow.Author.Tests.{eq-eqb, ne-eqb, le-leb, lt-leb}
-use Rattle.utils.specs.Bytes.{pick}
+use Rattle.pieces.proofs.Picked.{picked}
 use Rattle.pieces.specs.declared.Identifier.{Identifier}
 use Rattle.lexer.specs.declared.TokenAt.{TokenAt}
 use Rattle.parser.specs.Step.{look, thenAt, thenNamed, thenType, thenDefined}
@@ -20,24 +18,6 @@ use Rattle.parser.specs.declared.TypeRead.the-variants as R
 use Rattle.parser.specs.declared.Defined.{Defined}
 use Rattle.parser.specs.declared.Defined.the-variants as D
 use Rattle.parser.specs.declared.Parsed.the-variants as P
-
-module _ {A : Type 0} {a x : A} (y : A) (q : Bool) where
-  pub pick-first : q ≡ true → a ≡ x → a ≡ pick q x y
-  unfolding pick
-  pick-first e r = rw e r
-
-  pub pick-told : {b : Bool} → b ≡ q → b ≡ true → a ≡ x → a ≡ pick q x y
-  unfolding pick
-  pick-told t e r = rw (← t, e) r
-
-module _ {A : Type 0} {a y : A} (x : A) (q : Bool) where
-  pub pick-second : q ≡ false → a ≡ y → a ≡ pick q x y
-  unfolding pick
-  pick-second e r = rw e r
-
-  pub pick-untold : {b : Bool} → b ≡ q → b ≡ false → a ≡ y → a ≡ pick q x y
-  unfolding pick
-  pick-untold t e r = rw (← t, e) r
 
 pub looked : {A : Type 0} {a : A} (k : ℕ → ℕ → A) {t u : TokenAt} → t ≡ u → a ≡ k (t .kind) (t .next) → a ≡ look u k
 unfolding look
@@ -103,12 +83,8 @@ module _ {e e′ : Refusal} (q : e ≡ e′) where
   pub refuses-operation : P.Refused e ≡ P.Refused e′
   refuses-operation = ap P.Refused q
 
-pub ruleset tests = (pick-first, pick-second, eq-eqb, ne-eqb, le-leb, lt-leb)
-
 pub ruleset taken = (
-  tests,
-  pick-told,
-  pick-untold,
+  picked,
   looked,
   at-refused,
   at-found,

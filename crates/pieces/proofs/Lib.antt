@@ -1,4 +1,6 @@
 -- Why each piece is scanned as the definition says, in reading order.
+-- the tests that lead to a return, and a scan's turn
+pub mod Picked
 -- a digit is one of the bytes 48 to 57
 pub mod Digits
 -- a number counted no higher than 2147483649 gives the same answers

@@ -1,6 +1,6 @@
 -- Each return has taken the steps that lead to it in the definition, in their order.
 use Rattle.parser.specs.Grammar.{isConstant}
-use Rattle.parser.proofs.Taken.{tests}
+use Rattle.pieces.proofs.Picked.{tests}
 use Rattle.parser.proofs.expression.is_constant.Statement.{statement}
 use Rattle.parser.proofs.expression.is_constant.Tie as tie
 

@@ -4,6 +4,7 @@ use native.Mathlib.Omega.{arith}
 use Prim.Native.Nat.{_+_}
 use denote.Ref.{now}
 use borrow.Author.Needs.{needs}
+use Rattle.pieces.proofs.Picked.{tests}
 use Rattle.pieces.proofs.Progress.{in-text}
 use Rattle.pieces.specs.Pieces.{slashAt}
 use Rattle.utils.specs.Bytes.{pick}
@@ -53,12 +54,10 @@ returns-3 c =
     rw (← peek .ensures, ne-eqb _ _ (if1 .left), eq-eqb _ _ (if2 .taken), ← comment-end .ensures, enum-told .given .1)
 
 returns-4 : tie.Need-returns-4
-unfolding slashAt pick
+unfolding slashAt
 returns-4 c =
     let peek = c .before .before .peek in
-    let if1 = c .before .if1 in
-    let if2 = c .if2 in
-    rw (← peek .ensures, ne-eqb _ _ (if1 .left), ne-eqb _ _ (if2 .left))
+    rw (← peek .ensures) (search tests)
 
 pub lex-slash-spec : {M : Type 1} → statement M
 lex-slash-spec =

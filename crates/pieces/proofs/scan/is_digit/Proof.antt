@@ -1,21 +1,10 @@
 -- Each return has made the tests that lead to it in the definition.
-use borrow.Author.Tests.{le-leb, lt-leb}
 use Rattle.pieces.specs.Classes.{isDigit}
-use Rattle.utils.specs.Bytes.{pick}
+use Rattle.pieces.proofs.Picked.{tests}
 use Rattle.pieces.proofs.scan.is_digit.Statement.{statement}
 use Rattle.pieces.proofs.scan.is_digit.Tie as tie
 
-returns : tie.Need-returns
-unfolding isDigit pick
-returns c =
-    let if1 = c .if1 in
-    rw (le-leb _ _ (if1 .taken))
-
-returns-2 : tie.Need-returns-2
-unfolding isDigit pick
-returns-2 c =
-    let if1 = c .if1 in
-    rw (lt-leb _ _ (if1 .left))
-
 pub is-digit-spec : {M : Type 1} → statement M
-is-digit-spec = tie.close (tie.spec returns returns-2)
+unfolding isDigit
+is-digit-spec =
+    tie.close (tie.spec (λ c. search tests) (λ c. search tests))
