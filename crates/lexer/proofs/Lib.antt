@@ -7,6 +7,8 @@ pub mod Sound
 pub mod Records
 -- the names that cells hold
 pub mod Parts
+-- an answer by cases
+pub mod Cases
 -- decoding undoes the laying out, whatever zeros follow
 pub mod Cells
 -- why the reader's loop is right

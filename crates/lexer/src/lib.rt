@@ -34,6 +34,7 @@ use pieces::scan;
 use pieces::tokens;
 use utils::limits;
 use utils::numbers;
+use utils::put_cells;
 
 // A name's number, or none: the Rust's Option<Identifier>.
 pub enum Found {
@@ -142,14 +143,8 @@ fn put_token(cells: &mut [u32], count: usize, token: Token)
 {
     let value = token.value;
     let first = tokens::kinded(value);
-    let at = count * TOKEN_CELLS;
-    let a1 = at + 1;
-    let a2 = at + 2;
-    let a3 = at + 3;
-    cells[at] = first.0;
-    cells[a1] = first.1;
-    cells[a2] = token.line.0;
-    cells[a3] = token.place as u32;
+    let part = [first.0, first.1, token.line.0, token.place as u32];
+    put_cells(cells, count * TOKEN_CELLS, &part);
 }
 
 // Stores a token behind `count` others, where there is room for it.

@@ -16,6 +16,7 @@ use crate::Refusal;
 use crate::sizes::NAME_CELLS;
 use crate::tokens;
 use utils::limits;
+use utils::put_cells;
 
 // Whether m bytes of the text from a are the n bytes from b.
 fn same_name(text: &[u8], a: usize, m: usize, b: usize, n: usize) -> bool
@@ -70,10 +71,8 @@ pub(crate) fn get_identifier(text: &[u8], names: &mut [u32], count: usize, name:
             if limits::NAMES <= count {
                 return Identified::Refused(Refusal::TooManyNames(at));
             }
-            let p = count * NAME_CELLS;
-            let q = p + 1;
-            names[p] = place as u32;
-            names[q] = len as u32;
+            let part = [place as u32, len as u32];
+            put_cells(names, count * NAME_CELLS, &part);
             Identified::New(Identifier(count as u32))
         }
     }

@@ -21,6 +21,4 @@ returns-2 c =
     rw (if1 .left) (same-bytes .ensures)
 
 pub same-name-spec : {M : Type 1} → statement M
-same-name-spec =
-    tie.close
-    (tie.spec returns (λ c κs. search needs) returns-2)
+same-name-spec = tie.close (tie.spec returns (λ c κs. search needs) returns-2)
