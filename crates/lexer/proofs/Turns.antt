@@ -3,8 +3,11 @@
 use Prim.Native.Nat.{ℕ, suc, _+_, _-_, _*_, _≤_, _<_}
 use mathlib.Core.Path.{_≡_, refl, sym, ap, _∙_}
 use mathlib.Core.List.{List, [], _∷_, _++_}
+use mathlib.Core.Bool.{Bool, true, false, not}
 use native.Mathlib.Omega.{arith}
-use borrow.Author.Tests.{lt-ltb, le-ltb, ltb-true}
+use borrow.Author.Tests.{lt-ltb, le-ltb, ltb-true, ltb-false, not-true, not-false}
+use mir.Syntax.{w32}
+use mir.Val.{Fits}
 use lib.Dec.{ltb}
 use lib.ListN.{length, take, replicate, length-append, length-replicate}
 use lib.Seq.{sets, length-sets}
@@ -17,7 +20,7 @@ use Rattle.lexer.specs.Numbered.{Part, part, Outcome, identified, onFoun
 use Rattle.lexer.specs.Numbered.{atToken, thenIdentified, thenRoom, numberedFrom, numbered, tokensCells}
 use Rattle.lexer.specs.Numbered.{namesCells}
 use Rattle.lexer.specs.Read.{resultOf, Held}
-use Rattle.lexer.specs.Steps.{partsOf, Within, newCells, nextName, nextOf, addedBy}
+use Rattle.lexer.specs.Steps.{partsOf, Within, Table, newCells, nextName, nextOf, addedBy, pushed}
 use Rattle.lexer.proofs.Parts.{tokens-cells-snoc, names-cells-snoc, within-snoc}
 use Rattle.lexer.proofs.Cells.{length-tokens-cells, length-names-cells, cells-parts-padded}
 use Rattle.pieces.proofs.Progress.{Past, piece-past, pick-either}
@@ -29,6 +32,7 @@ use Rattle.lexer.specs.declared.Found.{Found}
 use Rattle.lexer.specs.declared.Found.the-variants as F
 use Rattle.lexer.specs.declared.Identified.{Identified}
 use Rattle.lexer.specs.declared.Identified.the-variants as I
+use Rattle.pieces.specs.declared.Refusal.{Refusal}
 use Rattle.pieces.specs.declared.Refusal.the-variants as R
 use Rattle.pieces.specs.declared.Lexed.{Lexed}
 use Rattle.pieces.specs.declared.Lexed.the-variants as L
@@ -55,6 +59,10 @@ identified-room s ps n =
 
 -- the loop's state; t₀ and n₀ are the cleared slices
 pub record Lexing (s : List ℕ) (first : ℕ) (t₀ n₀ t n : List ℕ) (count known : ℕ) (at : Cursor) : Type 0 where
+  pub small : length s ≤ 16384
+  pub early : first ≤ 2147483648
+  pub sized : 16384 ≤ length t₀
+  pub sized-names : 2048 ≤ length n₀
   pub within : at .place ≤ length s
   pub lines : at .line ≤ first + at .place
   pub long : length t ≡ length t₀
@@ -79,10 +87,15 @@ pad-none t n e =
     e ∙ ap (λ (m : ℕ). replicate m 0) q
 
 pub start : (s : List ℕ) (first : ℕ) (t n : List ℕ) (i j : ℕ) → t ≡ padTo i [] → n ≡ padTo j []
+    → length s ≤ 16384 → first ≤ 2147483648 → 16384 ≤ length t → 2048 ≤ length n
     → Lexing s first t n t n 0 0 (record { place = 0; line = first })
 unfolding numbered tokensCells namesCells
-start s first t n i j e f =
+start s first t n i j e f small early sized sized-names =
     record {
+      small = small;
+      early = early;
+      sized = sized;
+      sized-names = sized-names;
       within = omega arith;
       lines = omega arith;
       long = refl;
@@ -136,9 +149,8 @@ After s first t₀ n₀ t n count known at (N.End u) = Closed s first t₀ n₀ 
 After s first t₀ n₀ t n count known at (N.Refused r) =
     (numbered s first ≡ Outcome.refused r) × (factsOf r .place ≤ length s)
 
-module _ {s : List ℕ} {first : ℕ} {t₀ n₀ t n : List ℕ} {count known : ℕ} {at : Cursor} (tokens-sized : 16384 ≤ length
-    t₀)
-    (names-sized : 2048 ≤ length n₀) (v : Lexing s first t₀ n₀ t n count known at) where
+module _ {s : List ℕ} {first : ℕ} {t₀ n₀ t n : List ℕ} {count known : ℕ} {at : Cursor}
+    (v : Lexing s first t₀ n₀ t n count known at) where
   pub taken : partsOf (take (known * 2) n) ≡ v .parts
   taken = rw (v .parts-held, ← v .parts-counted) (cells-parts-padded (length n₀) (v .parts))
 
@@ -149,7 +161,7 @@ module _ {s : List ℕ} {first : ℕ} {t₀ n₀ t n : List ℕ} {count known : 
       let l : length (tokensCells (v .found)) ≡ count * 4 =
       omega (arith, length-tokens-cells (v .found), v .counted) in
       e ∙ rw (v .held, tokens-cells-snoc)
-      (sets-pad (length t₀) (count * 4) (tokensCells (v .found)) (tokenCells u) l (omega arith))
+      (sets-pad (length t₀) (count * 4) (tokensCells (v .found)) (tokenCells u) l (omega (arith, v .sized)))
 
   -- the pieces from a later place on, with one turn less
   fewer : (c : Cursor) → at .place < c .place → c .place ≤ length s
@@ -174,6 +186,10 @@ module _ {s : List ℕ} {first : ℕ} {t₀ n₀ t n : List ℕ} {count known : 
         full = λ f. whole ∙ rw (v .counted, le-ltb count 4096 f);
         more = λ f t′ e.
             record {
+              small = v .small;
+              early = v .early;
+              sized = v .sized;
+              sized-names = v .sized-names;
               within = inside;
               lines = omega (arith, v .lines);
               long = rw e (length-sets t _ (tokenCells u) ∙ v .long);
@@ -225,7 +241,7 @@ module _ {s : List ℕ} {first : ℕ} {t₀ n₀ t n : List ℕ} {count known : 
       let cells : List ℕ = m .place ∷ m .len ∷ [] in
       let held : n′ ≡ padTo (length n₀) (namesCells (v .parts ++ (p ∷ []))) =
       d ∙ rw (v .parts-held, names-cells-snoc)
-      (sets-pad (length n₀) (known * 2) (namesCells (v .parts)) cells l (omega arith)) in
+      (sets-pad (length n₀) (known * 2) (namesCells (v .parts)) cells l (omega (arith, v .sized-names))) in
       made (named m i) c (v .parts ++ (p ∷ [])) (known + 1) n′ (past .on) (past .within) (past .same-line)
       (past .name-place) q (omega arith) (rw d (length-sets n _ cells ∙ v .long-names)) held
       (within-snoc (length s) (v .parts) p (v .parts-within) (omega (arith, past .name-end, past .within)))
@@ -239,6 +255,10 @@ module _ {s : List ℕ} {first : ℕ} {t₀ n₀ t n : List ℕ} {count known : 
   unfolding nextOf addedBy onPiece numberedFrom thenRoom pick
   of-piece (L.Skipped c) n′ e past d = (
     record {
+      small = v .small;
+      early = v .early;
+      sized = v .sized;
+      sized-names = v .sized-names;
       within = past .within;
       lines = omega (arith, v .lines, past .line-to);
       long = v .long;
@@ -293,11 +313,110 @@ module _ {s : List ℕ} {first : ℕ} {t₀ n₀ t n : List ℕ} {count known : 
       let p = pieceAt s (at .place) (at .line) in
       rw e (rw taken (of-piece p n′ refl (piece-past s (at .place) (at .line) (v .within)) (rw taken at d)))
 
--- the answer once the last token is stored, for slices of these lengths
-pub finish : {s : List ℕ} {first : ℕ} {t₀ n₀ t n : List ℕ} {count known : ℕ} → Ended s first t₀ n₀ t n count known
-    → (a b : List ℕ) → length t₀ ≡ length a → length n₀ ≡ length b
-    → (X.Done count known ≡ resultOf (numbered s first)) × Held (numbered s first) a b t n
-finish e a b p q =
-    let tokens = e .held ∙ ap (λ (m : ℕ). padTo m (tokensCells (e .tokens))) p in
-    let names = e .names-held ∙ ap (λ (m : ℕ). padTo m (namesCells (e .names))) q in
-    rw (e .whole) (rw (e .counted, e .names-counted), (tokens, names))
+  -- what next_token may rely on
+  pub ready : Table s n known × (at .place ≤ length s) × (at .line < 4294967295)
+  ready = (
+    record {
+      few = v .parts-room;
+      room = omega (arith, v .long-names, v .sized-names);
+      small = omega (arith, v .small);
+      within = rw taken (v .parts-within);
+    },
+    v .within,
+    omega (arith, v .lines, v .within, v .small, v .early),
+  )
+
+  -- the counts as numbers of 32 bits
+  pub count-fits : Fits w32 count
+  count-fits = omega (arith, v .room)
+
+  pub more-fits : Fits w32 (count + 1)
+  more-fits = omega (arith, v .room)
+
+  pub known-fits : Fits w32 known
+  known-fits = omega (arith, v .parts-room)
+
+  pub tokens-room : 16384 ≤ length t
+  tokens-room = omega (arith, v .long, v .sized)
+
+  -- the slices' lengths, for slices that were lent with these
+  pub tokens-long : (e t′ : List ℕ) → length t₀ ≡ length e → length t′ ≡ length t → length t′ ≡ length e
+  tokens-long e t′ h g = g ∙ v .long ∙ h
+
+  pub names-long : (e n′ : List ℕ) → length n₀ ≡ length e → length n′ ≡ length n → length n′ ≡ length e
+  names-long e n′ h g = g ∙ v .long-names ∙ h
+
+-- A turn by next_token's answer, from what its call ensures: each need of the loop is one of these.
+module _ {s : List ℕ} {first : ℕ} {t₀ n₀ t n : List ℕ} {count known : ℕ} {at : Cursor} {r : Next} {n′ : List ℕ}
+    (v : Lexing s first t₀ n₀ t n count known at)
+    (is : r ≡ nextOf s (partsOf (take (known * 2) n)) known (pieceAt s (at .place) (at .line)))
+    (adds : n′ ≡ sets n (known * 2) (addedBy s (partsOf (take (known * 2) n)) (pieceAt s (at .place) (at .line)))) where
+  after : {q : Next} → r ≡ q → After s first t₀ n₀ t n′ count known at q
+  after e = rw e at (turn v r n′ is adds)
+
+  pub skipped : {c : Cursor} → r ≡ N.Skipped c → Lexing s first t₀ n₀ t n′ count known c
+  skipped e = after e .0
+
+  pub skipped-less : {c : Cursor} → r ≡ N.Skipped c → length s - c .place < length s - at .place
+  skipped-less e = omega (arith, after e .1, after e .2)
+
+  pub refused : {x : Refusal} → r ≡ N.Refused x → X.Refused x ≡ resultOf (numbered s first)
+  refused e = rw (after e .0)
+
+  pub refused-held : (a b t′ n″ : List ℕ) {x : Refusal} → r ≡ N.Refused x → Held (numbered s first) a b t′ n″
+  refused-held a b t′ n″ e = rw (after e .0) tt
+
+  -- a token: the code has asked whether there is room for it
+  module _ {u : Token} {c : Cursor} {k : ℕ} (e : r ≡ N.Token u c k) where
+    pub token-place : u .place < 4294967296
+    token-place = omega (arith, after e .place, v .small)
+
+    pub token-less : length s - c .place < length s - at .place
+    token-less = omega (arith, after e .later, after e .inside)
+
+    token-over : {q : Bool} → q ≡ ltb count 4096 → not q ≡ true
+        → numbered s first ≡ Outcome.refused (R.TooManyTokens (atToken u))
+    token-over h g = after e .full (ltb-false _ _ (sym h ∙ not-true _ g))
+
+    pub token-full : {x : Refusal} {q : Bool} → q ≡ ltb count 4096 → not q ≡ true → x ≡ R.TooManyTokens (atToken u)
+        → X.Refused x ≡ resultOf (numbered s first)
+    token-full h g d = rw (token-over h g, d)
+
+    pub token-full-held : (a b t′ n″ : List ℕ) {q : Bool} → q ≡ ltb count 4096 → not q ≡ true
+        → Held (numbered s first) a b t′ n″
+    token-full-held a b t′ n″ h g = rw (token-over h g) tt
+
+    pub token-more : {q : Bool} {t′ : List ℕ} → q ≡ ltb count 4096 → not q ≡ false → t′ ≡ pushed t count u
+        → Lexing s first t₀ n₀ t′ n′ (count + 1) k c
+    unfolding pushed pick
+    token-more h g d =
+        let room = sym h ∙ not-false _ g in
+        after e .more (ltb-true _ _ room) _ (rw room at d)
+
+  -- the end token
+  module _ {u : Token} (e : r ≡ N.End u) where
+    pub end-place : u .place < 4294967296
+    end-place = omega (arith, after e .place, v .small)
+
+    end-over : {q : Bool} → q ≡ ltb count 4096 → not q ≡ true
+        → numbered s first ≡ Outcome.refused (R.TooManyTokens (atToken u))
+    end-over h g = after e .full (ltb-false _ _ (sym h ∙ not-true _ g))
+
+    pub end-full : {x : Refusal} {q : Bool} → q ≡ ltb count 4096 → not q ≡ true → x ≡ R.TooManyTokens (atToken u)
+        → X.Refused x ≡ resultOf (numbered s first)
+    end-full h g d = rw (end-over h g, d)
+
+    pub end-full-held : (a b t′ n″ : List ℕ) {q : Bool} → q ≡ ltb count 4096 → not q ≡ true
+        → Held (numbered s first) a b t′ n″
+    end-full-held a b t′ n″ h g = rw (end-over h g) tt
+
+    module _ {q : Bool} {t′ : List ℕ} (h : q ≡ ltb count 4096) (g : not q ≡ false) (d : t′ ≡ pushed t count u) where
+      ended : Ended s first t₀ n₀ t′ n′ (count + 1) known
+      unfolding pushed pick
+      ended = let room = sym h ∙ not-false _ g in after e .done (ltb-true _ _ room) _ (rw room at d)
+
+      pub end-done : X.Done (count + 1) known ≡ resultOf (numbered s first)
+      end-done = rw (ended .whole, ended .counted, ended .names-counted)
+
+      pub end-held : (a b : List ℕ) → length t₀ ≡ length a → length n₀ ≡ length b → Held (numbered s first) a b t′ n′
+      end-held a b p w = rw (ended .whole, ← p, ← w) (ended .held, ended .names-held)
