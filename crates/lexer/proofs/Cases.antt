@@ -1,7 +1,7 @@
 -- Where a definition goes by cases of an answer, the case that the code has met decides it: one lemma for each such
 -- definition, from what the call ensures and what its answer was. `search` puts them together.
 use Prim.Native.Nat.{ℕ, _*_, _<_, _≤_}
-use mathlib.Core.Path.{_≡_, _∙_, ap}
+use mathlib.Core.Path.{_≡_}
 use mathlib.Core.List.{List}
 use mathlib.Core.Bool.{true, false}
 use native.Mathlib.Omega.{arith}

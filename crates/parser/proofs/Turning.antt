@@ -3,19 +3,22 @@
 use Prim.Native.Nat.{ℕ, zero, suc, _+_, _-_, _≤_, _<_}
 use mathlib.Core.Path.{_≡_, refl, sym, _∙_}
 use mathlib.Core.List.{List}
-use mathlib.Core.Bool.{true, false}
+use mathlib.Core.Bool.{Bool, true, false}
 use mathlib.Core.Logic.{⊎-elim}
 use native.Mathlib.Omega.{arith}
 use native.Mathlib.Nat.{eq-or-lt-of-le}
+use native.Mathlib.Numerals.{add-one}
 use borrow.Author.Tests.{le-leb, lt-leb, eq-eqb, ne-eqb}
-use lib.Dec.{leb}
-use lib.ListN.{length, take}
-use lib.Seq.{length-take-le, sets}
+use lib.Dec.{eqb, leb}
+use lib.ListN.{length, drop, take, getD}
+use lib.Seq.{drop-cons, getD-take, length-take-le, sets}
+use Rattle.utils.specs.Bytes.{pick}
 use Rattle.lexer.specs.Decoded.{Tok, tokenAt}
 use Rattle.lexer.specs.declared.TokenAt.{TokenAt}
 use Rattle.pieces.specs.declared.Identifier.{Identifier}
 use Rattle.parser.specs.Step.{refusal, opened, thenAt}
 use Rattle.parser.proofs.Taken.{taken}
+use Rattle.parser.specs.Labels.{has}
 use Rattle.parser.specs.Grammar.{consumeD, localD, globalD}
 use Rattle.parser.specs.Runs.{Variables, runOf, ended, stopped, andThen, variable, formalD, formalsFromD}
 use Rattle.parser.specs.Runs.{argumentsD, variablesCells, calling, callD, calledOf}
@@ -146,3 +149,21 @@ module _ (ts : List Tok) (word : ℕ) {at i : ℕ} {g : Identifier} {c : Consume
   pub call-stored : (used : ℕ) (b₀ : List ℕ) {b : List ℕ} → b ≡ sets b₀ used (variablesCells (argumentsD ts 16 i .list))
       → b ≡ sets b₀ used (variablesCells (callD ts word .arguments .list))
   call-stored used b₀ r = rw (← call-is) r
+
+-- one turn of the look-up among the first `count` labels, by whether the label that stands there is the one
+module _ (count : ℕ) (labels : List ℕ) (x i : ℕ) {w : Bool} (here : has (drop i (take count labels)) x ≡ w)
+    (fit : count ≤ length labels) (below : i < count) where
+  step : w ≡ pick (eqb (getD labels i 0) x) true (has (drop (i + 1) (take count labels)) x)
+  unfolding has
+  step =
+      let l : length (take count labels) ≡ count = length-take-le count labels fit in
+      let d = drop-cons (take count labels) i 0 (omega arith) in
+      sym here ∙ rw (d, getD-take count labels i 0 below, add-one i)
+
+  pub label-here : getD labels i 0 ≡ x → true ≡ w
+  unfolding pick
+  label-here e = sym (step ∙ rw (eq-eqb _ _ e))
+
+  pub label-later : (getD labels i 0 ≡ x → ⊥) → has (drop (i + 1) (take count labels)) x ≡ w
+  unfolding pick
+  label-later e = sym (step ∙ rw (ne-eqb _ _ e))

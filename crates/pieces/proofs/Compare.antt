@@ -1,6 +1,6 @@
 -- Bytes compared one after the other: one byte more, the end, and lists of two lengths. Parts by length and by ends.
 use Prim.Native.Nat.{ℕ, zero, suc, _+_, _-_, _≤_, _<_}
-use mathlib.Core.Path.{_≡_, refl, ap, _∙_}
+use mathlib.Core.Path.{_≡_, refl, sym, ap, _∙_}
 use mathlib.Core.List.{List, [], _∷_}
 use mathlib.Core.Bool.{Bool, true, false}
 use native.Mathlib.Omega.{arith}
@@ -39,11 +39,16 @@ other-length (x ∷ xs) (y ∷ ys) h = rw (other-length xs ys (λ e. h (ap suc e
 
 -- and so do parts of two lengths
 pub other-part : (a b : List ℕ) (i m j n : ℕ) → i + m ≤ length a → j + n ≤ length b → (m ≡ n → ⊥)
-    → sameBytes (slice i (i + m) a) (slice j (j + n) b) ≡ false
+    → false ≡ sameBytes (slice i (i + m) a) (slice j (j + n) b)
 other-part a b i m j n ha hb h =
     let la : length (slice i (i + m) a) ≡ i + m - i = length-slice i (i + m) a ha in
     let lb : length (slice j (j + n) b) ≡ j + n - j = length-slice j (j + n) b hb in
-    other-length _ _ (λ e. h (omega (arith, e, la, lb)))
+    sym (other-length _ _ (λ e. h (omega (arith, e, la, lb))))
+
+-- of one length the bytes decide
+pub same-part : (a b : List ℕ) (i m j n : ℕ) {q : Bool} → m ≡ n
+    → q ≡ sameBytes (slice i (i + n) a) (slice j (j + n) b) → q ≡ sameBytes (slice i (i + m) a) (slice j (j + n) b)
+same-part a b i m j n e h = rw e h
 
 -- a part by its length, and by its ends
 pub part-slice : (a n : ℕ) (l : List ℕ) → take n (drop a l) ≡ slice a (a + n) l

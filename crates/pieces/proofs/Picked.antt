@@ -45,6 +45,10 @@ module _ {A : Type 0} (f : List ℕ → ℕ → A) (s : List ℕ) (i : ℕ) {a w
   at-end h r = r ∙ rw (drop-of-length-le s {i = i} h) at here
 
 -- the same for a scan that knows something of the byte before
-pub with-byte : {X A : Type 0} (f : X → List ℕ → ℕ → A) (x : X) (s : List ℕ) (i : ℕ) {a w : A} → f x (drop i s) i ≡ w
-    → i < length s → a ≡ f x (getD s i 0 ∷ drop (i + 1) s) i → a ≡ w
-with-byte f x s i e h r = at-byte (f x) s i e h r
+module _ {X A : Type 0} (f : X → List ℕ → ℕ → A) (x : X) (s : List ℕ) (i : ℕ) {a w : A} (here : f x (drop i s) i ≡ w)
+  where
+    pub with-byte : i < length s → a ≡ f x (getD s i 0 ∷ drop (i + 1) s) i → a ≡ w
+    with-byte h r = at-byte (f x) s i here h r
+
+    pub with-end : length s ≤ i → a ≡ f x [] i → a ≡ w
+    with-end h r = at-end (f x) s i here h r

@@ -8,4 +8,8 @@ use Rattle.pieces.proofs.lex.lex_token.Tie as tie
 pub lex-token-spec : {M : Type 1} → statement M
 unfolding tokenFrom
 lex-token-spec =
-    tie.close (tie.spec (λ c. search needs) (λ c κs. search needs) (λ c. search picked depth 9) (λ c κs. search needs) (λ c. search picked depth 9) (λ c κs. search needs) (λ c. search picked depth 9) (λ c κs. search needs) (λ c κs. search needs) (λ c. search picked depth 9) (λ c κs. search needs) (λ c κs. search needs) (λ c. search picked depth 9) (λ c κs. search needs) (λ c. search picked depth 9))
+    tie.close
+    (tie.spec (λ c. search needs) (λ c κs. search needs) (λ c. search picked depth 9) (λ c κs. search needs)
+    (λ c. search picked depth 9) (λ c κs. search needs) (λ c. search picked depth 9) (λ c κs. search needs)
+    (λ c κs. search needs) (λ c. search picked depth 9) (λ c κs. search needs) (λ c κs. search needs)
+    (λ c. search picked depth 9) (λ c κs. search needs) (λ c. search picked depth 9))

@@ -8,4 +8,6 @@ use Rattle.pieces.proofs.scan.is_name_part.Tie as tie
 pub is-name-part-spec : {M : Type 1} → statement M
 unfolding isNamePart
 is-name-part-spec =
-    tie.close (tie.spec (λ c κs. search needs) (λ c. search picked) (λ c κs. search needs) (λ c. search picked) (λ c. search picked))
+    tie.close
+    (tie.spec (λ c κs. search needs) (λ c. search picked) (λ c κs. search needs) (λ c. search picked)
+    (λ c. search picked))

@@ -7,4 +7,7 @@ use Rattle.pieces.proofs.tokens.from_char.Tie as tie
 pub from-char-spec : {M : Type 1} → statement M
 unfolding symbol
 from-char-spec =
-    tie.close (tie.spec (λ c. search arms depth 12) (λ c. search arms depth 12) (λ c. search arms depth 12) (λ c. search arms depth 12) (λ c. search arms depth 12) (λ c. search arms depth 12) (λ c. search arms depth 12) (λ c. search arms depth 12) (λ c. search arms depth 12))
+    tie.close
+    (tie.spec (λ c. search arms depth 12) (λ c. search arms depth 12) (λ c. search arms depth 12)
+    (λ c. search arms depth 12) (λ c. search arms depth 12) (λ c. search arms depth 12) (λ c. search arms depth 12)
+    (λ c. search arms depth 12) (λ c. search arms depth 12))
