@@ -1,14 +1,18 @@
 -- The names that cells hold: the first of a run and how many there are; and the cells of one token or name more.
 use Prim.Native.Nat.{ℕ, suc, _+_, _-_, _*_, _≤_, _<_}
-use mathlib.Core.Path.{_≡_, refl, ap}
+use mathlib.Core.Path.{_≡_, refl, sym, ap, _∙_}
 use mathlib.Core.List.{List, [], _∷_, _++_}
+use mathlib.Core.Bool.{Bool, true, false}
 use native.Mathlib.Omega.{arith}
 use lib.ListN.{length, take, drop, getD}
-use lib.Seq.{drop-cons, getD-take, length-take-le}
+use lib.Seq.{slice, drop-cons, getD-take, length-take-le}
+use Rattle.utils.specs.Bytes.{pick, sameBytes}
 use Rattle.pieces.specs.Tokens.{tokenCells}
-use Rattle.lexer.specs.Numbered.{Part, part, tokensCells, namesCells}
-use Rattle.lexer.specs.Steps.{partsOf, Within}
+use Rattle.lexer.specs.Numbered.{Part, part, spellings, indexOf, tokensCells, namesCells}
+use Rattle.lexer.specs.Steps.{partsOf, Within, Table}
 use Rattle.pieces.specs.declared.Token.{Token}
+use Rattle.lexer.specs.declared.Found.{Found}
+use Rattle.lexer.specs.declared.Found.the-variants as F
 
 pub parts-step : (ns : List ℕ) (k count : ℕ) → k < count → count * 2 ≤ length ns
     → partsOf (drop (k * 2) (take (count * 2) ns))
@@ -28,6 +32,32 @@ unfolding partsOf
 parts-count [] n e = omega arith
 parts-count (a ∷ []) n e = absurd (omega arith)
 parts-count (a ∷ b ∷ r) n e = omega (arith, parts-count r (n - 1) (omega arith))
+
+-- One turn of the look-up of a spelling w among the first `count` names, by whether the name that stands there is it.
+module _ (text names : List ℕ) (count k : ℕ) (below : k < count) (table : Table text names count) where
+  step : partsOf (drop (k * 2) (take (count * 2) names))
+      ≡ part (getD names (k * 2) 0) (getD names (k * 2 + 1) 0) ∷ partsOf (drop ((k + 1) * 2) (take (count * 2) names))
+  step = parts-step names k count below (omega (arith, table .few, table .room))
+
+  module _ (inside : Within (length text) (partsOf (drop (k * 2) (take (count * 2) names)))) where
+    pub name-within : getD names (k * 2) 0 + getD names (k * 2 + 1) 0 ≤ length text
+    name-within = (rw step at inside) .0
+
+    pub names-within : Within (length text) (partsOf (drop ((k + 1) * 2) (take (count * 2) names)))
+    names-within = (rw step at inside) .1
+
+  module _ (w : List ℕ) {f : Found} {q : Bool}
+      (here : indexOf w (spellings text (partsOf (drop (k * 2) (take (count * 2) names)))) k ≡ f)
+      (same : q ≡ sameBytes (slice (getD names (k * 2) 0) (getD names (k * 2) 0 + getD names (k * 2 + 1) 0) text) w)
+    where
+      pub name-here : q ≡ true → F.At (record { 0 = k }) ≡ f
+      unfolding indexOf spellings pick
+      name-here e = sym (sym here ∙ rw (step, ← same, e))
+
+      pub name-later : q ≡ false
+          → indexOf w (spellings text (partsOf (drop ((k + 1) * 2) (take (count * 2) names)))) (k + 1) ≡ f
+      unfolding indexOf spellings pick
+      name-later e = sym (sym here ∙ rw (step, ← same, e))
 
 -- One token or name more.
 

@@ -6,10 +6,9 @@ use mathlib.Core.Path.{_≡_, refl}
 use lib.ListN.{length, drop, take, length-take, drop-of-length-le}
 use lib.Seq.{slice}
 use denote.Ref.{now}
-use Rattle.lexer.proofs.Parts.{parts-step}
+use Rattle.lexer.proofs.Parts.{name-within, names-within, name-here, name-later}
 use Rattle.lexer.specs.Steps.{partsOf, Within}
 use Rattle.lexer.specs.Numbered.{indexOf, spellings}
-use Rattle.utils.specs.Bytes.{pick}
 use Rattle.lexer.proofs.names.lookup.Statement.{statement}
 use Rattle.lexer.proofs.names.lookup.Tie as tie
 
@@ -41,36 +40,11 @@ cast-n c =
 
 same-name-requires : tie.Need-same-name-requires Inv-loop μ-loop
 same-name-requires c κs =
-    let a = c .before .before .before .before .before .before .args in
-    let loop = c .before .before .before .loop in
-    let loop-test = c .before .before .loop-test in
-    let step = parts-step (now (a .names)) (loop .k) (a .count) (loop-test .taken) (omega arith) in
-    omega (arith, (rw step at (loop .inv .2)) .0)
-
-returns : tie.Need-returns Inv-loop μ-loop
-unfolding indexOf spellings pick
-returns c =
-    let a = c .before .before .before .before .before .before .before .before .args in
-    let loop = c .before .before .before .before .before .loop in
-    let loop-test = c .before .before .before .before .loop-test in
-    let same-name = c .before .same-name in
-    let if1 = c .if1 in
-    let step = parts-step (now (a .names)) (loop .k) (a .count) (loop-test .taken) (omega arith) in
-    rw (← loop .inv .1, step, ← same-name .ensures, if1 .taken)
-
-loop-less : tie.Need-loop-less Inv-loop μ-loop
-loop-less c = omega arith
+    let pre = c .before .before .before .before .before .before .pre in
+    (search name-within, pre .1)
 
 loop-again : tie.Need-loop-again Inv-loop μ-loop
-unfolding indexOf spellings pick
-loop-again c =
-    let a = c .before .before .before .before .before .before .before .before .args in
-    let loop = c .before .before .before .before .before .loop in
-    let loop-test = c .before .before .before .before .loop-test in
-    let same-name = c .before .same-name in
-    let if1 = c .if1 in
-    let step = parts-step (now (a .names)) (loop .k) (a .count) (loop-test .taken) (omega arith) in
-    (omega arith, rw (← loop .inv .1, step, ← same-name .ensures, if1 .left), (rw step at (loop .inv .2)) .1)
+loop-again c = (omega arith, search name-later, search names-within)
 
 returns-2 : tie.Need-returns-2 Inv-loop μ-loop
 unfolding indexOf spellings partsOf
@@ -85,4 +59,4 @@ lookup-spec =
     tie.close
     (tie.spec Inv-loop μ-loop loop-holds (λ c. search needs) (λ c. search needs) (λ c. search needs)
     (λ c. search needs) cast-a (λ c. search needs) (λ c. search needs) cast-n same-name-requires (λ c. search needs)
-    returns (λ c. search needs) loop-less loop-again returns-2)
+    (λ c. search name-here) (λ c. search needs) (λ c. search needs) loop-again returns-2)
