@@ -20,15 +20,16 @@ use Rattle.functions.proofs.Standing.{cell-there, row-token, row-name, row-ret,
 use Rattle.functions.proofs.Standing.{row-stands, rows-behind}
 use Rattle.sema.specs.Typing.{Global}
 use Rattle.sema.specs.Globals.{rowGlobal, globalOf}
-use Rattle.sema.specs.declared.FoundRow.{FoundRow}
-use Rattle.sema.specs.declared.FoundRow.the-variants as W
+use Rattle.functions.specs.declared.FoundRow.{FoundRow}
+use Rattle.functions.specs.declared.FoundRow.the-variants as W
+use Rattle.elaborate.specs.Types.{typeCellOf}
 use Rattle.unit.specs.Outcome.{none}
 use Rattle.checker.specs.Check.{checkOf}
 use Rattle.headers.specs.Ranges.{RowInRange}
 use Rattle.checker.specs.Numbers.{Accepts}
 use Rattle.checker.proofs.Header.{header-in-range}
 use Rattle.headers.specs.Table.{isTable}
-use Rattle.headers.specs.Spelled.{rowName, rowSpelled, globalsSpelled, typeCellOf, calleesSpelled}
+use Rattle.headers.specs.Spelled.{rowName, rowSpelled, globalsSpelled, calleesSpelled}
 use Rattle.headers.specs.Kept.{keeps}
 use Rattle.headers.proofs.Ranges.{in-range-table}
 use Rattle.headers.proofs.Brought.{row-name-part}

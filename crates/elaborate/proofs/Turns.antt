@@ -1,30 +1,13 @@
 -- One turn of each loop: what is left is the first of it and the rest, or nothing.
-use Prim.Native.Nat.{ℕ, zero, suc, _+_, _*_, _-_, _≤_, _<_}
+use Prim.Native.Nat.{ℕ, zero, suc, _+_, _*_, _-_, _<_}
 use mathlib.Core.Path.{_≡_}
 use mathlib.Core.List.{List}
 use native.Mathlib.Omega.{arith}
-use borrow.Author.Tests.{eq-eqb, ne-eqb}
 use lib.ListN.{getD, set}
 use lib.Seq.{sets}
-use Rattle.utils.specs.Bytes.{pick}
 use Rattle.body.specs.Records.{recordAt, recordCells}
-use Rattle.functions.specs.Columns.{nameAt, typeAt}
-use Rattle.elaborate.specs.Types.{typeOf, calleeFrom, typedRecord, typedRun, typedArguments, typedItems}
+use Rattle.elaborate.specs.Types.{typeOf, typedRecord, typedRun, typedArguments, typedItems}
 use Rattle.elaborate.specs.Types.{typedCalls}
-
-module _ (rows : List ℕ) (i n name : ℕ) where
-  pub callee-here : i < n → getD rows (nameAt i) 0 ≡ name → calleeFrom rows i (n - i) name ≡ getD rows (typeAt i) 0 + 4
-  unfolding calleeFrom pick
-  callee-here h g = let m : n - i ≡ suc (n - (i + 1)) = omega arith in rw (m, eq-eqb _ _ g)
-
-  pub callee-later : i < n → (getD rows (nameAt i) 0 ≡ name → ⊥)
-      → calleeFrom rows i (n - i) name ≡ calleeFrom rows (i + 1) (n - (i + 1)) name
-  unfolding calleeFrom pick
-  callee-later h g = let m : n - i ≡ suc (n - (i + 1)) = omega arith in rw (m, ne-eqb _ _ g)
-
-  pub callee-none : n ≤ i → calleeFrom rows i (n - i) name ≡ 0
-  unfolding calleeFrom
-  callee-none h = let m : n - i ≡ 0 = omega arith in rw m
 
 pub run-more : (table cells : List ℕ) (at n : ℕ) → 0 < n
     → typedRun table cells at n

@@ -19,7 +19,10 @@ use Rattle.body.specs.declared.ItemRecord.{ItemRecord}
 use Rattle.body.specs.declared.Last.{Last}
 use Rattle.body.specs.declared.Last.the-variants as L
 use Rattle.functions.specs.Functions.{Function}
-use Rattle.functions.specs.Columns.{nameAt, typeAt}
+use Rattle.functions.specs.Columns.{typeAt}
+use Rattle.functions.specs.Rows.{rowFrom}
+use Rattle.functions.specs.declared.FoundRow.{FoundRow}
+use Rattle.functions.specs.declared.FoundRow.the-variants as W
 
 -- a name's type
 abbrev pub typeOf : List ℕ → ℕ → ℕ
@@ -83,15 +86,13 @@ pub record Elaborated (table : List ℕ) (callees : ℕ → ℕ) (first count : 
 
 -- The same on any cells, whatever they hold. ------------------------------------------------------------------------
 
--- a callee's type, by the rows of the header table
-unfoldable pub calleeFrom : List ℕ → ℕ → ℕ → ℕ → ℕ
-calleeFrom rows i zero name = 0
-calleeFrom rows i (suc n) name =
-    let more = calleeFrom rows (i + 1) n name in
-    pick (eqb (getD rows (nameAt i) 0) name) (getD rows (typeAt i) 0 + Types.function) more
+-- a callee's type, by the rows of the header table: the cell of the type of the row that was found
+abbrev pub typeCellOf : List ℕ → FoundRow → ℕ
+typeCellOf rows (W.At i) = getD rows (typeAt i) 0 + Types.function
+typeCellOf rows W.Absent = 0
 
 abbrev pub calleeOf : List ℕ → ℕ → ℕ → ℕ
-calleeOf rows n name = calleeFrom rows 0 n name
+calleeOf rows n name = typeCellOf rows (rowFrom rows 0 n name)
 
 -- the arguments of a call: so many from the argument `at` on
 unfoldable pub typedRun : List ℕ → List ℕ → ℕ → ℕ → List ℕ

@@ -11,7 +11,8 @@ use body::ItemRecord;
 use body::Last;
 use body::kinds;
 use body::records;
-use functions::columns;
+use functions::FoundRow;
+use functions::known;
 use parser::VARIABLE_CELLS;
 use parser::types;
 use pieces::Identifier;
@@ -23,14 +24,10 @@ fn callee_type(rows: &[u32], n: usize, name: Identifier) -> u32
         × ((i : ℕ) → i < n → getD (now rows) (typeAt i) 0 ≤ mostFunctions) ⌝ }
     ensures { λ r. ⌜ r ≡ calleeOf (now (rows .entry)) n (name .0) ⌝ }
 {
-    let mut i: usize = 0;
-    while i < n {
-        if rows[columns::NAME + i * columns::ROW] == name.0 {
-            return rows[columns::TYPE + i * columns::ROW] + types::FUNCTION;
-        }
-        i += 1;
+    match known::find_function(rows, n, name) {
+        FoundRow::At(i) => known::function_type(rows, i) + types::FUNCTION,
+        FoundRow::Absent => 0,
     }
-    0
 }
 
 fn is_call(kind: u32) -> bool

@@ -1,7 +1,7 @@
 -- What a function's row of the header table holds, and what is read back of it; Columns.antt says where it stands.
 use Prim.Native.Nat.{ℕ, zero, suc, _+_, _*_, _-_}
 use mathlib.Core.List.{List, [], _∷_, _++_}
-use lib.Dec.{leb}
+use lib.Dec.{leb, eqb}
 use lib.ListN.{length, getD}
 use Rattle.utils.specs.Bytes.{pick}
 use Rattle.lexer.specs.Decoded.{Tok, tokenAt}
@@ -10,6 +10,8 @@ use Rattle.utils.specs.Limits.{mostFormals}
 use Rattle.functions.specs.Columns.{nameAt, retAt, typeAt, countAt, formalsAt}
 use Rattle.functions.specs.Known.{Known}
 use Rattle.functions.specs.Functions.{Function, blocksIn}
+use Rattle.functions.specs.declared.FoundRow.{FoundRow}
+use Rattle.functions.specs.declared.FoundRow.the-variants as W
 
 -- the thirteen cells before the formals
 abbrev pub headCells : List Tok → List ℕ → Function → ℕ → ℕ → List ℕ
@@ -48,3 +50,15 @@ knownAt cells i =
 unfoldable pub knownFrom : List ℕ → ℕ → ℕ → List Known
 knownFrom cells i zero = []
 knownFrom cells i (suc n) = knownAt cells i ∷ knownFrom cells (i + 1) n
+
+-- the first of n rows, from row i on, with this name
+unfoldable pub rowFrom : List ℕ → ℕ → ℕ → ℕ → FoundRow
+rowFrom rows i zero name = W.Absent
+rowFrom rows i (suc n) name =
+    let more = rowFrom rows (i + 1) n name in
+    pick (eqb (getD rows (nameAt i) 0) name) (W.At i) more
+
+-- the number of the function type of a row that was found, or the given one
+abbrev pub typeFound : List ℕ → FoundRow → ℕ → ℕ
+typeFound rows (W.At i) type = getD rows (typeAt i) 0
+typeFound rows W.Absent type = type

@@ -2,12 +2,13 @@
 ghost use mathlib.Core.Path.{_≡_};
 ghost use mathlib.Core.List.{_∷_};
 ghost use Prim.Native.Nat.{_≤_, _<_};
-ghost use lib.ListN.{length};
+ghost use lib.ListN.{length, getD};
 ghost use Rattle.utils.specs.Bytes.{sameBytes};
 ghost use Rattle.utils.specs.Limits.{mostFunctions, mostFormals};
 ghost use Rattle.functions.specs.Known.{typeNumber, expectedType};
-ghost use Rattle.functions.specs.Columns.{formalsAt, HasRows, tableSize};
-ghost use Rattle.functions.specs.Rows.{typesAt, signedAt, knownFrom};
+ghost use Rattle.functions.specs.Columns.{typeAt, formalsAt, IsRow, HasRows, tableSize};
+ghost use Rattle.functions.specs.Rows.{typesAt, signedAt, knownFrom, rowFrom};
+use crate::FoundRow;
 use crate::columns;
 use parser::VARIABLE_CELLS;
 use pieces::Identifier;
@@ -63,17 +64,36 @@ pub fn type_number(rows: &[u32], n: usize, ret: u32, count: usize, types: u32) -
     types
 }
 
+// The first function of this name among n.
+pub fn find_function(rows: &[u32], n: usize, name: Identifier) -> FoundRow
+    requires { ⌜ HasRows (now rows) n ⌝ }
+    ensures { λ r. ⌜ r ≡ rowFrom (now (rows .entry)) 0 n (name .0) ⌝ }
+{
+    let mut i: usize = 0;
+    while i < n {
+        if rows[columns::NAME + i * columns::ROW] == name.0 {
+            return FoundRow::At(i);
+        }
+        i += 1;
+    }
+    FoundRow::Absent
+}
+
+// The number of the function type of row i.
+pub fn function_type(rows: &[u32], i: usize) -> u32
+    requires { ⌜ IsRow (now rows) i ⌝ }
+    ensures { λ r. ⌜ r ≡ getD (now (rows .entry)) (typeAt i) 0 ⌝ }
+{
+    rows[columns::TYPE + i * columns::ROW]
+}
+
 // The type that this name has among the first n functions, or the given one.
 pub fn expected_type(rows: &[u32], n: usize, name: Identifier, ty: u32) -> u32
     requires { ⌜ HasRows (now rows) n ⌝ }
     ensures { λ r. ⌜ r ≡ expectedType (knownFrom (now (rows .entry)) 0 n) (name .0) ty ⌝ }
 {
-    let mut i: usize = 0;
-    while i < n {
-        if rows[columns::NAME + i * columns::ROW] == name.0 {
-            return rows[columns::TYPE + i * columns::ROW];
-        }
-        i += 1;
+    match find_function(rows, n, name) {
+        FoundRow::At(i) => function_type(rows, i),
+        FoundRow::Absent => ty,
     }
-    ty
 }

@@ -40,6 +40,12 @@ pub struct Head {
     pub next: usize,
 }
 
+// A function's row in the header table.
+pub enum FoundRow {
+    At(usize),
+    Absent,
+}
+
 pub enum HeaderRead {
     At(Head),
     Refused(Refusal),

@@ -12,10 +12,12 @@ use lib.Seq.{sets, getD-set-other}
 use Rattle.utils.specs.Bytes.{pick}
 use Rattle.functions.specs.Columns.{rowAt, nameAt, typeAt}
 use Rattle.functions.proofs.Stores.{getD-sets-below}
-use Rattle.sema.specs.Globals.{rowGlobal, rowFrom, globalOf, globalsIn}
-use Rattle.sema.specs.declared.FoundRow.{FoundRow}
-use Rattle.sema.specs.declared.FoundRow.the-variants as W
-use Rattle.elaborate.specs.Types.{calleeFrom, calleeOf}
+use Rattle.functions.specs.Rows.{rowFrom}
+use Rattle.sema.specs.Globals.{rowGlobal, globalOf, globalsIn}
+use Rattle.functions.specs.declared.FoundRow.{FoundRow}
+use Rattle.functions.specs.declared.FoundRow.the-variants as W
+use Rattle.elaborate.specs.Types.{typeCellOf, calleeOf}
+use Rattle.elaborate.proofs.Rows.{type-pick}
 use Rattle.headers.proofs.Brought.{RowSame, global-same, cell-same}
 
 -- row k of the one and of the other
@@ -46,12 +48,18 @@ module _ (cells cells′ : List ℕ) (x : ℕ) where
       )
 
   callees-from : (n i : ℕ) → ((k : ℕ) → i ≤ k → k < i + n → Alike cells cells′ k)
-      → calleeFrom cells i n x ≡ calleeFrom cells′ i n x
-  unfolding calleeFrom
+      → typeCellOf cells (rowFrom cells i n x) ≡ typeCellOf cells′ (rowFrom cells′ i n x)
+  unfolding rowFrom
   callees-from zero i h = refl
   callees-from (suc n) i h =
       let a = h i (omega arith) (omega arith) in
-      rw (a .name, a .type, callees-from n (i + 1) (λ k p q. h k (omega arith) (omega arith)))
+      rw (
+        type-pick cells (eqb (getD cells (nameAt i) 0) x) (W.At i) (rowFrom cells (i + 1) n x),
+        type-pick cells′ (eqb (getD cells′ (nameAt i) 0) x) (W.At i) (rowFrom cells′ (i + 1) n x),
+        a .name,
+        a .type,
+        callees-from n (i + 1) (λ k p q. h k (omega arith) (omega arith)),
+      )
 
   module _ (n : ℕ) (h : (k : ℕ) → k < n → Alike cells cells′ k) where
     pub globals-alike : globalsIn cells n x ≡ globalsIn cells′ n x

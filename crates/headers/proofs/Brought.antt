@@ -20,12 +20,13 @@ use Rattle.functions.specs.Columns.{rowAt, nameAt, retAt, countAt, formalsAt, p
 use Rattle.functions.specs.Rows.{atMost16, typesAt}
 use Rattle.functions.proofs.Stores.{getD-sets-below}
 use Rattle.functions.proofs.Seen.{getD-sets-at}
-use Rattle.sema.specs.Globals.{rowFrom, globalOf, globalsIn}
-use Rattle.sema.specs.declared.FoundRow.{FoundRow}
-use Rattle.sema.specs.declared.FoundRow.the-variants as W
-use Rattle.elaborate.specs.Types.{calleeFrom, calleeOf}
+use Rattle.functions.specs.Rows.{rowFrom}
+use Rattle.sema.specs.Globals.{globalOf, globalsIn}
+use Rattle.functions.specs.declared.FoundRow.{FoundRow}
+use Rattle.functions.specs.declared.FoundRow.the-variants as W
+use Rattle.elaborate.specs.Types.{typeCellOf, calleeOf}
 use Rattle.headers.specs.Ranges.{RowInRange}
-use Rattle.headers.specs.Spelled.{rowName, nameSpelled, rowSpelled, calleeRow, typeCellOf, globalsSpelled}
+use Rattle.headers.specs.Spelled.{rowName, nameSpelled, rowSpelled, calleeRow, globalsSpelled}
 use Rattle.headers.specs.Spelled.{calleesSpelled}
 use Rattle.headers.specs.Spelled.{Named}
 use Rattle.headers.specs.Brought.{cellsFrom, rowPut, Brought, brought, broughtAs, broughtFrom, headersBrought}
@@ -151,23 +152,6 @@ module _ (cells rows : List ℕ) where
   type-same (W.At k) W.Absent s = absurd s
   type-same W.Absent (W.At i) s = absurd s
   type-same W.Absent W.Absent s = refl
-
--- a callee's type cell is that of the row that has its name
-type-pick : (cells : List ℕ) (t : Bool) (f g : FoundRow)
-    → typeCellOf cells (pick t f g) ≡ pick t (typeCellOf cells f) (typeCellOf cells g)
-unfolding pick
-type-pick cells true f g = refl
-type-pick cells false f g = refl
-
-callee-row : (cells : List ℕ) (n i x : ℕ) → calleeFrom cells i n x ≡ typeCellOf cells (rowFrom cells i n x)
-unfolding calleeFrom rowFrom
-callee-row cells zero i x = refl
-callee-row cells (suc n) i x =
-    rw (
-      type-pick cells (eqb (getD cells (nameAt i) 0) x) (W.At i) (rowFrom cells (i + 1) n x),
-      callee-row cells n
-          (i + 1) x,
-    )
 
 -- What stays of a table while more rows are brought. -----------------------------------------------------------------
 
@@ -333,8 +317,7 @@ module _ (old rows new names : List ℕ) (known number : ℕ) (out₀ : List ℕ
     -- .. and that type's cell.
     pub callees-brought : calleeOf out (r .count) x ≡ calleesSpelled old rows new names x
     callees-brought =
-        callee-row out (r .count) 0 x
-        ∙ type-same out rows (rowFrom out 0 (r .count) x) (calleeRow old rows new names x) found-same
+        type-same out rows (rowFrom out 0 (r .count) x) (calleeRow old rows new names x) found-same
 
 -- Where the row of the given number stands. --------------------------------------------------------------------------
 

@@ -8,15 +8,15 @@ use lib.ListN.{length, getD}
 use lib.Seq.{slice}
 use Rattle.utils.specs.Bytes.{pick, sameBytes}
 use Rattle.lexer.specs.Decoded.{nameOf}
-use Rattle.parser.specs.Types as Types
 use Rattle.utils.specs.Limits.{mostFunctions}
 use Rattle.lexer.specs.declared.Found.{Found}
 use Rattle.lexer.specs.declared.Found.the-variants as F
-use Rattle.functions.specs.Columns.{typeAt, placeAt, lengthAt}
+use Rattle.functions.specs.Columns.{placeAt, lengthAt}
 use Rattle.sema.specs.Typing.{Global}
 use Rattle.sema.specs.Globals.{globalOf}
-use Rattle.sema.specs.declared.FoundRow.{FoundRow}
-use Rattle.sema.specs.declared.FoundRow.the-variants as W
+use Rattle.functions.specs.declared.FoundRow.{FoundRow}
+use Rattle.functions.specs.declared.FoundRow.the-variants as W
+use Rattle.elaborate.specs.Types.{typeCellOf}
 use Rattle.headers.specs.declared.Looked.{Looked}
 use Rattle.headers.specs.declared.Looked.the-variants as L
 
@@ -59,11 +59,7 @@ calleeRow old rows new names x = rowSpelled old rows 0 (getD rows 0 0) (nameOf n
 abbrev pub globalsSpelled : List ℕ → List ℕ → List ℕ → List ℕ → ℕ → Global
 globalsSpelled old rows new names x = globalOf rows (calleeRow old rows new names x)
 
--- and the cell of that type: its number and 4
-abbrev pub typeCellOf : List ℕ → FoundRow → ℕ
-typeCellOf rows (W.At i) = getD rows (typeAt i) 0 + Types.function
-typeCellOf rows W.Absent = 0
-
+-- and the cell of that type
 abbrev pub calleesSpelled : List ℕ → List ℕ → List ℕ → List ℕ → ℕ → ℕ
 calleesSpelled old rows new names x = typeCellOf rows (calleeRow old rows new names x)
 

@@ -26,7 +26,7 @@ use Rattle.functions.proofs.Standing.{cell-there, rest-there, row-name, row-ret
 use Rattle.functions.proofs.Standing.{row-first, row-items}
 use Rattle.sema.specs.Typing.{global}
 use Rattle.sema.specs.Globals.{rowGlobal, globalsIn}
-use Rattle.sema.specs.declared.FoundRow.the-variants as W
+use Rattle.functions.specs.declared.FoundRow.the-variants as W
 use Rattle.elaborate.specs.Types.{calleeOf}
 use Rattle.unit.specs.Rows.{RowsFit}
 use Rattle.headers.specs.Spelled.{rowName, nameSpelled, globalsSpelled, calleesSpelled, Named}

@@ -16,10 +16,11 @@ use Rattle.functions.specs.Laid.{rowsCells, FitsFrom}
 use Rattle.functions.specs.declared.Counts.{Counts}
 use Rattle.functions.proofs.Standing.{row-name, row-ret, row-types, row-stands, rows-behind}
 use Rattle.sema.specs.Typing.{Global, global}
-use Rattle.sema.specs.Globals.{rowGlobal, rowFrom, globalOf, globalsIn}
+use Rattle.functions.specs.Rows.{rowFrom}
+use Rattle.sema.specs.Globals.{rowGlobal, globalOf, globalsIn}
 use Rattle.sema.specs.Program.{globalsOf}
-use Rattle.sema.specs.declared.FoundRow.{FoundRow}
-use Rattle.sema.specs.declared.FoundRow.the-variants as W
+use Rattle.functions.specs.declared.FoundRow.{FoundRow}
+use Rattle.functions.specs.declared.FoundRow.the-variants as W
 
 pick-global : (t : Bool) (rows : List ℕ) (i : ℕ) (more : FoundRow) (g others : Global) → rowGlobal rows i ≡ g
     → globalOf rows more ≡ others → globalOf rows (pick t (W.At i) more) ≡ pick t g others

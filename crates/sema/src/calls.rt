@@ -9,32 +9,18 @@ ghost use Rattle.sema.specs.Symbols.{typed, thenTyped, enterD};
 ghost use Rattle.sema.specs.Typing.{presentD, typesOf, sameAll, typeArgumentsD, typeCallD, typeCallIntoD};
 ghost use Rattle.body.specs.Records.{named};
 ghost use Rattle.sema.specs.Items.{variablesAt};
-ghost use Rattle.sema.specs.Globals.{rowFrom, globalsIn};
+ghost use Rattle.sema.specs.Globals.{globalsIn};
 use crate::Checked;
-use crate::FoundRow;
 use crate::symbols;
+use functions::FoundRow;
 use functions::columns;
+use functions::known;
 use parser::VARIABLE_CELLS;
 use parser::types;
 use pieces::Identifier;
 use utils::cell_at;
 use utils::limits;
 use utils::numbers;
-
-// The first function of this name among n.
-fn find_function(rows: &[u32], n: usize, name: Identifier) -> FoundRow
-    requires { ⌜ HasRows (now rows) n ⌝ }
-    ensures { λ r. ⌜ r ≡ rowFrom (now (rows .entry)) 0 n (name .0) ⌝ }
-{
-    let mut i: usize = 0;
-    while i < n {
-        if rows[columns::NAME + i * columns::ROW] == name.0 {
-            return FoundRow::At(i);
-        }
-        i += 1;
-    }
-    FoundRow::Absent
-}
 
 // The name of an argument, or 0 past the slice's end.
 fn argument_at(arguments: &[u32], at: usize) -> Identifier
@@ -167,7 +153,7 @@ pub fn analyze_call(
         ≡ typeCallD (now (table .entry)) (globalsIn (now (rows .entry)) n (callee .0)) token callee
         (variablesAt (now (arguments .entry)) first count) ⌝ }
 {
-    match find_function(rows, n, callee) {
+    match known::find_function(rows, n, callee) {
         FoundRow::Absent => symbols::refuse(numbers::UNDEFINED, token, 0, 0, callee),
         FoundRow::At(i) => {
             if result_type(rows, i) != types::VOID {
@@ -219,7 +205,7 @@ pub fn analyze_call_into(
         ≡ typeCallIntoD (now (table .entry)) (globalsIn (now (rows .entry)) n (callee .0)) token result ty callee
         (variablesAt (now (arguments .entry)) first count) ⌝ }
 {
-    match find_function(rows, n, callee) {
+    match known::find_function(rows, n, callee) {
         FoundRow::Absent => symbols::refuse(numbers::UNDEFINED, token, 0, 0, callee),
         FoundRow::At(i) => {
             let ret = result_type(rows, i);

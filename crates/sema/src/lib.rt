@@ -11,9 +11,3 @@ pub enum Checked {
     Fine,
     Refused(Refusal),
 }
-
-// A function's row in the header table.
-pub enum FoundRow {
-    At(usize),
-    Absent,
-}

@@ -1,59 +1,44 @@
--- Behind i rows of other names, the callee is to be found among the rest.
-use Rattle.elaborate.proofs.Turns.{callee-here, callee-later, callee-none}
-use Rattle.elaborate.specs.Types.{calleeFrom}
-use native.Mathlib.Nat.{sub-zero}
+-- The row that was found is one of the n (`found-is-row`), and its function type's number is small, so the cell is a
+-- number of 32 bits.
+use Rattle.functions.proofs.Turns.{found-below, found-is-row}
 use borrow.Author.Needs.{needs}
 use native.Mathlib.Omega.{arith}
-use Prim.Native.Nat.{_-_, _≤_}
-use mathlib.Core.Path.{_≡_}
 use denote.Ref.{now}
 use Rattle.elaborate.proofs.callee_type.Statement.{statement}
 use Rattle.elaborate.proofs.callee_type.Tie as tie
 
-abbrev Inv-loop : tie.InvT-loop
-Inv-loop rows n name i₀ i = (i ≤ n) × (calleeFrom rows i (n - i) (name .0) ≡ calleeFrom rows 0 n (name .0))
+function-type-requires : tie.Need-function-type-requires
+function-type-requires c κs =
+    let a = c .before .before .before .before .before .args in
+    let pre = c .before .before .before .before .before .pre in
+    let find = c .before .before .before .find-function in
+    let i = c .before .i in
+    found-is-row (a .n) (now (a .rows)) (a .name .0) (pre .0, pre .1) (find .ensures) (i .given .1)
 
-abbrev μ-loop : tie.MeasureT-loop
-μ-loop rows n name i₀ i = n - i
-
-loop-holds : tie.Need-loop-holds Inv-loop μ-loop
-loop-holds c = (omega arith, rw sub-zero)
-
-add-result-2 : tie.Need-add-result-2 Inv-loop μ-loop
-add-result-2 c =
-    let loop = c .before .before .before .before .before .loop in
-    let loop-test = c .before .before .before .before .loop-test in
-    let pre = c .before .before .before .before .before .before .pre in
-    omega (arith, pre .2 (loop .i) (loop-test .taken))
-
-returns : tie.Need-returns Inv-loop μ-loop
-returns c =
+add-result : tie.Need-add-result
+add-result c =
     let a = c .before .before .before .before .before .before .args in
-    let loop = c .before .before .before .before .before .loop in
-    let loop-test = c .before .before .before .before .loop-test in
-    let if1 = c .before .if1 in
-    rw (← loop .inv .1, callee-here (now (a .rows)) (loop .i) (a .n) (a .name .0) (loop-test .taken) (if1 .taken))
+    let pre = c .before .before .before .before .before .before .pre in
+    let find = c .before .before .before .before .find-function in
+    let i = c .before .before .i in
+    let below = found-below (a .n) (now (a .rows)) (a .name .0) (find .ensures) (i .given .1) in
+    omega (arith, pre .2 (i .given .0 .0) below, c .function-type .ensures)
 
-loop-again : tie.Need-loop-again Inv-loop μ-loop
-loop-again c =
-    let if1 = c .if1 in
-    let loop-test = c .before .before .before .loop-test in
-    let loop = c .before .before .before .before .loop in
-    let a = c .before .before .before .before .before .args in (
-      omega arith,
-      rw (← loop .inv .1, callee-later (now (a .rows)) (loop .i) (a .n) (a .name .0) (loop-test .taken) (if1 .left)),
-    )
+returns : tie.Need-returns
+returns c =
+    let find = c .before .before .before .before .find-function in
+    let i = c .before .before .i in
+    let type = c .function-type in
+    rw (← find .ensures, i .given .1, type .ensures)
 
-returns-2 : tie.Need-returns-2 Inv-loop μ-loop
+returns-2 : tie.Need-returns-2
 returns-2 c =
-    let a = c .before .before .args in
-    let loop = c .before .loop in
-    let loop-test = c .loop-test in
-    rw (← loop .inv .1, callee-none (now (a .rows)) (loop .i) (a .n) (a .name .0) (loop-test .left))
+    let find = c .before .before .find-function in
+    let told = c .enum-told in
+    rw (← find .ensures, told .given .1)
 
 pub callee-type-spec : {M : Type 1} → statement M
 callee-type-spec =
     tie.close
-    (tie.spec Inv-loop μ-loop loop-holds (λ c. search needs) (λ c. search needs) (λ c. search needs)
-    (λ c. search needs) (λ c. search needs) (λ c. search needs) (λ c. search needs) (λ c. search needs) add-result-2
-    returns (λ c. search needs) (λ c. search needs) loop-again returns-2)
+    (tie.spec (λ c κs. search needs) (λ c. search needs) function-type-requires add-result (λ c. search needs) returns
+    returns-2)

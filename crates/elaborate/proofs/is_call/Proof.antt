@@ -5,17 +5,6 @@ use borrow.Author.Tests.{eq-eqb, ne-eqb}
 use Rattle.elaborate.proofs.is_call.Statement.{statement}
 use Rattle.elaborate.proofs.is_call.Tie as tie
 
-returns : tie.Need-returns
-unfolding isCall pick
-returns c =
-    let if1 = c .if1 in
-    rw (eq-eqb _ _ (if1 .taken))
-
-returns-2 : tie.Need-returns-2
-unfolding isCall pick
-returns-2 c =
-    let if1 = c .if1 in
-    rw (ne-eqb _ _ (if1 .left))
-
 pub is-call-spec : {M : Type 1} → statement M
-is-call-spec = tie.close (tie.spec returns returns-2)
+unfolding isCall pick
+is-call-spec = tie.close (tie.spec (λ c. rw (eq-eqb _ _ (c .if1 .taken))) (λ c. rw (ne-eqb _ _ (c .if1 .left))))

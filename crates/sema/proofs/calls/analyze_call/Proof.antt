@@ -1,11 +1,9 @@
 -- Callee, result type and arguments are judged in the order of `typeCallD`. The row that was found is one of the n
--- (`found-below`), so it lies in the header table.
-use Rattle.sema.proofs.Turns.{found-below}
+-- (`found-is-row`), so it lies in the header table.
+use Rattle.functions.proofs.Turns.{found-is-row}
 use Rattle.sema.specs.Typing.{typeCallD, thenGlobal}
 use Rattle.utils.specs.Bytes.{pick}
 use borrow.Author.Tests.{eq-eqb, ne-eqb}
-use native.Mathlib.Omega.{arith}
-use mathlib.Core.Path.{sym, _∙_}
 use denote.Ref.{now}
 use borrow.Author.Needs.{needs}
 use Rattle.sema.proofs.calls.analyze_call.Statement.{statement}
@@ -17,8 +15,7 @@ result-type-requires c κs =
     let pre = c .before .before .before .before .before .before .before .pre in
     let find-function = c .before .before .before .find-function in
     let i = c .before .i in
-    let below = found-below (a .n) (now (a .rows)) (a .callee .0) (sym (find-function .ensures) ∙ i .given .1) in
-    (omega (arith, below, pre .0), pre .1)
+    found-is-row (a .n) (now (a .rows)) (a .callee .0) pre (find-function .ensures) (i .given .1)
 
 returns : tie.Need-returns
 unfolding typeCallD thenGlobal pick
@@ -36,8 +33,7 @@ analyze-arguments-requires c κs =
     let pre = c .before .before .before .before .before .before .before .before .before .pre in
     let find-function = c .before .before .before .before .before .find-function in
     let i = c .before .before .before .i in
-    let below = found-below (a .n) (now (a .rows)) (a .callee .0) (sym (find-function .ensures) ∙ i .given .1) in
-    (omega (arith, below, pre .0), pre .1)
+    found-is-row (a .n) (now (a .rows)) (a .callee .0) pre (find-function .ensures) (i .given .1)
 
 returns-2 : tie.Need-returns-2
 unfolding typeCallD thenGlobal pick

@@ -1,12 +1,11 @@
 -- Callee, void, type, then entry and arguments are judged in the order of `typeCallIntoD`. The row that was found is
--- one of the n (`found-below`), so its cells are there to be read.
-use Rattle.sema.proofs.Turns.{found-below}
+-- one of the n (`found-is-row`), so its cells are there to be read.
+use Rattle.functions.proofs.Turns.{found-is-row}
 use Rattle.sema.proofs.Steps.{same-refused, same-fine}
 use Rattle.sema.specs.Typing.{typeCallIntoD, thenGlobal}
 use Rattle.utils.specs.Bytes.{pick}
 use borrow.Author.Tests.{eq-eqb, ne-eqb}
-use native.Mathlib.Omega.{arith}
-use mathlib.Core.Path.{sym, _∙_}
+use mathlib.Core.Path.{_∙_}
 use denote.Ref.{now}
 use borrow.Author.Needs.{needs}
 use Rattle.sema.proofs.calls.analyze_call_into.Statement.{statement}
@@ -18,8 +17,7 @@ result-type-requires c κs =
     let pre = c .before .before .before .before .before .before .before .pre in
     let find-function = c .before .before .before .find-function in
     let i = c .before .i in
-    let below = found-below (a .n) (now (a .rows)) (a .callee .0) (sym (find-function .ensures) ∙ i .given .1) in
-    (omega (arith, below, pre .0), pre .1)
+    found-is-row (a .n) (now (a .rows)) (a .callee .0) pre (find-function .ensures) (i .given .1)
 
 returns : tie.Need-returns
 unfolding typeCallIntoD thenGlobal pick
@@ -38,8 +36,7 @@ enter-result-requires c κs =
     let find-function = back8 .before .find-function in
     let a = back8 .before .before .before .before .before .args in
     let pre = back8 .before .before .before .before .before .pre in
-    let below = found-below (a .n) (now (a .rows)) (a .callee .0) (sym (find-function .ensures) ∙ i .given .1) in
-    (omega (arith, below, pre .0), pre .1)
+    found-is-row (a .n) (now (a .rows)) (a .callee .0) pre (find-function .ensures) (i .given .1)
 
 returns-2 : tie.Need-returns-2
 unfolding typeCallIntoD thenGlobal pick

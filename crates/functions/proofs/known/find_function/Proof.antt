@@ -1,15 +1,15 @@
 -- No row before i has the name, so searching from row i on finds what searching all rows finds (`row-later`), and the
 -- first row that has it is the answer (`row-here`).
-use Rattle.sema.proofs.Turns.{row-here, row-later, row-none}
-use Rattle.sema.specs.Globals.{rowFrom}
+use Rattle.functions.proofs.Turns.{row-here, row-later, row-none}
+use Rattle.functions.specs.Rows.{rowFrom}
 use native.Mathlib.Nat.{sub-zero}
 use borrow.Author.Needs.{needs}
 use native.Mathlib.Omega.{arith}
 use Prim.Native.Nat.{_-_, _≤_}
 use mathlib.Core.Path.{_≡_}
 use denote.Ref.{now}
-use Rattle.sema.proofs.calls.find_function.Statement.{statement}
-use Rattle.sema.proofs.calls.find_function.Tie as tie
+use Rattle.functions.proofs.known.find_function.Statement.{statement}
+use Rattle.functions.proofs.known.find_function.Tie as tie
 
 abbrev Inv-loop : tie.InvT-loop
 Inv-loop rows n name i₀ i = (i ≤ n) × (rowFrom rows i (n - i) (name .0) ≡ rowFrom rows 0 n (name .0))
