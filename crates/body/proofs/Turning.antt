@@ -19,12 +19,13 @@ use Rattle.parser.specs.Step.{opened}
 use Rattle.parser.specs.Runs.{variablesCells}
 use Rattle.parser.specs.Labels.{labelledD}
 use Rattle.body.specs.Body.{label, bodyD, bodyThen, closes, behind, labelsOf, lacksRet}
+use Rattle.parser.specs.declared.Named.{Named}
 use Rattle.parser.specs.declared.Named.the-variants as N
 use Rattle.body.specs.Records.{none, itemRecord, recordOf, recordCells, itemsCells, argumentsCount}
 use Rattle.body.specs.declared.Last.the-variants as L
 use Rattle.body.specs.Room.{Within}
-use Rattle.body.specs.Turns.{added, closing, beforeNext, lastNext, itemThen, ItemTurned}
-use Rattle.body.specs.Turns.{LabelTaken, LabelTurned, Ended, Turned}
+use Rattle.body.specs.Turns.{added, closing, beforeNext, lastNext, itemThen, Ready, ItemTurned}
+use Rattle.body.specs.Turns.{behindLabel, labelPut, LabelTaken, LabelTurned, Ended, Turned}
 use Rattle.body.specs.declared.Closed.{Closed}
 use Rattle.body.specs.declared.Going.{Going}
 use Rattle.body.specs.declared.Turn.{Turn}
@@ -44,74 +45,77 @@ unfolding added pick argumentsCount
 added-none true last = refl
 added-none false last = refl
 
-module _ (ts : List Tok) (void : Bool) (s : Going) (l : Identifier) (next : ℕ) (labels₀ : List ℕ)
-    (w : Within ts (s .at))
-    (few : s .labels ≤ length labels₀) (q : labelledD ts (take (s .labels) labels₀) (s .at) ≡ N.At l next) where
-  labelled : (s .at + 2 ≤ next) × (next ≤ w .last) × (s .labels < 255)
-  labelled =
-      let h : LabelIn (s .at) (w .last) (length (take (s .labels) labels₀)) (N.At l next) =
-      rw q at (label-in ts (w .last) (w .ends) (take (s .labels) labels₀) (s .at) (w .reached)) in
-      (h .0, h .1, rw (length-take-le (s .labels) labels₀ few) at (h .2))
+module _ (ts : List Tok) (void : Bool) (s : Going) {l : Identifier} {next : ℕ} (labels₀ : List ℕ) (g : Ready ts s)
+    (long : 255 ≤ length labels₀) {r : Named} (e : r ≡ labelledD ts (take (s .labels) labels₀) (s .at))
+    (f : r ≡ N.At l next)
+  where
+    labelled : (s .at + 2 ≤ next) × (next ≤ g .within .last) × (s .labels < 255)
+    labelled =
+        let w = g .within in
+        let few : s .labels ≤ length labels₀ = omega (arith, g .labels-few, long) in
+        let h : LabelIn (s .at) (w .last) (length (take (s .labels) labels₀)) (N.At l next) =
+        rw (sym e ∙ f) at (label-in ts (w .last) (w .ends) (take (s .labels) labels₀) (s .at) (w .reached)) in
+        (h .0, h .1, rw (length-take-le (s .labels) labels₀ few) at (h .2))
 
-  -- there is room for it, and for the `ret` before it
-  pub label-room : s .items * 4 ≤ s .at * 3 → (s .items * 8 + 24 ≤ 24576) × (s .labels < 255)
-  label-room h = (omega (arith, labelled .0, labelled .1, w .few), labelled .2)
+    -- there is room for it, and for the `ret` before it
+    pub label-room : (items : List ℕ) → 24576 ≤ length items
+        → (s .at ≤ 4095) × (s .items * 8 + 24 ≤ 24576) × (24576 ≤ length items) × (s .labels < 255)
+        × (255 ≤ length labels₀)
+    label-room items there =
+        let few = g .within .few in (
+          omega (arith, labelled .0, labelled .1, few),
+          omega (arith, labelled .0, labelled .1, few, g .items-few),
+          there,
+          labelled .2,
+          long,
+        )
 
-  pub label-taken : (n : ℕ) (items₀ items₁ items : List ℕ)
-      → n ≡ s .items + length (added (lacksRet void (s .before)) (s .last))
-      → items₁ ≡ sets items₀ (s .items * 8) (itemsCells 0 (added (lacksRet void (s .before)) (s .last)))
-      → items ≡ sets items₁ (n * 8) (recordCells (itemRecord 1 (s .at) none 0 none 0 (L.Name l 0)))
-      → LabelTaken ts void s
-      (record {
-        at = next;
-        items = n + 1;
-        arguments = s .arguments;
-        labels = s .labels + 1;
-        before = 1;
-        last =
-            s .last;
-      })
-      items₀ items labels₀ (set labels₀ (s .labels) (l .0))
-  unfolding closing itemsCells recordOf variablesCells beforeNext lastNext
-  label-taken n items₀ items₁ items e f g =
-      let t = lacksRet void (s .before) in
-      let xs = added t (s .last) in
-      let m : n * 8 ≡ s .items * 8 + length (itemsCells (s .arguments) xs) =
-      omega (arith, length-items (s .arguments) xs) in
-      record {
-        name = l;
-        goes = q;
-        labels-next = refl;
-        labels-few = omega (arith, labelled .2);
-        labels-are = refl;
-        passed =
-            record {
-              two = labelled .0;
-              within = record { last = w .last; ends = w .ends; reached = labelled .1; few = w .few };
-              arguments-few = omega (arith, labelled .0);
-            };
-        taken =
-            record {
-              items-next = omega (arith, length-append xs (label (s .at) l ∷ []));
-              arguments-next = sym (add-zero (s .arguments));
-              before-next = refl;
-              last-next = refl;
-              items-are =
-                  rw (
-                    g,
-                    f,
-                    added-cells t (s .last) (s .arguments),
-                    m,
-                    items-append (s .arguments) xs
-                        (label (s .at) l ∷ []),
-                  )
-                  (sym
-                  (sets-append (itemsCells (s .arguments) xs)
-                  (recordCells (itemRecord 1 (s .at) none 0 none 0 (L.Name l 0))) items₀
-                  (s .items * 8)));
-              arguments-are = refl;
-            };
-      }
+    at-label : (items₀ : List ℕ)
+        → LabelTaken ts void s (behindLabel void s next) items₀ (labelPut void s l items₀) labels₀
+        (set labels₀ (s .labels) (l .0))
+    unfolding closing itemsCells recordOf variablesCells beforeNext lastNext
+    at-label items₀ =
+        let w = g .within in
+        let t = lacksRet void (s .before) in
+        let xs = added t (s .last) in
+        let m : (s .items + length xs) * 8 ≡ s .items * 8 + length (itemsCells (s .arguments) xs) =
+        omega (arith, length-items (s .arguments) xs) in
+        record {
+          name = l;
+          goes = sym e ∙ f;
+          labels-next = refl;
+          labels-few = omega (arith, labelled .2);
+          labels-are = refl;
+          passed =
+              record {
+                two = labelled .0;
+                within = record { last = w .last; ends = w .ends; reached = labelled .1; few = w .few };
+                arguments-few = omega (arith, labelled .0);
+              };
+          taken =
+              record {
+                items-next = omega (arith, length-append xs (label (s .at) l ∷ []));
+                arguments-next = sym (add-zero (s .arguments));
+                before-next = refl;
+                last-next = refl;
+                items-are =
+                    rw (
+                      added-cells t (s .last) (s .arguments),
+                      m,
+                      items-append (s .arguments) xs (label (s .at) l ∷ []),
+                    )
+                    (sym
+                    (sets-append (itemsCells (s .arguments) xs)
+                    (recordCells (itemRecord 1 (s .at) none 0 none 0 (L.Name l 0))) items₀
+                    (s .items * 8)));
+                arguments-are = refl;
+              };
+        }
+
+    pub label-taken : (s′ : Going) (items₀ items labels : List ℕ) → s′ ≡ behindLabel void s next
+        → items ≡ labelPut void s l items₀ → labels ≡ set labels₀ (s .labels) (l .0)
+        → LabelTaken ts void s s′ items₀ items labels₀ labels
+    label-taken s′ items₀ items labels p i j = rw (p, i, j) (at-label items₀)
 
 -- The closing brace. ------------------------------------------------------------------------------------------------
 

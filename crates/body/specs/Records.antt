@@ -11,7 +11,7 @@ use Rattle.utils.specs.Bytes.{pick}
 use Rattle.body.specs.Kinds as K
 use Rattle.pieces.specs.declared.Identifier.{Identifier}
 use Rattle.parser.specs.Runs.{typeCell, variablesCells}
-use Rattle.body.specs.Body.{Item, label, plain, call, callInto, argumentsIn}
+use Rattle.body.specs.Body.{Item, label, plain, call, callInto, operationToken, argumentsIn}
 use Rattle.body.specs.Shapes.{Shape, name, operation}
 use Rattle.parser.specs.declared.Operation.{Operation}
 use Rattle.parser.specs.declared.Operation.the-variants as O
@@ -32,16 +32,20 @@ itemRecord k w d dt l lt z = record { kind = k; token = w; dest = d; dty = dt; l
 abbrev pub nothing : Last
 nothing = L.Name none 0
 
+-- an operation whose token's cell is w
+abbrev pub recordBy : Operation → ℕ → ItemRecord
+recordBy (O.BinaryOp _ v x y) w = itemRecord K.binary w (v .id) (typeCell (v .ty)) x 0 (L.Name y 0)
+recordBy (O.UnaryOp _ v x) w = itemRecord K.unary w (v .id) (typeCell (v .ty)) x 0 nothing
+recordBy (O.Const _ v) w = itemRecord K.const w (v .id) (typeCell (v .ty)) none 0 nothing
+recordBy (O.Print _ x) w = itemRecord K.print w none 0 x 0 nothing
+recordBy (O.Nop _) w = itemRecord K.nop w none 0 none 0 nothing
+recordBy (O.Jump _ l) w = itemRecord K.jump w none 0 none 0 (L.Name l 0)
+recordBy (O.Branch _ x l m) w = itemRecord K.branch w none 0 x 0 (L.Labels l m)
+recordBy (O.Ret _) w = itemRecord K.ret w none 0 none 0 nothing
+recordBy (O.RetValue _ x) w = itemRecord K.retValue w none 0 x 0 nothing
+
 unfoldable pub operationRecord : Operation → ItemRecord
-operationRecord (O.BinaryOp w v x y) = itemRecord K.binary w (v .id) (typeCell (v .ty)) x 0 (L.Name y 0)
-operationRecord (O.UnaryOp w v x) = itemRecord K.unary w (v .id) (typeCell (v .ty)) x 0 nothing
-operationRecord (O.Const w v) = itemRecord K.const w (v .id) (typeCell (v .ty)) none 0 nothing
-operationRecord (O.Print w x) = itemRecord K.print w none 0 x 0 nothing
-operationRecord (O.Nop w) = itemRecord K.nop w none 0 none 0 nothing
-operationRecord (O.Jump w l) = itemRecord K.jump w none 0 none 0 (L.Name l 0)
-operationRecord (O.Branch w x l m) = itemRecord K.branch w none 0 x 0 (L.Labels l m)
-operationRecord (O.Ret w) = itemRecord K.ret w none 0 none 0 nothing
-operationRecord (O.RetValue w x) = itemRecord K.retValue w none 0 x 0 nothing
+operationRecord o = recordBy o (operationToken o)
 
 -- an item whose arguments, if it has any, begin at `used`
 unfoldable pub recordOf : ℕ → Item → ItemRecord

@@ -22,7 +22,7 @@ use Rattle.parser.specs.declared.Refusal.{Refusal}
 use Rattle.parser.specs.declared.Consumed.{Consumed}
 use Rattle.parser.specs.declared.Consumed.the-variants as C
 use Rattle.parser.specs.declared.Named.the-variants as N
-use Rattle.body.specs.Records.{itemRecord, recordOf, recordCells, itemsCells}
+use Rattle.body.specs.Records.{none, itemRecord, recordOf, recordCells, itemsCells}
 use Rattle.body.specs.Room.{Within}
 use Rattle.body.specs.declared.ItemRecord.{ItemRecord}
 use Rattle.body.specs.declared.Last.the-variants as L
@@ -146,6 +146,24 @@ ItemTurned ts s items₀ items arguments₀ arguments (T.On s′) =
 ItemTurned ts s items₀ items arguments₀ arguments (T.Done e) = ⊥
 ItemTurned ts s items₀ items arguments₀ arguments (T.Refused e) =
     (k : Item → ℕ → Body) → itemThen ts (s .before) (s .at) k ≡ bodyStop e
+
+-- the state behind a label, and the items: the `ret` that the block before it may lack, and the label's record
+abbrev pub behindLabel : Bool → Going → ℕ → Going
+behindLabel void s next =
+    record {
+      at = next;
+      items = s .items + length (added (lacksRet void (s .before)) (s .last)) + 1;
+      arguments = s .arguments;
+      labels = s .labels + 1;
+      before = afterLabel;
+      last = s .last;
+    }
+
+abbrev pub labelPut : Bool → Going → Identifier → List ℕ → List ℕ
+labelPut void s l items =
+    let ret = added (lacksRet void (s .before)) (s .last) in
+    sets (sets items (s .items * 8) (itemsCells 0 ret)) ((s .items + length ret) * 8)
+    (recordCells (itemRecord K.label (s .at) none 0 none 0 (L.Name l 0)))
 
 pub record LabelTaken (ts : List Tok) (void : Bool) (s s′ : Going) (items₀ items labels₀ labels : List ℕ) : Type 0 where
   pub name : Identifier

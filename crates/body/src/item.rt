@@ -41,7 +41,7 @@ fn parse_call_item(
         Called::Refused(e) => ItemRead::Refused(e),
         Called::Done(callee, count, next) => {
             let run = Last::Run(used as u32, count as u32);
-            let r = records::record_of(kind, word, dest, dty, callee, run);
+            let r = records::record_of(kind, word as u32, dest, dty, callee, run);
             records::put_record(items, n, r);
             ItemRead::Done(r, used + count, next)
         }

@@ -1,13 +1,12 @@
 // Items and their cells.
 ghost use mathlib.Core.Path.{_≡_};
-ghost use mathlib.Core.List.{[], _∷_};
 ghost use Prim.Native.Nat.{_+_, _*_, _≤_, _<_};
 ghost use lib.ListN.{length};
 ghost use lib.Seq.{sets};
 ghost use Rattle.parser.specs.Runs.{typeCell};
 ghost use Rattle.body.specs.Body.{operationToken};
-ghost use Rattle.body.specs.Records.{firstCell, secondCell, lastOf, itemRecord, operationRecord, recordCells};
-ghost use Rattle.body.specs.Records.{recordAt};
+ghost use Rattle.body.specs.Records.{firstCell, secondCell, lastOf, itemRecord, recordBy, operationRecord};
+ghost use Rattle.body.specs.Records.{recordCells, recordAt};
 ghost use Rattle.body.specs.declared.Last.the-variants as L;
 use crate::ITEM_CELLS;
 use crate::ItemRecord;
@@ -18,6 +17,7 @@ use parser::Variable;
 use parser::runs::type_cell;
 use pieces::Identifier;
 use utils::cell_at;
+use utils::put_cells;
 
 fn first_cell(last: Last) -> u32
     ensures { λ r. ⌜ r ≡ firstCell last ⌝ }
@@ -39,37 +39,25 @@ fn second_cell(last: Last) -> u32
     }
 }
 
-// Stores a record behind n others; its last two cells are `first` and `second`.
-fn put_cells(items: &mut [u32], n: usize, r: ItemRecord, first: u32, second: u32)
-    requires { ⌜ n * 8 + 8 ≤ length (now items) ⌝ }
-    ensures { λ _. ⌜ now (items .exit) ≡ sets (now (items .entry)) (n * 8)
-        (r .kind ∷ r .token ∷ r .dest .0 ∷ r .dty ∷ r .left .0 ∷ r .lty ∷ first ∷ second ∷ []) ⌝ }
-{
-    let at = n * ITEM_CELLS;
-    let a1 = at + 1;
-    let a2 = at + 2;
-    let a3 = at + 3;
-    let a4 = at + 4;
-    let a5 = at + 5;
-    let a6 = at + 6;
-    let a7 = at + 7;
-    items[at] = r.kind;
-    items[a1] = r.token;
-    items[a2] = r.dest.0;
-    items[a3] = r.dty;
-    items[a4] = r.left.0;
-    items[a5] = r.lty;
-    items[a6] = first;
-    items[a7] = second;
-}
-
 // Stores a record behind n others.
 pub fn put_record(items: &mut [u32], n: usize, r: ItemRecord)
     requires { ⌜ n * 8 + 8 ≤ length (now items) ⌝ }
     ensures { λ _. ⌜ now (items .exit) ≡ sets (now (items .entry)) (n * 8) (recordCells r) ⌝ }
 {
     let last = r.last;
-    put_cells(items, n, r, first_cell(last), second_cell(last));
+    let first = first_cell(last);
+    let second = second_cell(last);
+    let cells = [
+        r.kind,
+        r.token,
+        r.dest.0,
+        r.dty,
+        r.left.0,
+        r.lty,
+        first,
+        second,
+    ];
+    put_cells(items, n * ITEM_CELLS, &cells);
 }
 
 // What two cells hold, by the kind of their record.
@@ -111,18 +99,17 @@ pub fn record_at(items: &[u32], i: usize) -> ItemRecord
 // The type of the left operand is 0 until typing writes it.
 pub(crate) fn record_of(
     kind: u32,
-    token: usize,
+    token: u32,
     dest: Identifier,
     dty: u32,
     left: Identifier,
     last: Last,
 ) -> ItemRecord
-    requires { ⌜ token ≤ 4095 ⌝ }
     ensures { λ r. ⌜ r ≡ itemRecord kind token dest dty left 0 last ⌝ }
 {
     ItemRecord {
         kind,
-        token: token as u32,
+        token,
         dest,
         dty,
         left,
@@ -134,12 +121,11 @@ pub(crate) fn record_of(
 // An operation with a result; `right` is its right operand.
 fn valued_record(
     kind: u32,
-    token: usize,
+    token: u32,
     v: Variable,
     left: Identifier,
     right: Identifier,
 ) -> ItemRecord
-    requires { ⌜ token ≤ 4095 ⌝ }
     ensures { λ r. ⌜ r ≡ itemRecord kind token (v .id) (typeCell (v .ty)) left 0 (L.Name right 0) ⌝ }
 {
     let ty = v.ty;
@@ -147,34 +133,48 @@ fn valued_record(
     record_of(kind, token, dest, type_cell(ty), left, Last::Name(right, 0))
 }
 
+// The token that an operation is named by.
+fn operation_token(o: Operation) -> usize
+    ensures { λ r. ⌜ r ≡ operationToken o ⌝ }
+{
+    match o {
+        Operation::BinaryOp(w, _, _, _) => w,
+        Operation::UnaryOp(w, _, _) => w,
+        Operation::Const(w, _) => w,
+        Operation::Print(w, _) => w,
+        Operation::Nop(w) => w,
+        Operation::Jump(w, _) => w,
+        Operation::Branch(w, _, _, _) => w,
+        Operation::Ret(w) => w,
+        Operation::RetValue(w, _) => w,
+    }
+}
+
+// Its record; `w` is the token's cell.
+fn record_by(o: Operation, w: u32) -> ItemRecord
+    ensures { λ r. ⌜ r ≡ recordBy o w ⌝ }
+{
+    let none = Identifier(0);
+    let nothing = Last::Name(none, 0);
+    match o {
+        Operation::BinaryOp(_, v, x, y) => valued_record(kinds::BINARY, w, v, x, y),
+        Operation::UnaryOp(_, v, x) => valued_record(kinds::UNARY, w, v, x, none),
+        Operation::Const(_, v) => valued_record(kinds::CONST, w, v, none, none),
+        Operation::Print(_, x) => record_of(kinds::PRINT, w, none, 0, x, nothing),
+        Operation::Nop(_) => record_of(kinds::NOP, w, none, 0, none, nothing),
+        Operation::Jump(_, l) => record_of(kinds::JUMP, w, none, 0, none, Last::Name(l, 0)),
+        Operation::Branch(_, x, l, m) => {
+            record_of(kinds::BRANCH, w, none, 0, x, Last::Labels(l, m))
+        }
+        Operation::Ret(_) => record_of(kinds::RET, w, none, 0, none, nothing),
+        Operation::RetValue(_, x) => record_of(kinds::RET_VALUE, w, none, 0, x, nothing),
+    }
+}
+
 pub(crate) fn operation_record(o: Operation) -> ItemRecord
     requires { ⌜ operationToken o ≤ 4095 ⌝ }
     ensures { λ r. ⌜ r ≡ operationRecord o ⌝ }
 {
-    let none = Identifier(0);
-    match o {
-        Operation::BinaryOp(w, v, x, y) => valued_record(kinds::BINARY, w, v, x, y),
-        Operation::UnaryOp(w, v, x) => valued_record(kinds::UNARY, w, v, x, none),
-        Operation::Const(w, v) => valued_record(kinds::CONST, w, v, none, none),
-        Operation::Print(w, x) => record_of(kinds::PRINT, w, none, 0, x, Last::Name(none, 0)),
-        Operation::Nop(w) => record_of(kinds::NOP, w, none, 0, none, Last::Name(none, 0)),
-        Operation::Jump(w, l) => record_of(kinds::JUMP, w, none, 0, none, Last::Name(l, 0)),
-        Operation::Branch(w, x, l, m) => record_of(
-            kinds::BRANCH,
-            w,
-            none,
-            0,
-            x,
-            Last::Labels(l, m),
-        ),
-        Operation::Ret(w) => record_of(kinds::RET, w, none, 0, none, Last::Name(none, 0)),
-        Operation::RetValue(w, x) => record_of(
-            kinds::RET_VALUE,
-            w,
-            none,
-            0,
-            x,
-            Last::Name(none, 0),
-        ),
-    }
+    let token = operation_token(o);
+    record_by(o, token as u32)
 }

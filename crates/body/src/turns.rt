@@ -1,14 +1,15 @@
 // One turn of the body's loop: an item and its record, or the closing brace.
 ghost use mathlib.Core.Path.{_≡_};
-ghost use Prim.Native.Nat.{_+_, _*_, _≤_};
-ghost use lib.ListN.{length};
+ghost use Prim.Native.Nat.{_+_, _*_, _≤_, _<_};
+ghost use lib.ListN.{length, set};
 ghost use lib.Seq.{sets};
 ghost use Rattle.lexer.specs.Decoded.{tokensOf};
 ghost use Rattle.utils.specs.Limits.{mostLabels};
 ghost use Rattle.body.specs.Room.{itemsSize, argumentsSize};
 ghost use Rattle.body.specs.Body.{closes, lacksRet};
 ghost use Rattle.body.specs.Records.{itemsCells};
-ghost use Rattle.body.specs.Turns.{lateRefusal, behindKind, added, Ready, ItemTurned, LabelTurned, Turned};
+ghost use Rattle.body.specs.Turns.{lateRefusal, behindKind, added, behindLabel, labelPut, Ready};
+ghost use Rattle.body.specs.Turns.{ItemTurned, LabelTurned, Turned};
 use crate::Closed;
 use crate::Going;
 use crate::ItemRead;
@@ -119,6 +120,38 @@ fn item_turn(tokens: &[u32], s: Going, items: &mut [u32], arguments: &mut [u32])
     }
 }
 
+// A label's record, behind the `ret` that the block before it may lack; the label is stored behind the others.
+fn add_label(
+    void: bool,
+    s: Going,
+    label: Identifier,
+    next: usize,
+    items: &mut [u32],
+    labels: &mut [u32],
+) -> Going
+    requires { ⌜ (s .at ≤ 4095) × (s .items * 8 + 24 ≤ itemsSize) × (itemsSize ≤ length (now items))
+        × (s .labels < mostLabels) × (mostLabels ≤ length (now labels)) ⌝ }
+    ensures { λ r. ⌜ r ≡ behindLabel void s next ⌝ }
+    ensures { λ _. ⌜ now (items .exit) ≡ labelPut void s label (now (items .entry)) ⌝ }
+    ensures { λ _. ⌜ now (labels .exit) ≡ set (now (labels .entry)) (s .labels) (label .0) ⌝ }
+{
+    let count = s.labels;
+    let n = add_ret(items, s.items, lacks_ret(void, s.before), s.last);
+    let token = s.at as u32;
+    let none = Identifier(0);
+    let r = records::record_of(kinds::LABEL, token, none, 0, none, Last::Name(label, 0));
+    records::put_record(items, n, r);
+    labels[count] = label.0;
+    Going {
+        at: next,
+        items: n + 1,
+        arguments: s.arguments,
+        labels: count + 1,
+        before: LABEL,
+        last: s.last,
+    }
+}
+
 // A label closes the block before it.
 fn label_turn(tokens: &[u32], void: bool, s: Going, items: &mut [u32], labels: &mut [u32]) -> Turn
     requires { ⌜ Ready (tokensOf (now tokens)) s × (itemsSize ≤ length (now items))
@@ -130,27 +163,7 @@ fn label_turn(tokens: &[u32], void: bool, s: Going, items: &mut [u32], labels: &
     let count = s.labels;
     match parser::labels::parse_label(tokens, at, labels, count) {
         Named::Refused(e) => Turn::Refused(e),
-        Named::At(label, next) => {
-            let n = add_ret(items, s.items, lacks_ret(void, s.before), s.last);
-            let r = records::record_of(
-                kinds::LABEL,
-                at,
-                Identifier(0),
-                0,
-                Identifier(0),
-                Last::Name(label, 0),
-            );
-            records::put_record(items, n, r);
-            labels[count] = label.0;
-            Turn::On(Going {
-                at: next,
-                items: n + 1,
-                arguments: s.arguments,
-                labels: count + 1,
-                before: LABEL,
-                last: s.last,
-            })
-        }
+        Named::At(label, next) => { Turn::On(add_label(void, s, label, next, items, labels)) }
     }
 }
 

@@ -72,5 +72,5 @@ pub parse-call-item-spec : {M : Type 1} → statement M
 parse-call-item-spec =
     tie.close
     (tie.spec (λ c. search needs) (λ c κs. search needs) (λ c. search needs) (λ c. search needs) (λ c. search needs)
-    cast-t22 (λ c κs. search needs) (λ c κs. search needs) add-t26 (λ c. search needs) returns (λ c. search needs)
-    (λ c. search needs) returns-2)
+    cast-t22 (λ c. search needs) (λ c κs. search needs) (λ c κs. search needs) add-t26 (λ c. search needs) returns
+    (λ c. search needs) (λ c. search needs) returns-2)

@@ -5,18 +5,6 @@ use Rattle.body.specs.Records.{lastOf}
 use Rattle.body.proofs.records.last_of.Statement.{statement}
 use Rattle.body.proofs.records.last_of.Tie as tie
 
-returns : tie.Need-returns
-unfolding lastOf pick
-returns c = let match = c .match in rw (match .keys1)
-
-returns-2 : tie.Need-returns-2
-unfolding lastOf pick
-returns-2 c = let match = c .match in rw (match .keys2)
-
-returns-3 : tie.Need-returns-3
-unfolding lastOf pick
-returns-3 c = let match = c .match in rw (match .keys3)
-
 returns-4 : tie.Need-returns-4
 unfolding lastOf pick
 returns-4 c =
@@ -24,4 +12,7 @@ returns-4 c =
     rw (ne-eqb _ _ (r .0 .0 .1), ne-eqb _ _ (r .0 .1), ne-eqb _ _ (r .1))
 
 pub last-of-spec : {M : Type 1} → statement M
-last-of-spec = tie.close (tie.spec returns returns-2 returns-3 returns-4)
+unfolding lastOf pick
+last-of-spec =
+    tie.close
+    (tie.spec (λ c. rw (c .match .keys1)) (λ c. rw (c .match .keys2)) (λ c. rw (c .match .keys3)) returns-4)

@@ -5,12 +5,13 @@ use Rattle.body.proofs.records.put_record.Tie as tie
 
 returns : tie.Need-returns
 returns c =
-    let first-cell = c .before .before .before .before .first-cell in
-    let second-cell = c .before .before .before .second-cell in
-    let put-cells = c .before .before .put-cells in
-    rw (first-cell .ensures, second-cell .ensures) at (put-cells .ensures)
+    let first = c .before .before .before .before .before .before .first-cell in
+    let second = c .before .before .before .before .before .second-cell in
+    let put = c .before .before .put-cells in
+    rw (first .ensures, second .ensures) at (put .ensures)
 
 pub put-record-spec : {M : Type 1} → statement M
 put-record-spec =
     tie.close
-    (tie.spec (λ c κs. search needs) (λ c κs. search needs) (λ c κs. search needs) (λ c. search needs) returns)
+    (tie.spec (λ c κs. search needs) (λ c κs. search needs) (λ c. search needs) (λ c. search needs)
+    (λ c κs. search needs) (λ c. search needs) returns)

@@ -15,13 +15,9 @@ returns c =
     let put-record = c .before .before .put-record in
     rw (if1 .taken) (refl, put-record .ensures)
 
-returns-2 : tie.Need-returns-2
-unfolding added pick itemsCells
-returns-2 c =
-    let if1 = c .if1 in
-    rw (if1 .left) (omega arith, refl)
-
 pub add-ret-spec : {M : Type 1} → statement M
+unfolding added pick itemsCells
 add-ret-spec =
     tie.close
-    (tie.spec (λ c κs. search needs) (λ c. search needs) (λ c. search needs) returns returns-2)
+    (tie.spec (λ c κs. search needs) (λ c. search needs) (λ c. search needs) returns
+    (λ c. rw (c .if1 .left) (omega arith, refl)))

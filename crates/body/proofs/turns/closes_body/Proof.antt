@@ -5,17 +5,6 @@ use Rattle.body.specs.Body.{closes}
 use Rattle.body.proofs.turns.closes_body.Statement.{statement}
 use Rattle.body.proofs.turns.closes_body.Tie as tie
 
-returns : tie.Need-returns
-unfolding closes pick
-returns c =
-    let if1 = c .if1 in
-    rw (eq-eqb _ _ (if1 .taken))
-
-returns-2 : tie.Need-returns-2
-unfolding closes pick
-returns-2 c =
-    let if1 = c .if1 in
-    rw (ne-eqb _ _ (if1 .left))
-
 pub closes-body-spec : {M : Type 1} → statement M
-closes-body-spec = tie.close (tie.spec returns returns-2)
+unfolding closes pick
+closes-body-spec = tie.close (tie.spec (λ c. rw (eq-eqb _ _ (c .if1 .taken))) (λ c. rw (ne-eqb _ _ (c .if1 .left))))
