@@ -6,20 +6,14 @@ use Rattle.graph.specs.Worklist.{popped}
 use Rattle.graph.proofs.RPOWorklist.pop.Statement.{statement}
 use Rattle.graph.proofs.RPOWorklist.pop.Tie as tie
 
-returns : tie.Need-returns
-unfolding popped pick
-returns c = rw (le-ltb _ _ (c .if1 .taken))
-
-returns-2 : tie.Need-returns-2
-unfolding popped pick
-returns-2 c = rw (lt-ltb _ _ (c .before .if1 .left), le-ltb _ _ (c .if2 .taken))
-
 returns-3 : tie.Need-returns-3
 unfolding popped pick
 returns-3 c = rw (lt-ltb _ _ (c .before .before .if1 .left), lt-ltb _ _ (c .before .if2 .left))
 
 pub pop-spec : {M : Type 1} → statement M
+unfolding popped pick
 pop-spec =
     tie.close
-    (tie.spec returns returns-2 (λ c. search needs) (λ c. search needs) (λ c. search needs) (λ c. search needs)
-    returns-3)
+    (tie.spec (λ c. rw (le-ltb _ _ (c .if1 .taken)))
+    (λ c. rw (lt-ltb _ _ (c .before .if1 .left), le-ltb _ _ (c .if2 .taken))) (λ c. search needs) (λ c. search needs)
+    (λ c. search needs) (λ c. search needs) returns-3)

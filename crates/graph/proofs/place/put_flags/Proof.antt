@@ -16,9 +16,6 @@ Inv-loop flags n out₀ k₀ out k =
 abbrev μ-loop : tie.MeasureT-loop
 μ-loop flags n out₀ k₀ out k = n - k
 
-loop-holds : tie.Need-loop-holds Inv-loop μ-loop
-loop-holds c = (omega arith, refl)
-
 loop-again : tie.Need-loop-again Inv-loop μ-loop
 loop-again c =
     let n = c .before .before .before .args .n in
@@ -41,5 +38,5 @@ returns c =
 pub put-flags-spec : {M : Type 1} → statement M
 put-flags-spec =
     tie.close
-    (tie.spec Inv-loop μ-loop loop-holds (λ c. search needs) (λ c. search needs) (λ c. search needs)
+    (tie.spec Inv-loop μ-loop (λ c. (omega arith, refl)) (λ c. search needs) (λ c. search needs) (λ c. search needs)
     (λ c. search needs) (λ c. search needs) loop-again returns)

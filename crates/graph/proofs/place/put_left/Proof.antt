@@ -17,9 +17,6 @@ Inv-loop left at out₀ i₀ k₀ out i k =
 abbrev μ-loop : tie.MeasureT-loop
 μ-loop left at out₀ i₀ k₀ out i k = 256 - k
 
-loop-holds : tie.Need-loop-holds Inv-loop μ-loop
-loop-holds c = (omega arith, omega arith, refl)
-
 loop-again : tie.Need-loop-again Inv-loop μ-loop
 loop-again c =
     let left = c .before .before .before .args .left .now in
@@ -36,5 +33,6 @@ returns c =
 pub put-left-spec : {M : Type 1} → statement M
 put-left-spec =
     tie.close
-    (tie.spec Inv-loop μ-loop loop-holds (λ c. search needs) (λ c. search needs) (λ c. search needs)
-    (λ c. search needs) (λ c. search needs) (λ c. search needs) (λ c. search needs) loop-again returns)
+    (tie.spec Inv-loop μ-loop (λ c. (omega arith, omega arith, refl)) (λ c. search needs) (λ c. search needs)
+    (λ c. search needs) (λ c. search needs) (λ c. search needs) (λ c. search needs) (λ c. search needs) loop-again
+    returns)

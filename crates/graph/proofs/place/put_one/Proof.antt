@@ -13,15 +13,9 @@ element-write-out c =
     let room = rw (eq-eqb _ _ (c .if1 .taken)) at (c .before .pre) in
     omega arith
 
-returns : tie.Need-returns
-unfolding pick
-returns c = rw (eq-eqb _ _ (c .if1 .taken)) (refl, refl)
-
-returns-2 : tie.Need-returns-2
-unfolding pick
-returns-2 c = rw (ne-eqb _ _ (c .if1 .left)) (omega arith, refl)
-
 pub put-one-spec : {M : Type 1} → statement M
+unfolding pick
 put-one-spec =
     tie.close
-    (tie.spec (λ c. search needs) element-write-out (λ c. search needs) returns returns-2)
+    (tie.spec (λ c. search needs) element-write-out (λ c. search needs)
+    (λ c. rw (eq-eqb _ _ (c .if1 .taken)) (refl, refl)) (λ c. rw (ne-eqb _ _ (c .if1 .left)) (omega arith, refl)))

@@ -20,9 +20,6 @@ Inv-loop met n out₀ start at₀ rest₀ out at rest =
 abbrev μ-loop : tie.MeasureT-loop
 μ-loop met n out₀ start at₀ rest₀ out at rest = rest
 
-loop-holds : tie.Need-loop-holds Inv-loop μ-loop
-loop-holds c = (0, omega arith, c .pre .0, refl)
-
 put-one-requires : tie.Need-put-one-requires Inv-loop μ-loop
 put-one-requires c κs =
     let loop = c .before .before .before .before .before .loop in
@@ -65,5 +62,5 @@ returns c =
 pub put-unmet-spec : {M : Type 1} → statement M
 put-unmet-spec =
     tie.close
-    (tie.spec Inv-loop μ-loop loop-holds (λ c κs. search needs) (λ c. search needs) (λ c. search needs)
-    put-one-requires (λ c. search needs) (λ c. search needs) loop-again returns)
+    (tie.spec Inv-loop μ-loop (λ c. (0, omega arith, c .pre .0, refl)) (λ c κs. search needs) (λ c. search needs)
+    (λ c. search needs) put-one-requires (λ c. search needs) (λ c. search needs) loop-again returns)

@@ -7,13 +7,9 @@ use Rattle.graph.specs.Records.{atMost256}
 use Rattle.graph.proofs.successors.at_most_256.Statement.{statement}
 use Rattle.graph.proofs.successors.at_most_256.Tie as tie
 
-returns : tie.Need-returns
-unfolding atMost256 pick
-returns c = rw (lt-ltb _ _ (c .if1 .taken)) (refl, omega arith)
-
-returns-2 : tie.Need-returns-2
-unfolding atMost256 pick
-returns-2 c = rw (le-ltb _ _ (c .if1 .left)) (refl, omega arith)
-
 pub at-most-256-spec : {M : Type 1} → statement M
-at-most-256-spec = tie.close (tie.spec returns returns-2)
+unfolding atMost256 pick
+at-most-256-spec =
+    tie.close
+    (tie.spec (λ c. rw (lt-ltb _ _ (c .if1 .taken)) (refl, omega arith))
+    (λ c. rw (le-ltb _ _ (c .if1 .left)) (refl, omega arith)))

@@ -19,12 +19,6 @@ abbrev μ-loop : tie.MeasureT-loop
 μ-loop succs counts n met₀ left₀ processing₀ start top₀ at₀ met left processing top at =
     size n (state met left processing top at)
 
-loop-holds : tie.Need-loop-holds Inv-loop μ-loop
-loop-holds c = (c .pre, refl)
-
-loop-less : tie.Need-loop-less Inv-loop μ-loop
-loop-less c = c .turn .ensures .less
-
 loop-again : tie.Need-loop-again Inv-loop μ-loop
 loop-again c =
     let turn = c .turn in
@@ -51,4 +45,6 @@ returns c =
 
 pub process-spec : {M : Type 1} → statement M
 process-spec =
-    tie.close (tie.spec Inv-loop μ-loop loop-holds (λ c κs. search needs) loop-less loop-again returns)
+    tie.close
+    (tie.spec Inv-loop μ-loop (λ c. (c .pre, refl)) (λ c κs. search needs) (λ c. c .turn .ensures .less) loop-again
+    returns)

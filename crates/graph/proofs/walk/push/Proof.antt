@@ -8,15 +8,10 @@ use Rattle.graph.specs.Frames.{pushOne}
 use Rattle.graph.proofs.walk.push.Statement.{statement}
 use Rattle.graph.proofs.walk.push.Tie as tie
 
-returns : tie.Need-returns
-unfolding pushOne pick
-returns c = rw (lt-ltb _ _ (c .if1 .taken)) (refl, omega arith)
-
-returns-2 : tie.Need-returns-2
-unfolding pushOne pick
-returns-2 c = rw (le-ltb _ _ (c .if1 .left)) (refl, omega arith)
-
 pub push-spec : {M : Type 1} → statement M
+unfolding pushOne pick
 push-spec =
     tie.close
-    (tie.spec (λ c. search needs) (λ c. search needs) (λ c. search needs) returns returns-2)
+    (tie.spec (λ c. search needs) (λ c. search needs) (λ c. search needs)
+    (λ c. rw (lt-ltb _ _ (c .if1 .taken)) (refl, omega arith))
+    (λ c. rw (le-ltb _ _ (c .if1 .left)) (refl, omega arith)))

@@ -17,9 +17,6 @@ pair s j = getD (getD (s .args .succs .now) (s .args .block .0) []) j 0
 abbrev start : tie.Start → Stack
 start s = stack (s .args .processing .now) (s .args .top)
 
-returns : tie.Need-returns
-returns c = rw (c .if1 .taken) refl
-
 returns-2 : tie.Need-returns-2
 returns-2 c = rw (c .before .before .if2 .taken) (c .push .ensures .0)
 
@@ -37,5 +34,5 @@ pub push-successors-spec : {M : Type 1} → statement M
 push-successors-spec =
     tie.close
     (tie.spec (λ c. search needs) (λ c. search needs) (λ c. search needs) (λ c. search needs) (λ c. search needs)
-    (λ c. search needs) (λ c. search needs) (λ c. search needs) (λ c. search needs) returns (λ c κs. search needs)
-    returns-2 (λ c κs. search needs) (λ c κs. search needs) returns-3)
+    (λ c. search needs) (λ c. search needs) (λ c. search needs) (λ c. search needs) (λ c. rw (c .if1 .taken) refl)
+    (λ c κs. search needs) returns-2 (λ c κs. search needs) (λ c κs. search needs) returns-3)

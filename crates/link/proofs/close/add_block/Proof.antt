@@ -8,12 +8,6 @@ use Rattle.link.specs.Steps.{addedD, addedCells}
 use Rattle.link.proofs.close.add_block.Statement.{statement}
 use Rattle.link.proofs.close.add_block.Tie as tie
 
-returns : tie.Need-returns
-unfolding addedD addedCells pick
-returns c =
-    let if1 = c .if1 in
-    rw (eq-eqb _ _ (if1 .taken)) (refl, refl)
-
 close-block-requires : tie.Need-close-block-requires
 close-block-requires c κs =
     let pre = c .before .before .before .before .before .pre in
@@ -52,7 +46,8 @@ returns-3 c =
     )
 
 pub add-block-spec : {M : Type 1} → statement M
+unfolding addedD addedCells pick
 add-block-spec =
     tie.close
-    (tie.spec returns close-block-requires (λ c. search needs) (λ c. search needs) add-t16 (λ c. search needs)
-    returns-2 (λ c. search needs) returns-3)
+    (tie.spec (λ c. rw (eq-eqb _ _ (c .if1 .taken)) (refl, refl)) close-block-requires (λ c. search needs)
+    (λ c. search needs) add-t16 (λ c. search needs) returns-2 (λ c. search needs) returns-3)

@@ -18,9 +18,6 @@ abbrev μ-loop : tie.MeasureT-loop
 μ-loop items from end i₀ i =
     end - i
 
-loop-holds : tie.Need-loop-holds Inv-loop μ-loop
-loop-holds c = (omega arith, refl)
-
 returns : tie.Need-returns Inv-loop μ-loop
 returns c =
     let if1 = c .if1 in
@@ -34,9 +31,6 @@ returns c =
       run-ends s i end (loop-test .taken) (record-at .result) (record-at .ensures) (if1 .taken) _ (loop .inv .1),
       omega arith,
     )
-
-loop-less : tie.Need-loop-less Inv-loop μ-loop
-loop-less c = omega arith
 
 loop-again : tie.Need-loop-again Inv-loop μ-loop
 loop-again c =
@@ -67,5 +61,5 @@ returns-2 c =
 pub block-end-spec : {M : Type 1} → statement M
 block-end-spec =
     tie.close
-    (tie.spec Inv-loop μ-loop loop-holds (λ c κs. search needs) returns (λ c. search needs) loop-less loop-again
-    returns-2)
+    (tie.spec Inv-loop μ-loop (λ c. (omega arith, refl)) (λ c κs. search needs) returns (λ c. search needs)
+    (λ c. omega arith) loop-again returns-2)

@@ -69,9 +69,6 @@ put-entries-requires c κs =
       omega (arith, e, enter-edges .ensures .0, s .pre),
     )
 
-loop-less : tie.Need-loop-less Inv-loop μ-loop
-loop-less c = omega arith
-
 loop-again : tie.Need-loop-again Inv-loop μ-loop
 loop-again c =
     let back8 = c .before .before .before .before .before .before .before .before in
@@ -96,16 +93,6 @@ loop-again c =
           ∙ inv .3,
     )
 
-same-length : tie.Need-same-length Inv-loop μ-loop
-same-length c =
-    let loop = c .before .loop in
-    omega (arith, loop .inv .1)
-
-same-length-2 : tie.Need-same-length-2 Inv-loop μ-loop
-same-length-2 c =
-    let loop = c .before .loop in
-    omega (arith, loop .inv .2 .long)
-
 returns : tie.Need-returns Inv-loop μ-loop
 returns c =
     let a = c .before .before .before .before .args in
@@ -120,4 +107,5 @@ pub enter-all-spec : {M : Type 1} → statement M
 enter-all-spec =
     tie.close
     (tie.spec Inv-loop μ-loop loop-holds (λ c. search needs) (λ c. search needs) enter-edges-requires sub-put-entries
-    put-entries-requires (λ c. search needs) loop-less loop-again same-length same-length-2 returns)
+    put-entries-requires (λ c. search needs) (λ c. omega arith) loop-again
+    (λ c. omega (arith, c .before .loop .inv .1)) (λ c. omega (arith, c .before .loop .inv .2 .long)) returns)

@@ -29,9 +29,6 @@ loop-holds c =
     let all = predecessors (a .j .0) 0 (linksFrom (rowOf (now (a .succs)) (now (a .counts))) 0 (a .n)) in
     (0, omega arith, entered-none all (a .used) (now (a .sources)))
 
-next-source-requires : tie.Need-next-source-requires Inv-loop μ-loop
-next-source-requires c κs = omega arith
-
 enter-from-requires : tie.Need-enter-from-requires Inv-loop μ-loop
 enter-from-requires c κs =
     let a = c .before .before .before .before .before .args in
@@ -46,9 +43,6 @@ enter-from-requires c κs =
     let inv = rw same at (loop .inv .2) in
     let e = rw (more, length-append) at (inv .count) in
     (omega arith, omega (arith, e, inv .long, pre .1))
-
-loop-less : tie.Need-loop-less Inv-loop μ-loop
-loop-less c = omega arith
 
 loop-again : tie.Need-loop-again Inv-loop μ-loop
 loop-again c =
@@ -69,11 +63,6 @@ loop-again c =
       entered-more own later (enter-from .result) (enter-from .last .1 .1 .1 .1 .0) inv more (enter-from .ensures),
     )
 
-same-length : tie.Need-same-length Inv-loop μ-loop
-same-length c =
-    let loop = c .before .loop in
-    omega (arith, loop .inv .2 .long)
-
 returns : tie.Need-returns Inv-loop μ-loop
 returns c =
     let a = c .before .before .before .args in
@@ -84,5 +73,5 @@ returns c =
 pub enter-edges-spec : {M : Type 1} → statement M
 enter-edges-spec =
     tie.close
-    (tie.spec Inv-loop μ-loop loop-holds next-source-requires enter-from-requires (λ c. search needs) loop-less
-    loop-again same-length returns)
+    (tie.spec Inv-loop μ-loop loop-holds (λ c κs. omega arith) enter-from-requires (λ c. search needs)
+    (λ c. omega arith) loop-again (λ c. omega (arith, c .before .loop .inv .2 .long)) returns)

@@ -5,12 +5,6 @@ use Rattle.link.specs.Steps.{entersD}
 use Rattle.link.proofs.enter.enters.Statement.{statement}
 use Rattle.link.proofs.enter.enters.Tie as tie
 
-returns : tie.Need-returns
-unfolding entersD pick
-returns c =
-    let if1 = c .if1 in
-    rw (le-ltb _ _ (if1 .taken))
-
 returns-2 : tie.Need-returns-2
 unfolding entersD pick
 returns-2 c =
@@ -18,4 +12,5 @@ returns-2 c =
     rw (lt-ltb _ _ (if1 .left))
 
 pub enters-spec : {M : Type 1} → statement M
-enters-spec = tie.close (tie.spec returns returns-2)
+unfolding entersD pick
+enters-spec = tie.close (tie.spec (λ c. rw (le-ltb _ _ (c .if1 .taken))) returns-2)

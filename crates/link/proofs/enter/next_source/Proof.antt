@@ -3,11 +3,5 @@ use native.Mathlib.Omega.{arith}
 use Rattle.link.proofs.enter.next_source.Statement.{statement}
 use Rattle.link.proofs.enter.next_source.Tie as tie
 
-sub-k : tie.Need-sub-k
-sub-k c = omega arith
-
-returns : tie.Need-returns
-returns c = omega arith
-
 pub next-source-spec : {M : Type 1} → statement M
-next-source-spec = tie.close (tie.spec sub-k returns)
+next-source-spec = tie.close (tie.spec (λ c. omega arith) (λ c. omega arith))

@@ -14,19 +14,9 @@ slice-write-sources c =
     let room = rw (if1 .taken) at (pre) in
     omega arith
 
-returns : tie.Need-returns
-unfolding pick
-returns c =
-    let if1 = c .if1 in
-    rw (if1 .taken) (refl, refl)
-
-returns-2 : tie.Need-returns-2
-unfolding pick
-returns-2 c =
-    let if1 = c .if1 in
-    rw (if1 .left) (omega arith, refl)
-
 pub put-source-spec : {M : Type 1} → statement M
+unfolding pick
 put-source-spec =
     tie.close
-    (tie.spec (λ c. search needs) slice-write-sources (λ c. search needs) (λ c. search needs) returns returns-2)
+    (tie.spec (λ c. search needs) slice-write-sources (λ c. search needs) (λ c. search needs)
+    (λ c. rw (c .if1 .taken) (refl, refl)) (λ c. rw (c .if1 .left) (omega arith, refl)))

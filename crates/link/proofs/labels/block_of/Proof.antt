@@ -6,19 +6,9 @@ use Rattle.link.specs.Table.{blockOf}
 use Rattle.link.proofs.labels.block_of.Statement.{statement}
 use Rattle.link.proofs.labels.block_of.Tie as tie
 
-returns : tie.Need-returns
-unfolding blockOf pick
-returns c =
-    let if1 = c .if1 in
-    rw (lt-ltb _ _ (if1 .taken))
-
-returns-2 : tie.Need-returns-2
-unfolding blockOf pick
-returns-2 c =
-    let if1 = c .if1 in
-    rw (le-ltb _ _ (if1 .left))
-
 pub block-of-spec : {M : Type 1} → statement M
+unfolding blockOf pick
 block-of-spec =
     tie.close
-    (tie.spec returns (λ c. search needs) (λ c. search needs) (λ c. search needs) returns-2)
+    (tie.spec (λ c. rw (lt-ltb _ _ (c .if1 .taken))) (λ c. search needs) (λ c. search needs) (λ c. search needs)
+    (λ c. rw (le-ltb _ _ (c .if1 .left))))

@@ -51,9 +51,6 @@ returns c =
     let g = getD-take n s i 0 less in
     rw (← loop .inv .1, d, g, eq-eqb _ _ same, block-of .ensures)
 
-loop-less : tie.Need-loop-less Inv-loop μ-loop
-loop-less c = omega arith
-
 loop-again : tie.Need-loop-again Inv-loop μ-loop
 unfolding labelPlace pick
 loop-again c =
@@ -92,4 +89,4 @@ pub get-spec : {M : Type 1} → statement M
 get-spec =
     tie.close
     (tie.spec Inv-loop μ-loop loop-holds (λ c. search needs) (λ c. search needs) (λ c. search needs)
-    (λ c κs. search needs) returns (λ c. search needs) loop-less loop-again returns-2)
+    (λ c κs. search needs) returns (λ c. search needs) (λ c. omega arith) loop-again returns-2)

@@ -19,9 +19,6 @@ abbrev μ-loop : tie.MeasureT-loop
 μ-loop items first count i₀ i =
     count - i
 
-loop-holds : tie.Need-loop-holds Inv-loop μ-loop
-loop-holds c = (omega arith, rw (add-zero, sub-zero) (omega arith))
-
 returns : tie.Need-returns Inv-loop μ-loop
 returns c =
     let if1 = c .if1 in
@@ -37,9 +34,6 @@ returns c =
           (loop .inv .1),
       omega arith,
     )
-
-loop-less : tie.Need-loop-less Inv-loop μ-loop
-loop-less c = omega arith
 
 loop-again : tie.Need-loop-again Inv-loop μ-loop
 loop-again c =
@@ -73,5 +67,5 @@ returns-2 c =
 pub leading-labels-spec : {M : Type 1} → statement M
 leading-labels-spec =
     tie.close
-    (tie.spec Inv-loop μ-loop loop-holds (λ c. search needs) (λ c κs. search needs) returns (λ c. search needs)
-    loop-less loop-again returns-2)
+    (tie.spec Inv-loop μ-loop (λ c. (omega arith, rw (add-zero, sub-zero) (omega arith))) (λ c. search needs)
+    (λ c κs. search needs) returns (λ c. search needs) (λ c. omega arith) loop-again returns-2)

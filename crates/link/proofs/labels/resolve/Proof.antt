@@ -28,14 +28,9 @@ returns-3 c =
     let resolve-two = c .resolve-two in
     rw (last2 .given .1) (resolve-two .ensures)
 
-returns-4 : tie.Need-returns-4
-unfolding goesD leadsBy
-returns-4 c =
-    let enum-told = c .enum-told in
-    rw (enum-told .given .1)
-
 pub resolve-spec : {M : Type 1} → statement M
+unfolding goesD leadsBy
 resolve-spec =
     tie.close
     (tie.spec (λ c. search needs) (λ c. search needs) (λ c κs. search needs) returns (λ c. search needs)
-    (λ c κs. search needs) (λ c. search needs) returns-2 returns-3 returns-4)
+    (λ c κs. search needs) (λ c. search needs) returns-2 returns-3 (λ c. rw (c .enum-told .given .1)))
