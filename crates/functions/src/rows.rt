@@ -15,6 +15,7 @@ use crate::columns;
 use lexer::sizes::NAME_CELLS;
 use pieces::Identifier;
 use utils::cell_at;
+use utils::put_cells;
 
 // A name's length, by its record.
 fn name_length(names: &[u32], name: Identifier) -> u32
@@ -41,13 +42,8 @@ pub fn put_name(
 {
     let t = lexer::token_at(tokens, token);
     let len = name_length(names, name);
-    let at = columns::TOKEN + i * columns::ROW;
-    rows[at] = token as u32;
-    rows[at + 1] = name.0;
-    rows[at + 2] = close as u32;
-    rows[at + 3] = t.place;
-    rows[at + 4] = len;
-    rows[at + 5] = t.line.0;
+    let cells = [token as u32, name.0, close as u32, t.place, len, t.line.0];
+    put_cells(rows, columns::TOKEN + i * columns::ROW, &cells);
 }
 
 // The result type, the function type's number, where items and blocks begin and how many they are, how many formals.
@@ -68,14 +64,16 @@ pub fn put_counts(
     ensures { λ _. ⌜ now (rows .exit) ≡ sets (now (rows .entry)) (retAt i)
         (ret ∷ ty ∷ first ∷ items ∷ base ∷ blocks ∷ formals ∷ []) ⌝ }
 {
-    let at = columns::RESULT + i * columns::ROW;
-    rows[at] = ret;
-    rows[at + 1] = ty;
-    rows[at + 2] = first as u32;
-    rows[at + 3] = items as u32;
-    rows[at + 4] = base as u32;
-    rows[at + 5] = blocks as u32;
-    rows[at + 6] = formals as u32;
+    let cells = [
+        ret,
+        ty,
+        first as u32,
+        items as u32,
+        base as u32,
+        blocks as u32,
+        formals as u32,
+    ];
+    put_cells(rows, columns::RESULT + i * columns::ROW, &cells);
 }
 
 // The cells before the formals, which stand there already.

@@ -7,19 +7,8 @@ use borrow.Author.Needs.{needs}
 use Rattle.functions.proofs.types_after.Statement.{statement}
 use Rattle.functions.proofs.types_after.Tie as tie
 
-returns : tie.Need-returns
-unfolding typesAfter pick
-returns c =
-    let if1 = c .if1 in
-    rw (eq-eqb _ _ (if1 .taken))
-
-returns-2 : tie.Need-returns-2
-unfolding typesAfter pick
-returns-2 c =
-    let if1 = c .if1 in
-    rw (ne-eqb _ _ (if1 .left))
-
 pub types-after-spec : {M : Type 1} → statement M
+unfolding typesAfter pick
 types-after-spec =
     tie.close
-    (tie.spec (λ c. search needs) returns returns-2)
+    (tie.spec (λ c. search needs) (λ c. rw (eq-eqb _ _ (c .if1 .taken))) (λ c. rw (ne-eqb _ _ (c .if1 .left))))

@@ -17,9 +17,6 @@ Inv-loop rows n name i₀ i = (i ≤ n) × (rowFrom rows i (n - i) (name .0) ≡
 abbrev μ-loop : tie.MeasureT-loop
 μ-loop rows n name i₀ i = n - i
 
-loop-holds : tie.Need-loop-holds Inv-loop μ-loop
-loop-holds c = (omega arith, rw sub-zero)
-
 returns : tie.Need-returns Inv-loop μ-loop
 returns c =
     let a = c .before .before .before .before .before .args in
@@ -48,5 +45,5 @@ returns-2 c =
 pub find-function-spec : {M : Type 1} → statement M
 find-function-spec =
     tie.close
-    (tie.spec Inv-loop μ-loop loop-holds (λ c. search needs) (λ c. search needs) (λ c. search needs)
-    (λ c. search needs) returns (λ c. search needs) (λ c. search needs) loop-again returns-2)
+    (tie.spec Inv-loop μ-loop (λ c. (omega arith, rw sub-zero)) (λ c. search needs) (λ c. search needs)
+    (λ c. search needs) (λ c. search needs) returns (λ c. search needs) (λ c. search needs) loop-again returns-2)

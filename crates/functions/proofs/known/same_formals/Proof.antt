@@ -23,9 +23,6 @@ Inv-loop rows a b count k₀ i₀ j₀ k i j =
 abbrev μ-loop : tie.MeasureT-loop
 μ-loop rows a b count k₀ i₀ j₀ k i j = count - k
 
-loop-holds : tie.Need-loop-holds Inv-loop μ-loop
-loop-holds c = (omega arith, omega arith, omega arith, rw sub-zero)
-
 returns : tie.Need-returns Inv-loop μ-loop
 unfolding sameBytes pick
 returns c =
@@ -77,6 +74,6 @@ pub same-formals-spec : {M : Type 1} → statement M
 same-formals-spec =
     tie.close
     (tie.spec Inv-loop μ-loop (λ c. search needs) (λ c. search needs) (λ c. search needs) (λ c. search needs)
-    loop-holds (λ c. search needs) (λ c. search needs) (λ c. search needs) (λ c. search needs) (λ c. search needs)
-    (λ c. search needs) returns (λ c. search needs) (λ c. search needs) (λ c. search needs) (λ c. search needs)
-    loop-again returns-2)
+    (λ c. (omega arith, omega arith, omega arith, rw sub-zero)) (λ c. search needs) (λ c. search needs)
+    (λ c. search needs) (λ c. search needs) (λ c. search needs) (λ c. search needs) returns (λ c. search needs)
+    (λ c. search needs) (λ c. search needs) (λ c. search needs) loop-again returns-2)

@@ -6,12 +6,6 @@ use borrow.Author.Needs.{needs}
 use Rattle.functions.proofs.known.same_type.Statement.{statement}
 use Rattle.functions.proofs.known.same_type.Tie as tie
 
-returns : tie.Need-returns
-unfolding sameBytes pick
-returns c =
-    let if1 = c .if1 in
-    rw (ne-eqb _ _ (if1 .taken))
-
 returns-2 : tie.Need-returns-2
 unfolding sameBytes pick
 returns-2 c =
@@ -29,8 +23,9 @@ returns-3 c =
     rw (eq-eqb _ _ (if1 .left), eq-eqb _ _ (if2 .left), if2 .left, le-leb _ 16 (pre .2)) (same-formals .ensures)
 
 pub same-type-spec : {M : Type 1} → statement M
+unfolding sameBytes pick
 same-type-spec =
     tie.close
-    (tie.spec (λ c. search needs) (λ c. search needs) (λ c. search needs) (λ c. search needs) returns
-    (λ c. search needs) (λ c. search needs) (λ c. search needs) (λ c. search needs) (λ c. search needs) returns-2
-    (λ c κs. search needs) returns-3)
+    (tie.spec (λ c. search needs) (λ c. search needs) (λ c. search needs) (λ c. search needs)
+    (λ c. rw (ne-eqb _ _ (c .if1 .taken))) (λ c. search needs) (λ c. search needs) (λ c. search needs)
+    (λ c. search needs) (λ c. search needs) returns-2 (λ c κs. search needs) returns-3)

@@ -23,9 +23,6 @@ Inv-loop rows n ret count types i₀ i =
 abbrev μ-loop : tie.MeasureT-loop
 μ-loop rows n ret count types i₀ i = n - i
 
-loop-holds : tie.Need-loop-holds Inv-loop μ-loop
-loop-holds c = (omega arith, rw sub-zero)
-
 returns : tie.Need-returns Inv-loop μ-loop
 unfolding typeNumber pick
 returns c =
@@ -69,5 +66,6 @@ returns-2 c =
 pub type-number-spec : {M : Type 1} → statement M
 type-number-spec =
     tie.close
-    (tie.spec Inv-loop μ-loop loop-holds (λ c κs. search needs) (λ c. search needs) (λ c. search needs)
-    (λ c. search needs) (λ c. search needs) returns (λ c. search needs) (λ c. search needs) loop-again returns-2)
+    (tie.spec Inv-loop μ-loop (λ c. (omega arith, rw sub-zero)) (λ c κs. search needs) (λ c. search needs)
+    (λ c. search needs) (λ c. search needs) (λ c. search needs) returns (λ c. search needs) (λ c. search needs)
+    loop-again returns-2)
