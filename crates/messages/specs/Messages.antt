@@ -178,12 +178,6 @@ messageAt text names t e =
     reported (t .line .0) (itemOf text names (t .kind) (t .name) (t .integer) (e .number) (e .name))
     (textOf text names (e .number) (e .wanted) (e .found) (e .name))
 
--- `ITEM: TEXT` and a newline
-abbrev pub behindError : List ℕ → List ℕ → TokenAt → Refusal → List ℕ
-behindError text names t e =
-    itemOf text names (t .kind) (t .name) (t .integer) (e .number) (e .name)
-    ++ (bytes ": " ++ (textOf text names (e .number) (e .wanted) (e .found) (e .name) ++ (10 ∷ [])))
-
 -- of a text with its tokens, its names' cells and its refusal
 abbrev pub messageOf : List ℕ → List Tok → List ℕ → Refusal → List ℕ
 messageOf text ts names e = messageAt text names (tokenAt ts (e .token)) e

@@ -5,52 +5,46 @@ mod words;
 
 ghost use mathlib.Core.Path.{_≡_};
 ghost use mathlib.Core.List.{[]};
-ghost use Prim.Native.Nat.{_+_, _≤_};
+ghost use Prim.Native.Nat.{_≤_};
 ghost use lib.ListN.{length};
-ghost use lib.Seq.{sets};
 ghost use Rattle.utils.specs.Bytes.{padTo};
 ghost use Rattle.utils.specs.Message.{reported};
 ghost use Rattle.lexer.specs.Decoded.{tokensOf};
 ghost use Rattle.utils.specs.Limits.{messageSize};
-ghost use Rattle.messages.specs.Messages.{ShortNames, behindError, fixed, messageAt, messageOf};
+ghost use Rattle.messages.specs.Messages.{ShortNames, fixed, messageAt, messageOf};
 use lexer::TokenAt;
 use parser::Refusal;
 use pieces::Location;
 
-// `ITEM: TEXT` and a newline.
-fn put_behind(
-    buf: &mut [u8],
-    at: usize,
+// The most bytes of ITEM, of TEXT, and of a TEXT that is the same for every text.
+const ITEM: usize = 69;
+
+const TEXT: usize = 91;
+
+const FIXED: usize = 49;
+
+// ITEM and TEXT are put apart from each other, in `item` and `said`, and the message is made of them.
+fn put_parts(
     text: &[u8],
     names: &[u32],
     t: TokenAt,
     e: Refusal,
-) -> usize
-    requires { ⌜ (at + 163 ≤ length (now buf)) × ShortNames (now text) (now names) ⌝ }
-    ensures { λ r. ⌜ (r ≡ at + length (behindError (now (text .entry)) (now (names .entry)) t e))
-        × (now (buf .exit) ≡ sets (now (buf .entry)) at (behindError (now (text .entry)) (now (names .entry)) t e))
-        × (r ≤ at + 163) ⌝ }
+    item: &mut [u8],
+    said: &mut [u8],
+    message: &mut [u8],
+)
+    requires { ⌜ (69 ≤ length (now item)) × (91 ≤ length (now said)) × (messageSize ≤ length (now message))
+        × ShortNames (now text) (now names) ⌝ }
+    ensures { λ _. ⌜ now (message .exit) ≡ padTo (length (now (message .entry)))
+        (messageAt (now (text .entry)) (now (names .entry)) t e) ⌝ }
 {
     let number = e.number;
     let name = e.name;
     let own = t.name;
-    let p1 = items::put_item(buf, at, text, names, t.kind, own, t.integer, number, name);
-    let p2 = utils::put(buf, p1, b": ");
-    let p3 = texts::put_text(buf, p2, text, names, number, e.wanted, e.found, name);
-    utils::put(buf, p3, b"\n")
-}
-
-fn put_at(buf: &mut [u8], at: usize, text: &[u8], names: &[u32], t: TokenAt, e: Refusal) -> usize
-    requires { ⌜ (at + 187 ≤ length (now buf)) × ShortNames (now text) (now names) ⌝ }
-    ensures { λ r. ⌜ (r ≡ at + length (messageAt (now (text .entry)) (now (names .entry)) t e))
-        × (now (buf .exit) ≡ sets (now (buf .entry)) at (messageAt (now (text .entry)) (now (names .entry)) t e))
-        × (r ≤ at + 187) ⌝ }
-{
     let line = t.line.0;
-    let p1 = utils::put(buf, at, b"[line ");
-    let p2 = utils::put_decimal(buf, p1, line);
-    let p3 = utils::put(buf, p2, b"] Error ");
-    put_behind(buf, p3, text, names, t, e)
+    let i = items::put_item(item, 0, text, names, t.kind, own, t.integer, number, name);
+    let n = texts::put_text(said, 0, text, names, number, e.wanted, e.found, name);
+    utils::report(message, line, &item[..i], &said[..n]);
 }
 
 // The message of a refusal, and zeros after it.
@@ -59,23 +53,20 @@ pub fn put_message(text: &[u8], tokens: &[u32], names: &[u32], e: Refusal, messa
     ensures { λ r. ⌜ now (message .exit) ≡ padTo (length (now (message .entry)))
         (messageOf (now (text .entry)) (tokensOf (now (tokens .entry))) (now (names .entry)) e) ⌝ }
 {
-    utils::clear_bytes(message);
     let t = lexer::token_at(tokens, e.token);
-    let end = put_at(message, 0, text, names, t, e);
+    let mut item = [0u8; ITEM];
+    let mut said = [0u8; TEXT];
+    put_parts(text, names, t, e, &mut item, &mut said, message);
 }
 
-// Everything of a message with no ITEM, and the place after it.
-fn put_without_item(buf: &mut [u8], line: u32, number: u32) -> usize
-    requires { ⌜ 76 ≤ length (now buf) ⌝ }
-    ensures { λ r. ⌜ (r ≡ length (reported line [] (fixed number)))
-        × (now (buf .exit) ≡ sets (now (buf .entry)) 0 (reported line [] (fixed number)))
-        × (r ≤ 76) ⌝ }
+// A message with no ITEM, whose TEXT is put in `said`.
+fn put_fixed_part(said: &mut [u8], message: &mut [u8], line: u32, number: u32)
+    requires { ⌜ (49 ≤ length (now said)) × (messageSize ≤ length (now message)) ⌝ }
+    ensures { λ _. ⌜ now (message .exit)
+        ≡ padTo (length (now (message .entry))) (reported line [] (fixed number)) ⌝ }
 {
-    let p1 = utils::put(buf, 0, b"[line ");
-    let p2 = utils::put_decimal(buf, p1, line);
-    let p3 = utils::put(buf, p2, b"] Error : ");
-    let p4 = texts::put_fixed(buf, p3, number);
-    utils::put(buf, p4, b"\n")
+    let n = texts::put_fixed(said, 0, number);
+    utils::error(message, line, &said[..n]);
 }
 
 // A refusal at no token: the message of its number, and zeros after it.
@@ -84,6 +75,6 @@ pub fn report(message: &mut [u8], line: Location, number: u32)
     ensures { λ _. ⌜ now (message .exit)
         ≡ padTo (length (now (message .entry))) (reported (line .0) [] (fixed number)) ⌝ }
 {
-    utils::clear_bytes(message);
-    let end = put_without_item(message, line.0, number);
+    let mut said = [0u8; FIXED];
+    put_fixed_part(&mut said, message, line.0, number);
 }

@@ -1,68 +1,60 @@
 -- Case by case, as `textOf`.
 use borrow.Author.Tests.{ne-eqb}
 use native.Mathlib.Omega.{arith}
-use denote.Ref.{now}
 use borrow.Author.Needs.{needs}
-use Rattle.messages.specs.Messages.{expected, unexpected, otherType, otherCount, fixed, textOf}
+use Rattle.messages.specs.Messages.{textOf}
 use Rattle.utils.specs.Bytes.{pick}
-use Rattle.messages.proofs.Puts.{wider}
 use Rattle.messages.proofs.texts.put_text.Statement.{statement}
 use Rattle.messages.proofs.texts.put_text.Tie as tie
 
 returns : tie.Need-returns
 unfolding textOf pick
 returns c =
-    let a = c .before .before .before .before .before .before .before .before .args in
-    let p = c .before .before .put-expected in
-    rw (c .before .before .before .before .match .keys1) (wider (now (a .buf)) (a .at) (expected (a .wanted)) (p
-    .last .0) (p .result) 33 91 (omega arith) (p .ensures))
+    let match = c .before .before .before .before .match in
+    let put = c .before .before .put-expected .ensures in
+    rw (match .keys1) (put .0, put .1, omega (arith, put .2))
 
 returns-2 : tie.Need-returns-2
 unfolding textOf pick
 returns-2 c =
-    let a = c .before .before .before .before .before .before .before .before .args in
-    let p = c .before .before .put-missing in
-    rw (c .before .before .before .before .match .keys2) (p .ensures)
+    let match = c .before .before .before .before .match in
+    let put = c .before .before .put-missing .ensures in
+    rw (match .keys2) (put .0, put .1, omega (arith, put .2))
 
 returns-3 : tie.Need-returns-3
 unfolding textOf pick
 returns-3 c =
-    let a = c .before .before .before .before .before .before .before .before .args in
-    let p = c .before .before .put-unexpected in
-    rw (c .before .before .before .before .match .keys3) (wider (now (a .buf)) (a .at) (unexpected (a .found) (a
-    .wanted)) (p .last .0) (p .result) 54 91 (omega arith) (p .ensures))
+    let match = c .before .before .before .before .match in
+    let put = c .before .before .put-unexpected .ensures in
+    rw (match .keys3) (put .0, put .1, omega (arith, put .2))
 
 returns-4 : tie.Need-returns-4
 unfolding textOf pick
 returns-4 c =
-    let a = c .before .before .before .before .before .before .before .before .args in
-    let p = c .before .before .put-other-type in
-    rw (c .before .before .before .before .match .keys4) (wider (now (a .buf)) (a .at) (otherType (a .wanted) (a
-    .found)) (p .last .0) (p .result) 48 91 (omega arith) (p .ensures))
+    let match = c .before .before .before .before .match in
+    let put = c .before .before .put-other-type .ensures in
+    rw (match .keys4) (put .0, put .1, omega (arith, put .2))
 
 returns-5 : tie.Need-returns-5
 unfolding textOf pick
 returns-5 c =
-    let a = c .before .before .before .before .before .before .before .before .args in
-    let p = c .before .before .put-other-count in
-    rw (c .before .before .before .before .match .keys5) (wider (now (a .buf)) (a .at) (otherCount (a .wanted) (a
-    .found)) (p .last .0) (p .result) 45 91 (omega arith) (p .ensures))
+    let match = c .before .before .before .before .match in
+    let put = c .before .before .put-other-count .ensures in
+    rw (match .keys5) (put .0, put .1, omega (arith, put .2))
 
 returns-6 : tie.Need-returns-6
 unfolding textOf pick
 returns-6 c =
-    let a = c .before .before .before .before .before .before .before .before .args in
-    let p = c .before .before .put-fixed in
+    let rest = c .before .before .before .before .match .rest in
+    let put = c .before .before .put-fixed .ensures in
     rw (
-      ne-eqb _ _ (c .before .before .before .before .match .rest .0 .0 .0 .0 .1),
-      ne-eqb _ _ (c .before .before
-          .before .before .match .rest .0 .0 .0 .1),
-      ne-eqb _ _ (c .before .before .before .before .match .rest .0 .0 .1),
-      ne-eqb _ _ (c .before .before .before .before .match .rest .0 .1),
-      ne-eqb _ _ (c .before .before .before .before
-          .match .rest .1),
-    ) (wider (now (a .buf)) (a .at) (fixed (a .number)) (p .last .0) (p .result) 49 91 (omega arith)
-    (p .ensures))
+      ne-eqb _ _ (rest .0 .0 .0 .0 .1),
+      ne-eqb _ _ (rest .0 .0 .0 .1),
+      ne-eqb _ _ (rest .0 .0 .1),
+      ne-eqb _ _ (rest .0 .1),
+      ne-eqb _ _ (rest .1),
+    )
+    (put .0, put .1, omega (arith, put .2))
 
 pub put-text-spec : {M : Type 1} → statement M
 put-text-spec =
