@@ -4,7 +4,7 @@ ghost use mathlib.Core.List.{List};
 ghost use Prim.Native.Nat.{ℕ};
 ghost use lib.Dec.{eqb};
 ghost use Rattle.utils.specs.Bytes.{pick};
-ghost use Rattle.sema.specs.Symbols.{typed};
+ghost use Rattle.sema.specs.Symbols.{typed, on, thenSame};
 ghost use Rattle.sema.specs.Typing.{thenThree, operandsD, typeBinaryD, operandD, typeUnaryD, typeConstD};
 ghost use Rattle.sema.specs.Typing.{typeRetD, typeRetValueD};
 use crate::Checked;
@@ -13,6 +13,17 @@ use parser::types;
 use pieces::Identifier;
 use pieces::kinds;
 use utils::numbers;
+
+// One type, then another.
+fn expect_both(token: usize, found: u32, wanted: u32, other: u32, of_other: u32) -> Checked
+    ensures { λ r. ⌜ ((t : List ℕ) → typed t r
+        ≡ thenSame t token found wanted (thenSame t token other «of_other» (on t))) ⌝ }
+{
+    match symbols::expect_type(token, found, wanted) {
+        Checked::Refused(e) => Checked::Refused(e),
+        Checked::Fine => symbols::expect_type(token, other, of_other),
+    }
+}
 
 // The result's type, then the left and the right operand's.
 fn expect_three(
@@ -27,10 +38,7 @@ fn expect_three(
 {
     match symbols::expect_type(token, result, of_result) {
         Checked::Refused(e) => Checked::Refused(e),
-        Checked::Fine => match symbols::expect_type(token, left, of_operands) {
-            Checked::Refused(e) => Checked::Refused(e),
-            Checked::Fine => symbols::expect_type(token, right, of_operands),
-        },
+        Checked::Fine => expect_both(token, left, of_operands, right, of_operands),
     }
 }
 
@@ -41,10 +49,7 @@ fn expect_operands(kind: u32, token: usize, result: u32, left: u32, right: u32) 
         return expect_three(token, result, left, right, types::INT, types::INT);
     }
     if kind == kinds::EQ {
-        return match symbols::expect_type(token, right, left) {
-            Checked::Refused(e) => Checked::Refused(e),
-            Checked::Fine => symbols::expect_type(token, result, types::BOOL),
-        };
+        return expect_both(token, right, left, result, types::BOOL);
     }
     if kind <= kinds::GE {
         return expect_three(token, result, left, right, types::BOOL, types::INT);
@@ -85,10 +90,7 @@ fn expect_operand(kind: u32, token: usize, result: u32, operand: u32) -> Checked
     if kind == kinds::ID {
         return symbols::expect_type(token, operand, result);
     }
-    match symbols::expect_type(token, result, types::BOOL) {
-        Checked::Refused(e) => Checked::Refused(e),
-        Checked::Fine => symbols::expect_type(token, operand, types::BOOL),
-    }
+    expect_both(token, result, types::BOOL, operand, types::BOOL)
 }
 
 pub fn analyze_unary_op(

@@ -19,9 +19,6 @@ Inv-loop table items first count arguments₀ at₀ left₀ arguments at left =
 abbrev μ-loop : tie.MeasureT-loop
 μ-loop table items first count arguments₀ at₀ left₀ arguments at left = left
 
-loop-holds : tie.Need-loop-holds Inv-loop μ-loop
-loop-holds c = (refl, refl, refl)
-
 loop-again : tie.Need-loop-again Inv-loop μ-loop
 loop-again c =
     let type-call = c .before .before .type-call in
@@ -47,5 +44,5 @@ returns c =
 pub elaborate-calls-spec : {M : Type 1} → statement M
 elaborate-calls-spec =
     tie.close
-    (tie.spec Inv-loop μ-loop loop-holds (λ c κs. search needs) (λ c κs. search needs) (λ c. search needs)
-    (λ c. search needs) (λ c. search needs) loop-again (λ c. search needs) returns)
+    (tie.spec Inv-loop μ-loop (λ c. (refl, refl, refl)) (λ c κs. search needs) (λ c κs. search needs)
+    (λ c. search needs) (λ c. search needs) (λ c. search needs) loop-again (λ c. search needs) returns)

@@ -19,9 +19,6 @@ Inv-loop table rows n items₀ first count at₀ left₀ items at left =
 abbrev μ-loop : tie.MeasureT-loop
 μ-loop table rows n items₀ first count at₀ left₀ items at left = left
 
-loop-holds : tie.Need-loop-holds Inv-loop μ-loop
-loop-holds c = (refl, refl, refl)
-
 add-at : tie.Need-add-at Inv-loop μ-loop
 add-at c =
     let back8 = c .before .before .before .before .before .before .before .before in
@@ -56,5 +53,5 @@ returns c =
 pub elaborate-items-spec : {M : Type 1} → statement M
 elaborate-items-spec =
     tie.close
-    (tie.spec Inv-loop μ-loop loop-holds (λ c κs. search needs) (λ c κs. search needs) (λ c κs. search needs) add-at
-    (λ c. search needs) (λ c. search needs) loop-again (λ c. search needs) returns)
+    (tie.spec Inv-loop μ-loop (λ c. (refl, refl, refl)) (λ c κs. search needs) (λ c κs. search needs)
+    (λ c κs. search needs) add-at (λ c. search needs) (λ c. search needs) loop-again (λ c. search needs) returns)

@@ -3,16 +3,6 @@ use borrow.Author.Needs.{needs}
 use Rattle.elaborate.proofs.type_call.Statement.{statement}
 use Rattle.elaborate.proofs.type_call.Tie as tie
 
-returns : tie.Need-returns
-returns c =
-    let enum-told = c .enum-told in
-    rw (enum-told .given .1)
-
-returns-2 : tie.Need-returns-2
-returns-2 c =
-    let enum-told2 = c .enum-told2 in
-    rw (enum-told2 .given .1)
-
 returns-3 : tie.Need-returns-3
 returns-3 c =
     let last = c .before .before .before .before .before .last in
@@ -22,5 +12,5 @@ returns-3 c =
 pub type-call-spec : {M : Type 1} → statement M
 type-call-spec =
     tie.close
-    (tie.spec (λ c. search needs) (λ c. search needs) (λ c. search needs) (λ c κs. search needs) returns returns-2
-    (λ c. search needs) returns-3)
+    (tie.spec (λ c. search needs) (λ c. search needs) (λ c. search needs) (λ c κs. search needs)
+    (λ c. rw (c .enum-told .given .1)) (λ c. rw (c .enum-told2 .given .1)) (λ c. search needs) returns-3)

@@ -19,9 +19,6 @@ Inv-loop table arguments₀ first count at₀ left₀ arguments at left =
 abbrev μ-loop : tie.MeasureT-loop
 μ-loop table arguments₀ first count at₀ left₀ arguments at left = left
 
-loop-holds : tie.Need-loop-holds Inv-loop μ-loop
-loop-holds c = (refl, refl, refl)
-
 loop-again : tie.Need-loop-again Inv-loop μ-loop
 loop-again c =
     let a = c .before .before .before .before .before .before .before .before .before .before .before .args in
@@ -47,6 +44,6 @@ returns c =
 pub type-run-spec : {M : Type 1} → statement M
 type-run-spec =
     tie.close
-    (tie.spec Inv-loop μ-loop loop-holds (λ c. search needs) (λ c κs. search needs) (λ c. search needs)
+    (tie.spec Inv-loop μ-loop (λ c. (refl, refl, refl)) (λ c. search needs) (λ c κs. search needs) (λ c. search needs)
     (λ c κs. search needs) (λ c. search needs) (λ c κs. search needs) (λ c. search needs) (λ c. search needs)
     (λ c. search needs) loop-again (λ c. search needs) returns)

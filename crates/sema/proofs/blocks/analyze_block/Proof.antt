@@ -22,9 +22,6 @@ Inv-loop tokens rows n ret table₀ items arguments first count at₀ left₀ ta
 abbrev μ-loop : tie.MeasureT-loop
 μ-loop tokens rows n ret table₀ items arguments first count at₀ left₀ table at left = left
 
-loop-holds : tie.Need-loop-holds Inv-loop μ-loop
-loop-holds c = (refl, refl, refl)
-
 returns : tie.Need-returns Inv-loop μ-loop
 returns c =
     let e = c .before .e in
@@ -37,9 +34,6 @@ returns c =
     (itemsAt (now (a .items)) (now (a .arguments)) (a .first) (a .count)) (loop .table) (now (a .items))
     (now (a .arguments))
     (loop .at) (loop .left) (loop .inv .2) (loop-test .taken) (analyze-op .ensures) (e .given .1)
-
-enum-told : tie.Need-enum-told Inv-loop μ-loop
-enum-told c = search needs
 
 loop-again : tie.Need-loop-again Inv-loop μ-loop
 loop-again c =
@@ -71,6 +65,6 @@ returns-2 c =
 pub analyze-block-spec : {M : Type 1} → statement M
 analyze-block-spec =
     tie.close
-    (tie.spec Inv-loop μ-loop loop-holds (λ c κs. search needs) (λ c. search needs) (λ c. search needs) returns
-    enum-told (λ c. search needs) (λ c. search needs) (λ c. search needs) loop-again (λ c κs. search needs)
-    (λ c. search needs) returns-2)
+    (tie.spec Inv-loop μ-loop (λ c. (refl, refl, refl)) (λ c κs. search needs) (λ c. search needs) (λ c. search needs)
+    returns (λ c. search needs) (λ c. search needs) (λ c. search needs) (λ c. search needs) loop-again
+    (λ c κs. search needs) (λ c. search needs) returns-2)

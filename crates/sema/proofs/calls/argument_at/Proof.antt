@@ -5,10 +5,5 @@ use Rattle.body.specs.Records.{named}
 use Rattle.sema.proofs.calls.argument_at.Statement.{statement}
 use Rattle.sema.proofs.calls.argument_at.Tie as tie
 
-returns : tie.Need-returns
-returns c = ap named (c .cell-at .ensures)
-
 pub argument-at-spec : {M : Type 1} → statement M
-argument-at-spec =
-    tie.close
-    (tie.spec (λ c. search needs) (λ c κs. search needs) returns)
+argument-at-spec = tie.close (tie.spec (λ c. search needs) (λ c κs. search needs) (λ c. ap named (c .cell-at .ensures)))

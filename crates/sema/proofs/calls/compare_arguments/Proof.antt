@@ -24,9 +24,6 @@ Inv-loop table token arguments first count rows formal at₀ wanted₀ left₀ a
 abbrev μ-loop : tie.MeasureT-loop
 μ-loop table token arguments first count rows formal at₀ wanted₀ left₀ at wanted left = left
 
-loop-holds : tie.Need-loop-holds Inv-loop μ-loop
-loop-holds c = (refl, refl, refl)
-
 returns : tie.Need-returns Inv-loop μ-loop
 unfolding typesOf sameAll
 returns c =
@@ -42,9 +39,6 @@ returns c =
     let m = variables-more (now (a .arguments)) (loop .at) (loop .left) (loop-test .taken) in
     let y = types-more (now (a .rows)) (loop .wanted) (loop .left) (loop-test .taken) in
     rw (← loop .inv .2, m, y, v) (same-refused t _ _ _ _ (expect-type .ensures) (e .given .1))
-
-enum-told : tie.Need-enum-told Inv-loop μ-loop
-enum-told c = search needs
 
 loop-again : tie.Need-loop-again Inv-loop μ-loop
 unfolding typesOf sameAll
@@ -76,6 +70,7 @@ returns-2 c =
 pub compare-arguments-spec : {M : Type 1} → statement M
 compare-arguments-spec =
     tie.close
-    (tie.spec Inv-loop μ-loop loop-holds (λ c κs. search needs) (λ c κs. search needs) (λ c. search needs)
-    (λ c. search needs) (λ c. search needs) (λ c κs. search needs) (λ c. search needs) returns enum-told
-    (λ c. search needs) (λ c. search needs) (λ c. search needs) (λ c. search needs) loop-again returns-2)
+    (tie.spec Inv-loop μ-loop (λ c. (refl, refl, refl)) (λ c κs. search needs) (λ c κs. search needs)
+    (λ c. search needs) (λ c. search needs) (λ c. search needs) (λ c κs. search needs) (λ c. search needs) returns
+    (λ c. search needs) (λ c. search needs) (λ c. search needs) (λ c. search needs) (λ c. search needs) loop-again
+    returns-2)

@@ -24,9 +24,6 @@ Inv-loop table token arguments first count at₀ left₀ at left =
 abbrev μ-loop : tie.MeasureT-loop
 μ-loop table token arguments first count at₀ left₀ at left = left
 
-loop-holds : tie.Need-loop-holds Inv-loop μ-loop
-loop-holds c = (refl, refl)
-
 returns : tie.Need-returns Inv-loop μ-loop
 unfolding presentD thenLook pick
 returns c =
@@ -66,5 +63,5 @@ returns-2 c =
 pub look-arguments-spec : {M : Type 1} → statement M
 look-arguments-spec =
     tie.close
-    (tie.spec Inv-loop μ-loop loop-holds (λ c κs. search needs) (λ c κs. search needs) (λ c κs. search needs) returns
-    (λ c. search needs) (λ c. search needs) (λ c. search needs) loop-again returns-2)
+    (tie.spec Inv-loop μ-loop (λ c. (refl, refl)) (λ c κs. search needs) (λ c κs. search needs) (λ c κs. search needs)
+    returns (λ c. search needs) (λ c. search needs) (λ c. search needs) loop-again returns-2)

@@ -19,9 +19,6 @@ Inv-loop table₀ token rows first count w at₀ left₀ table at left =
 abbrev μ-loop : tie.MeasureT-loop
 μ-loop table₀ token rows first count w at₀ left₀ table at left = left
 
-loop-holds : tie.Need-loop-holds Inv-loop μ-loop
-loop-holds c = (refl, refl, refl)
-
 returns : tie.Need-returns Inv-loop μ-loop
 returns c =
     let e = c .before .e in
@@ -33,9 +30,6 @@ returns c =
     formals-refused (a .token) (now (a .table)) (formalsFrom (now (a .rows)) (a .first) (a .count)) (loop .table)
     (now (a .rows)) (loop .at)
     (loop .left) (loop .inv .2) (loop-test .taken) (insert .ensures) (e .given .1)
-
-enum-told : tie.Need-enum-told Inv-loop μ-loop
-enum-told c = search needs
 
 loop-again : tie.Need-loop-again Inv-loop μ-loop
 loop-again c =
@@ -63,6 +57,7 @@ returns-2 c =
 pub enter-formals-spec : {M : Type 1} → statement M
 enter-formals-spec =
     tie.close
-    (tie.spec Inv-loop μ-loop loop-holds (λ c. search needs) (λ c. search needs) (λ c. search needs)
+    (tie.spec Inv-loop μ-loop (λ c. (refl, refl, refl)) (λ c. search needs) (λ c. search needs) (λ c. search needs)
     (λ c. search needs) (λ c. search needs) (λ c κs. search needs) (λ c. search needs) (λ c. search needs) returns
-    enum-told (λ c. search needs) (λ c. search needs) (λ c. search needs) loop-again (λ c. search needs) returns-2)
+    (λ c. search needs) (λ c. search needs) (λ c. search needs) (λ c. search needs) loop-again (λ c. search needs)
+    returns-2)

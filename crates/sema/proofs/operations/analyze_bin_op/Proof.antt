@@ -10,14 +10,6 @@ use borrow.Author.Needs.{needs}
 use Rattle.sema.proofs.operations.analyze_bin_op.Statement.{statement}
 use Rattle.sema.proofs.operations.analyze_bin_op.Tie as tie
 
-returns : tie.Need-returns
-unfolding typeBinaryD thenLook pick
-returns c =
-    let get = c .before .before .get in
-    let if1 = c .before .if1 in
-    let refuse = c .refuse in
-    rw (← get .ensures, eq-eqb _ _ (if1 .taken), refuse .ensures)
-
 returns-2 : tie.Need-returns-2
 unfolding typeBinaryD thenLook pick
 returns-2 c =
@@ -56,8 +48,11 @@ returns-4 c =
     ∙ typed-fine _ _ _ (insert .ensures) (enum-told .given .1))
 
 pub analyze-bin-op-spec : {M : Type 1} → statement M
+unfolding typeBinaryD thenLook pick
 analyze-bin-op-spec =
     tie.close
-    (tie.spec (λ c κs. search needs) (λ c κs. search needs) (λ c. search needs) returns (λ c κs. search needs)
-    (λ c κs. search needs) (λ c. search needs) returns-2 (λ c κs. search needs) (λ c. search needs)
-    (λ c. search needs) (λ c κs. search needs) (λ c. search needs) returns-3 (λ c. search needs) returns-4)
+    (tie.spec (λ c κs. search needs) (λ c κs. search needs) (λ c. search needs)
+    (λ c. rw (← c .before .before .get .ensures, eq-eqb _ _ (c .before .if1 .taken), c .refuse .ensures))
+    (λ c κs. search needs) (λ c κs. search needs) (λ c. search needs) returns-2 (λ c κs. search needs)
+    (λ c. search needs) (λ c. search needs) (λ c κs. search needs) (λ c. search needs) returns-3 (λ c. search needs)
+    returns-4)

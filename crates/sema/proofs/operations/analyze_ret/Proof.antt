@@ -6,20 +6,9 @@ use borrow.Author.Needs.{needs}
 use Rattle.sema.proofs.operations.analyze_ret.Statement.{statement}
 use Rattle.sema.proofs.operations.analyze_ret.Tie as tie
 
-returns : tie.Need-returns
-unfolding typeRetD pick
-returns c =
-    let if1 = c .if1 in
-    λ t. rw (eq-eqb _ _ (if1 .taken))
-
-returns-2 : tie.Need-returns-2
-unfolding typeRetD pick
-returns-2 c =
-    let if1 = c .before .if1 in
-    let refuse = c .refuse in
-    λ t. rw (ne-eqb _ _ (if1 .left), refuse .ensures)
-
 pub analyze-ret-spec : {M : Type 1} → statement M
+unfolding typeRetD pick
 analyze-ret-spec =
     tie.close
-    (tie.spec returns (λ c κs. search needs) returns-2)
+    (tie.spec (λ c. λ t. rw (eq-eqb _ _ (c .if1 .taken))) (λ c κs. search needs)
+    (λ c. λ t. rw (ne-eqb _ _ (c .before .if1 .left), c .refuse .ensures)))

@@ -8,14 +8,6 @@ use borrow.Author.Needs.{needs}
 use Rattle.sema.proofs.operations.analyze_ret_value.Statement.{statement}
 use Rattle.sema.proofs.operations.analyze_ret_value.Tie as tie
 
-returns : tie.Need-returns
-unfolding typeRetValueD thenLook pick
-returns c =
-    let get = c .before .before .get in
-    let if1 = c .before .if1 in
-    let refuse = c .refuse in
-    rw (← get .ensures, eq-eqb _ _ (if1 .taken), refuse .ensures)
-
 returns-2 : tie.Need-returns-2
 unfolding typeRetValueD thenLook pick
 returns-2 c =
@@ -36,7 +28,9 @@ returns-3 c =
     rw (← get .ensures, ne-eqb _ _ (if1 .left), ne-eqb _ _ (if2 .left)) (expect-type .ensures (now (a .table)))
 
 pub analyze-ret-value-spec : {M : Type 1} → statement M
+unfolding typeRetValueD thenLook pick
 analyze-ret-value-spec =
     tie.close
-    (tie.spec (λ c κs. search needs) (λ c κs. search needs) returns (λ c κs. search needs) returns-2
-    (λ c κs. search needs) returns-3)
+    (tie.spec (λ c κs. search needs) (λ c κs. search needs)
+    (λ c. rw (← c .before .before .get .ensures, eq-eqb _ _ (c .before .if1 .taken), c .refuse .ensures))
+    (λ c κs. search needs) returns-2 (λ c κs. search needs) returns-3)

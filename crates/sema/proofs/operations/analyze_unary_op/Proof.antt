@@ -10,14 +10,6 @@ use borrow.Author.Needs.{needs}
 use Rattle.sema.proofs.operations.analyze_unary_op.Statement.{statement}
 use Rattle.sema.proofs.operations.analyze_unary_op.Tie as tie
 
-returns : tie.Need-returns
-unfolding typeUnaryD thenLook pick
-returns c =
-    let get = c .before .before .get in
-    let if1 = c .before .if1 in
-    let refuse = c .refuse in
-    rw (← get .ensures, eq-eqb _ _ (if1 .taken), refuse .ensures)
-
 returns-2 : tie.Need-returns-2
 unfolding typeUnaryD thenLook pick
 returns-2 c =
@@ -39,8 +31,10 @@ returns-3 c =
     (enum-told .given .1))
 
 pub analyze-unary-op-spec : {M : Type 1} → statement M
+unfolding typeUnaryD thenLook pick
 analyze-unary-op-spec =
     tie.close
-    (tie.spec (λ c κs. search needs) (λ c κs. search needs) (λ c. search needs) returns (λ c κs. search needs)
-    (λ c. search needs) (λ c. search needs) (λ c κs. search needs) (λ c. search needs) returns-2 (λ c. search needs)
-    returns-3)
+    (tie.spec (λ c κs. search needs) (λ c κs. search needs) (λ c. search needs)
+    (λ c. rw (← c .before .before .get .ensures, eq-eqb _ _ (c .before .if1 .taken), c .refuse .ensures))
+    (λ c κs. search needs) (λ c. search needs) (λ c. search needs) (λ c κs. search needs) (λ c. search needs)
+    returns-2 (λ c. search needs) returns-3)

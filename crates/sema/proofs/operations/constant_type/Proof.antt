@@ -4,17 +4,6 @@ use borrow.Author.Tests.{eq-eqb, ne-eqb}
 use Rattle.sema.proofs.operations.constant_type.Statement.{statement}
 use Rattle.sema.proofs.operations.constant_type.Tie as tie
 
-returns : tie.Need-returns
-unfolding pick
-returns c =
-    let if1 = c .if1 in
-    rw (eq-eqb _ _ (if1 .taken))
-
-returns-2 : tie.Need-returns-2
-unfolding pick
-returns-2 c =
-    let if1 = c .if1 in
-    rw (ne-eqb _ _ (if1 .left))
-
 pub constant-type-spec : {M : Type 1} → statement M
-constant-type-spec = tie.close (tie.spec returns returns-2)
+unfolding pick
+constant-type-spec = tie.close (tie.spec (λ c. rw (eq-eqb _ _ (c .if1 .taken))) (λ c. rw (ne-eqb _ _ (c .if1 .left))))
