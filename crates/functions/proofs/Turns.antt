@@ -1,6 +1,6 @@
 -- One turn of each loop over the rows: what stands from here on is the first of it and the rest, or nothing.
 use Prim.Native.Nat.{ℕ, zero, suc, _+_, _-_, _≤_, _<_}
-use mathlib.Core.Path.{_≡_, refl, sym, _∙_}
+use mathlib.Core.Path.{_≡_, refl}
 use mathlib.Core.Bool.{Bool, true, false}
 use mathlib.Core.List.{List, [], _∷_}
 use native.Mathlib.Omega.{arith}
@@ -8,7 +8,7 @@ use borrow.Author.Tests.{eq-eqb, ne-eqb}
 use lib.Dec.{eqb}
 use lib.ListN.{getD}
 use Rattle.utils.specs.Bytes.{pick}
-use Rattle.functions.specs.Columns.{nameAt, typeAt, IsRow, HasRows}
+use Rattle.functions.specs.Columns.{nameAt, typeAt}
 use Rattle.functions.specs.Known.{expectedType}
 use Rattle.functions.specs.Rows.{typesAt, knownAt, knownFrom, rowFrom, typeFound}
 use Rattle.functions.specs.declared.FoundRow.{FoundRow}
@@ -45,25 +45,6 @@ module _ (rows : List ℕ) (i n name : ℕ) where
   pub row-none : n ≤ i → rowFrom rows i (n - i) name ≡ W.Absent
   unfolding rowFrom
   row-none h = let m : n - i ≡ 0 = omega arith in rw m
-
--- a row that was found is one of them
-row-below : (n : ℕ) (rows : List ℕ) (i name : ℕ) {j : ℕ} → rowFrom rows i n name ≡ W.At j → j < i + n
-unfolding rowFrom pick
-row-below zero rows i name h = absurd (let z : _≡_ {A = ℕ} 0 1 = cc in omega arith)
-row-below (suc n) rows i name {j} h = by (eqb (getD rows (nameAt i) 0) name) h (λ g. row-below n rows (i + 1) name g)
-  where
-    by : (b : Bool) → pick b (W.At i) (rowFrom rows (i + 1) n name) ≡ W.At j
-        → (rowFrom rows (i + 1) n name ≡ W.At j → j < i + 1 + n) → j < i + suc n
-    by true q k = let e : i ≡ j = cc in omega arith
-    by false q k = omega (arith, k q)
-
-pub found-below : (n : ℕ) (rows : List ℕ) (name : ℕ) {r : FoundRow} {j : ℕ} → r ≡ rowFrom rows 0 n name → r ≡ W.At j
-    → j < n
-found-below n rows name e f = omega (arith, row-below n rows 0 name (sym e ∙ f))
-
-pub found-is-row : (n : ℕ) (rows : List ℕ) (name : ℕ) {r : FoundRow} {j : ℕ} → HasRows rows n
-    → r ≡ rowFrom rows 0 n name → r ≡ W.At j → IsRow rows j
-found-is-row n rows name h e f = (omega (arith, found-below n rows name e f, h .0), h .1)
 
 -- The functions so far give a name the type that its row gives.
 found-pick : (t : Bool) (rows : List ℕ) (i : ℕ) (more : FoundRow) (type : ℕ)

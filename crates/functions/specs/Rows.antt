@@ -1,5 +1,5 @@
 -- What a function's row of the header table holds, and what is read back of it; Columns.antt says where it stands.
-use Prim.Native.Nat.{ℕ, zero, suc, _+_, _*_, _-_}
+use Prim.Native.Nat.{ℕ, zero, suc, _+_, _*_, _-_, _<_}
 use mathlib.Core.List.{List, [], _∷_, _++_}
 use lib.Dec.{leb, eqb}
 use lib.ListN.{length, getD}
@@ -7,7 +7,7 @@ use Rattle.utils.specs.Bytes.{pick}
 use Rattle.lexer.specs.Decoded.{Tok, tokenAt}
 use Rattle.parser.specs.Runs.{typeCell, variablesCells}
 use Rattle.utils.specs.Limits.{mostFormals}
-use Rattle.functions.specs.Columns.{nameAt, retAt, typeAt, countAt, formalsAt}
+use Rattle.functions.specs.Columns.{nameAt, retAt, typeAt, countAt, formalsAt, IsRow}
 use Rattle.functions.specs.Known.{Known}
 use Rattle.functions.specs.Functions.{Function, blocksIn}
 use Rattle.functions.specs.declared.FoundRow.{FoundRow}
@@ -57,6 +57,11 @@ rowFrom rows i zero name = W.Absent
 rowFrom rows i (suc n) name =
     let more = rowFrom rows (i + 1) n name in
     pick (eqb (getD rows (nameAt i) 0) name) (W.At i) more
+
+-- a row that was found is one of the n
+abbrev pub FoundIn : List ℕ → ℕ → FoundRow → Type 0
+FoundIn rows n (W.At i) = (i < n) × IsRow rows i
+FoundIn rows n W.Absent = Unit
 
 -- the number of the function type of a row that was found, or the given one
 abbrev pub typeFound : List ℕ → FoundRow → ℕ → ℕ

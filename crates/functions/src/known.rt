@@ -7,7 +7,7 @@ ghost use Rattle.utils.specs.Bytes.{sameBytes};
 ghost use Rattle.utils.specs.Limits.{mostFunctions, mostFormals};
 ghost use Rattle.functions.specs.Known.{typeNumber, expectedType};
 ghost use Rattle.functions.specs.Columns.{typeAt, formalsAt, IsRow, HasRows, tableSize};
-ghost use Rattle.functions.specs.Rows.{typesAt, signedAt, knownFrom, rowFrom};
+ghost use Rattle.functions.specs.Rows.{typesAt, signedAt, knownFrom, rowFrom, FoundIn};
 use crate::FoundRow;
 use crate::columns;
 use parser::VARIABLE_CELLS;
@@ -68,6 +68,7 @@ pub fn type_number(rows: &[u32], n: usize, ret: u32, count: usize, types: u32) -
 pub fn find_function(rows: &[u32], n: usize, name: Identifier) -> FoundRow
     requires { ⌜ HasRows (now rows) n ⌝ }
     ensures { λ r. ⌜ r ≡ rowFrom (now (rows .entry)) 0 n (name .0) ⌝ }
+    ensures { λ r. ⌜ FoundIn (now (rows .entry)) n r ⌝ }
 {
     let mut i: usize = 0;
     while i < n {

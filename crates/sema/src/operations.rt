@@ -2,7 +2,7 @@
 ghost use mathlib.Core.Path.{_≡_};
 ghost use mathlib.Core.List.{List};
 ghost use Prim.Native.Nat.{ℕ};
-ghost use lib.Dec.{eqb};
+ghost use lib.Dec.{eqb, leb};
 ghost use Rattle.utils.specs.Bytes.{pick};
 ghost use Rattle.sema.specs.Symbols.{typed, on, thenSame};
 ghost use Rattle.sema.specs.Typing.{thenThree, operandsD, typeBinaryD, operandD, typeUnaryD, typeConstD};
@@ -42,6 +42,17 @@ fn expect_three(
     }
 }
 
+// The other comparisons, of integers, and `and` and `or`.
+fn expect_bool(kind: u32, token: usize, result: u32, left: u32, right: u32) -> Checked
+    ensures { λ r. ⌜ ((t : List ℕ) → typed t r ≡ pick (leb kind 16) (thenThree t token result left right 2 1)
+        (thenThree t token result left right 2 2)) ⌝ }
+{
+    if kind <= kinds::GE {
+        return expect_three(token, result, left, right, types::BOOL, types::INT);
+    }
+    expect_three(token, result, left, right, types::BOOL, types::BOOL)
+}
+
 fn expect_operands(kind: u32, token: usize, result: u32, left: u32, right: u32) -> Checked
     ensures { λ r. ⌜ ((t : List ℕ) → typed t r ≡ operandsD t kind token result left right) ⌝ }
 {
@@ -51,10 +62,7 @@ fn expect_operands(kind: u32, token: usize, result: u32, left: u32, right: u32) 
     if kind == kinds::EQ {
         return expect_both(token, right, left, result, types::BOOL);
     }
-    if kind <= kinds::GE {
-        return expect_three(token, result, left, right, types::BOOL, types::INT);
-    }
-    expect_three(token, result, left, right, types::BOOL, types::BOOL)
+    expect_bool(kind, token, result, left, right)
 }
 
 // Operands are looked up before the result is entered.

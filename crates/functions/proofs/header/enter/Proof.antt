@@ -7,14 +7,6 @@ use borrow.Author.Needs.{needs}
 use Rattle.functions.proofs.header.enter.Statement.{statement}
 use Rattle.functions.proofs.header.enter.Tie as tie
 
-returns : tie.Need-returns
-unfolding enteredD opened
-returns c =
-    let type-number = c .before .before .type-number in
-    let expected-type = c .before .expected-type in
-    let if1 = c .if1 in
-    rw (← type-number .ensures, ← expected-type .ensures, ne-eqb _ _ (if1 .taken))
-
 returns-2 : tie.Need-returns-2
 unfolding enteredD opened
 returns-2 c =
@@ -36,7 +28,10 @@ returns-3 c =
     rw (← type-number .ensures, ← expected-type .ensures, eq-eqb _ _ (if1 .left), ← consume .ensures, next .given .1)
 
 pub enter-spec : {M : Type 1} → statement M
+unfolding enteredD opened
 enter-spec =
     tie.close
-    (tie.spec (λ c κs. search needs) (λ c κs. search needs) returns (λ c κs. search needs) (λ c. search needs)
-    (λ c. search needs) returns-2 returns-3)
+    (tie.spec (λ c κs. search needs) (λ c κs. search needs)
+    (λ c.
+    rw (← c .before .before .type-number .ensures, ← c .before .expected-type .ensures, ne-eqb _ _ (c .if1 .taken)))
+    (λ c κs. search needs) (λ c. search needs) (λ c. search needs) returns-2 returns-3)

@@ -17,14 +17,9 @@ returns c =
     let parse-formals = c .before .before .parse-formals in
     rw (← token-at .ensures, eq-eqb _ _ (if1 .taken)) (parse-formals .ensures .0, parse-formals .ensures .1)
 
-returns-2 : tie.Need-returns-2
-unfolding optionalFormals runOf variablesCells opened
-returns-2 c =
-    let token-at = c .before .before .token-at in
-    let if1 = c .if1 in
-    rw (← token-at .ensures, ne-eqb _ _ (if1 .left)) (refl, refl)
-
 pub parse-optional-formals-spec : {M : Type 1} → statement M
+unfolding optionalFormals runOf variablesCells opened
 parse-optional-formals-spec =
     tie.close
-    (tie.spec (λ c κs. search needs) (λ c κs. search needs) (λ c. search needs) returns returns-2)
+    (tie.spec (λ c κs. search needs) (λ c κs. search needs) (λ c. search needs) returns
+    (λ c. rw (← c .before .before .token-at .ensures, ne-eqb _ _ (c .if1 .left)) (refl, refl)))

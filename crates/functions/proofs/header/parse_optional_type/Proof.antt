@@ -14,14 +14,9 @@ returns c =
     let parse-type = c .parse-type in
     rw (← token-at .ensures, eq-eqb _ _ (if1 .taken)) (parse-type .ensures)
 
-returns-2 : tie.Need-returns-2
-unfolding optionalType opened
-returns-2 c =
-    let token-at = c .before .before .token-at in
-    let if1 = c .if1 in
-    rw (← token-at .ensures, ne-eqb _ _ (if1 .left))
-
 pub parse-optional-type-spec : {M : Type 1} → statement M
+unfolding optionalType opened
 parse-optional-type-spec =
     tie.close
-    (tie.spec (λ c κs. search needs) (λ c κs. search needs) returns returns-2)
+    (tie.spec (λ c κs. search needs) (λ c κs. search needs) returns
+    (λ c. rw (← c .before .before .token-at .ensures, ne-eqb _ _ (c .if1 .left))))

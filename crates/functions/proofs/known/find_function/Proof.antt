@@ -20,10 +20,11 @@ abbrev μ-loop : tie.MeasureT-loop
 returns : tie.Need-returns Inv-loop μ-loop
 returns c =
     let a = c .before .before .before .before .before .args in
+    let pre = c .before .before .before .before .before .pre in
     let loop = c .before .before .before .before .loop in
-    let loop-test = c .before .before .before .loop-test in
-    let if1 = c .if1 in
-    rw (← loop .inv .1, row-here (now (a .rows)) (loop .i) (a .n) (a .name .0) (loop-test .taken) (if1 .taken))
+    let less = c .before .before .before .loop-test .taken in
+    let here = row-here (now (a .rows)) (loop .i) (a .n) (a .name .0) less (c .if1 .taken) in
+    (rw (← loop .inv .1, here), (less, (omega (arith, less, pre .0), pre .1)))
 
 loop-again : tie.Need-loop-again Inv-loop μ-loop
 loop-again c =
@@ -40,7 +41,7 @@ returns-2 c =
     let a = c .before .before .args in
     let loop = c .before .loop in
     let loop-test = c .loop-test in
-    rw (← loop .inv .1, row-none (now (a .rows)) (loop .i) (a .n) (a .name .0) (loop-test .left))
+    (rw (← loop .inv .1, row-none (now (a .rows)) (loop .i) (a .n) (a .name .0) (loop-test .left)), tt)
 
 pub find-function-spec : {M : Type 1} → statement M
 find-function-spec =

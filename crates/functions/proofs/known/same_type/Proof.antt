@@ -6,13 +6,6 @@ use borrow.Author.Needs.{needs}
 use Rattle.functions.proofs.known.same_type.Statement.{statement}
 use Rattle.functions.proofs.known.same_type.Tie as tie
 
-returns-2 : tie.Need-returns-2
-unfolding sameBytes pick
-returns-2 c =
-    let if1 = c .before .before .if1 in
-    let if2 = c .if2 in
-    rw (eq-eqb _ _ (if1 .left), ne-eqb _ _ (if2 .taken))
-
 returns-3 : tie.Need-returns-3
 unfolding sameBytes pick
 returns-3 c =
@@ -28,4 +21,6 @@ same-type-spec =
     tie.close
     (tie.spec (λ c. search needs) (λ c. search needs) (λ c. search needs) (λ c. search needs)
     (λ c. rw (ne-eqb _ _ (c .if1 .taken))) (λ c. search needs) (λ c. search needs) (λ c. search needs)
-    (λ c. search needs) (λ c. search needs) returns-2 (λ c κs. search needs) returns-3)
+    (λ c. search needs) (λ c. search needs)
+    (λ c. rw (eq-eqb _ _ (c .before .before .if1 .left), ne-eqb _ _ (c .if2 .taken))) (λ c κs. search needs)
+    returns-3)
