@@ -7,7 +7,7 @@ use native.Mathlib.Omega.{arith}
 use native.Mathlib.Nat.{add-zero, zero-add, sub-zero}
 use borrow.Author.Tests.{eq-eqb, ne-eqb, eqb-true, eqb-false}
 use lib.Dec.{eqb}
-use lib.ListN.{length, drop}
+use lib.ListN.{length, take, drop}
 use lib.Seq.{sets, length-sets}
 use Rattle.utils.specs.Bytes.{pick}
 use Rattle.graph.specs.Records.{blockRecord, cellsOf}
@@ -21,12 +21,13 @@ use Rattle.parser.specs.declared.Refusal.{Refusal}
 use Rattle.body.specs.Records.{recordAt, partsAt, goesOf}
 use Rattle.body.specs.Room.{filled}
 use Rattle.link.specs.Table.{leading, labelPlace}
-use Rattle.link.specs.Steps.{goesD, run, putGoes, countedBy, addedD, addedCells, closedOf, putClosed, numberedBy}
+use Rattle.link.specs.Steps.{Cut, goesD, run, putGoes, countedBy, addedD, addedCells, closedOf, putClosed}
+use Rattle.link.specs.Steps.{numberedBy}
 use Rattle.link.specs.declared.Goes.{Goes}
 use Rattle.link.specs.declared.Goes.the-variants as G
 use Rattle.link.specs.declared.Numbered.{Numbered}
 use Rattle.link.specs.declared.Numbered.the-variants as N
-use Rattle.link.proofs.Places.{Gone, gone}
+use Rattle.link.proofs.Places.{Gone, gone, same-place}
 use Rattle.link.proofs.Closing.{closing, opened, beyond, others, first-closed, others-none, others-more}
 use Rattle.link.proofs.Closing.{filled-beyond, parts-length, beyond-at, Closed, closed-at}
 
@@ -281,7 +282,56 @@ module _ (items : List ℕ) (all : List Block) (named first end base : ℕ) (cel
   pub cut-room : from < stop → k < 1024
   cut-room h = omega (arith, cut .room, filled-beyond here (omega (arith, ends, h)))
 
--- what a turn's answer is, once the refusal of an empty block is known
-pub added-is : (before : ℕ) (names items : List ℕ) (from stop k : ℕ) (empty e : Refusal) (r x : Numbered) → empty ≡ e
-    → r ≡ addedD before names items from stop empty k → r ≡ x → addedD before names items from stop e k ≡ x
-added-is before names items from stop k empty e r x p q u = rw (← p) (sym q ∙ u)
+-- One turn, from what the calls give. --------------------------------------------------------------------------------
+
+module _ (items : List ℕ) (first count named : ℕ) (labels : List ℕ) (labelled before : ℕ) (cells₀ : List ℕ) (base : ℕ)
+    (pre : Cut items first count labels labelled before cells₀ base) {cells : List ℕ} {from k : ℕ}
+    (cut : Cutting items (blocksOf (partsAt items first count)) named first (first + count) base cells₀ cells from k)
+    {stop : ℕ} (ends : stop ≡ from + run (partsAt items from (first + count - from)))
+  where
+    abbrev ps : List Shape
+    ps = partsAt items first count
+
+    abbrev all : List Block
+    all = blocksOf ps
+
+    abbrev names : List ℕ
+    names = take labelled labels
+
+    same : (l : ℕ) → placeOf all l 0 ≡ labelPlace before 0 names l
+    same = same-place ps before names (pre .before-are) (pre .labels-are)
+
+    pub next-room : from < stop → k < 1024
+    next-room = cut-room items all named first (first + count) base cells₀ cells from k cut stop ends before names same
+
+    module _ {empty : Refusal} {r : Numbered} (e : empty ≡ refusal 22 named 0)
+        (adds : r ≡ addedD before names items from stop empty k)
+      where
+        added : {x : Numbered} → r ≡ x → addedD before names items from stop (refusal 22 named 0) k ≡ x
+        added h = rw (← e) (sym adds ∙ h)
+
+        pub next-refused : {x : Refusal} → r ≡ N.Refused x → resolveFrom all named all ≡ refused x
+        next-refused {x} h =
+            turn-refused items all named first (first + count) base cells₀ cells from k cut stop ends before names same
+            x (added h)
+
+        pub next-above : {m : ℕ} → r ≡ N.Done m → base ≤ m
+        next-above {m} h =
+            let d = turn-done items all named first (first + count) base cells₀ cells from k cut stop ends before names
+            same m (added h) in
+            omega (arith, d .0, d .2 .above)
+
+        pub next-last : {m : ℕ} {cells′ : List ℕ} → r ≡ N.Done m
+            → cells′ ≡ addedCells before names items from stop cells k → stop ≡ first + count
+            → (N.Done (m - base) ≡ numberedBy all (resolveFrom all named all))
+            × (cells′ ≡ putClosed all first cells₀ base all)
+        next-last {m} {cells′} h =
+            cut-end items all named first (first + count) base cells₀ cells from k cut stop ends before names same
+            m cells′ (added h)
+
+        pub next-on : {m : ℕ} {cells′ : List ℕ} → r ≡ N.Done m
+            → cells′ ≡ addedCells before names items from stop cells k → stop < first + count
+            → Cutting items all named first (first + count) base cells₀ cells′ (stop + 1) m
+        next-on {m} {cells′} h =
+            cut-on items all named first (first + count) base cells₀ cells from k cut stop ends before names same
+            m cells′ (added h)

@@ -1,11 +1,11 @@
 -- From the blocks cut and the edges entered to the whole answer.
 use Prim.Native.Nat.{ℕ, _+_, _-_, _*_, _≤_}
-use mathlib.Core.Path.{_≡_, refl, ap, _∙_}
+use mathlib.Core.Path.{_≡_, refl, sym, ap, subst, _∙_}
 use mathlib.Core.Bool.{true}
 use mathlib.Core.List.{List}
 use native.Mathlib.Omega.{arith}
 use native.Mathlib.Nat.{add-zero}
-use lib.ListN.{length, take}
+use lib.ListN.{length}
 use lib.Seq.{sets, length-take-le}
 use Rattle.graph.specs.Records.{recorded}
 use Rattle.body.specs.Shapes.{Shape, namesIn}
@@ -15,8 +15,9 @@ use Rattle.parser.specs.declared.Refusal.{Refusal}
 use Rattle.body.specs.Records.{partsAt}
 use Rattle.body.specs.Room.{filled}
 use Rattle.link.specs.Cells.{predecessorCells, linkD, Linking}
-use Rattle.link.specs.Steps.{putClosed, numberedBy, linksFrom, entriesFrom, putEntered}
+use Rattle.link.specs.Steps.{Ready, ClosedHeld, putClosed, numberedBy, linksFrom, entriesFrom, putEntered}
 use Rattle.link.specs.declared.Linked.the-variants as L
+use Rattle.link.specs.declared.Numbered.{Numbered}
 use Rattle.link.specs.declared.Numbered.the-variants as N
 use Rattle.link.proofs.Edges.{thin-blocks, entries-few}
 use Rattle.link.proofs.Laws.{blocks-counted, at-most-256}
@@ -35,67 +36,86 @@ pub link-refused : (ps : List Shape) (named : ℕ) (e : Refusal)
 unfolding linkD
 link-refused ps named e h = rw (numbered-refused (blocksOf ps) (resolveD named (blocksOf ps)) e h)
 
-module _ (items : List ℕ) (first count named base used : ℕ) (cells₀ cells : List ℕ) (n : ℕ)
-    (done : N.Done n ≡ numberedBy (blocksOf (partsAt items first count))
-    (resolveD named (blocksOf (partsAt items first count))))
-    (closed : cells
-    ≡ putClosed (blocksOf (partsAt items first count)) first cells₀ base (blocksOf (partsAt items first count)))
-    (few : base + filled true (partsAt items first count) ≤ 1024) (room : 8192 ≤ length cells₀)
-    (low : used ≤ base * 2) where
-  abbrev ps : List Shape
-  ps = partsAt items first count
+module _ (items : List ℕ) (first count named : ℕ) (labels : List ℕ) (labelled : ℕ) (cells₀ : List ℕ) (base : ℕ)
+    (preds₀ : List ℕ) (used : ℕ) (ready : Ready items first count labels labelled cells₀ base preds₀ used)
+    (cells : List ℕ) {r : Numbered} {n : ℕ}
+    (e : r ≡ numberedBy (blocksOf (partsAt items first count)) (resolveD named (blocksOf (partsAt items first count))))
+    (h : ClosedHeld (blocksOf (partsAt items first count)) first base cells₀ cells r) (f : r ≡ N.Done n)
+  where
+    abbrev ps : List Shape
+    ps = partsAt items first count
 
-  abbrev all : List Block
-  all = blocksOf ps
+    abbrev all : List Block
+    all = blocksOf ps
 
-  abbrev links : List (List ℕ)
-  links = successors all all
+    abbrev links : List (List ℕ)
+    links = successors all all
 
-  resolved : resolveD named all ≡ fine
-  resolved = numbered-done all (resolveD named all) n done .0
+    done : N.Done n ≡ numberedBy all (resolveD named all)
+    done = sym f ∙ e
 
-  counted : n ≡ length all
-  counted = numbered-done all (resolveD named all) n done .1
+    closed : cells ≡ putClosed all first cells₀ base all
+    closed = subst (λ (x : Numbered). ClosedHeld all first base cells₀ cells x) f h
 
-  pub fits : base + n ≤ 1024
-  fits = omega (arith, counted, blocks-counted named ps resolved)
+    few : base + filled true ps ≤ 1024
+    few = ready .few-blocks
 
-  -- there is a row for each block
-  pub rows-enough : (labels : List ℕ) (labelled : ℕ) → take labelled labels ≡ namesIn ps → labelled ≤ length labels
-      → labelled ≤ 255 → n ≤ 256
-  rows-enough labels labelled e there few =
-      let h : length (namesIn ps) ≤ 255 = rw (← e, length-take-le labelled labels there) few in
-      omega (arith, counted, at-most-256 ps h)
+    room : 8192 ≤ length cells₀
+    room = ready .blocks-there
 
-  read-back : linksFrom (recorded cells base) 0 n ≡ links
-  read-back =
-      rw (closed, counted)
-      (rw add-zero at
-      (links-back all all first base 0 cells₀ (thin-blocks items first count) (omega (arith, fits, counted))))
+    low : used ≤ base * 2
+    low = ready .few-before
 
-  entries : entriesFrom 0 (linksFrom (recorded cells base) 0 n) n ≡ predecessorCells 0 links all
-  entries = rw (read-back, counted) (entries-are all 0 links)
+    resolved : resolveD named all ≡ fine
+    resolved = numbered-done all (resolveD named all) n done .0
 
-  -- there is room for the predecessors
-  pub entries-fit : used + length (entriesFrom 0 (linksFrom (recorded cells base) 0 n) n) ≤ 2048
-  entries-fit =
-      rw read-back (omega (arith, entries-few all all n (thin-blocks items first count), fits, counted))
+    counted : n ≡ length all
+    counted = numbered-done all (resolveD named all) n done .1
 
-  pub link-done : (next : ℕ) → next ≡ used + length (entriesFrom 0 (linksFrom (recorded cells base) 0 n) n)
-      → L.Done n (next - used) ≡ linkD named ps
-  unfolding linkD
-  link-done next h =
-      let m : next - used ≡ length (predecessorCells 0 links all) = omega (arith, h, ap length entries) in
-      rw (resolved, m, counted)
+    pub fits : base + n ≤ 1024
+    fits = omega (arith, counted, blocks-counted named ps resolved)
 
-  pub link-held : (cells′ preds₀ preds : List ℕ)
-      → cells′ ≡ putEntered 0 used (linksFrom (recorded cells base) 0 n) cells base n
-      → preds ≡ sets preds₀ used (entriesFrom 0 (linksFrom (recorded cells base) 0 n) n)
-      → Linking ps first base used cells₀ cells′ preds₀ preds
-  link-held cells′ preds₀ preds h q =
-      record {
-        blocks-are =
-            h ∙ rw (read-back, closed, counted)
-            (records-whole all links first all 0 used cells₀ base (omega (arith, fits, counted)));
-        predecessors-are = q ∙ ap (λ (x : List ℕ). sets preds₀ used x) entries;
-      }
+    -- there is a row for each block
+    rows-enough : n ≤ 256
+    rows-enough =
+        let short : length (namesIn ps) ≤ 255 =
+        rw (← ready .labels-are, length-take-le labelled labels (ready .labels-there)) (ready .few-labels) in
+        omega (arith, counted, at-most-256 ps short)
+
+    read-back : linksFrom (recorded cells base) 0 n ≡ links
+    read-back =
+        rw (closed, counted)
+        (rw add-zero at
+        (links-back all all first base 0 cells₀ (thin-blocks items first count) (omega (arith, fits, counted))))
+
+    entries : entriesFrom 0 (linksFrom (recorded cells base) 0 n) n ≡ predecessorCells 0 links all
+    entries = rw (read-back, counted) (entries-are all 0 links)
+
+    -- there is room for the predecessors
+    entries-fit : used + length (entriesFrom 0 (linksFrom (recorded cells base) 0 n) n) ≤ 2048
+    entries-fit =
+        rw read-back (omega (arith, entries-few all all n (thin-blocks items first count), fits, counted))
+
+    -- so the edges can be entered
+    pub enter-ready : length cells ≡ length cells₀ → (n ≤ 256) × (base + n ≤ 1024) × (8192 ≤ length cells)
+        × (used + length (entriesFrom 0 (linksFrom (recorded cells base) 0 n) n) ≤ 2048) × (2048 ≤ length preds₀)
+    enter-ready long = (rows-enough, fits, omega (arith, long, room), entries-fit, ready .predecessors-there)
+
+    pub link-done : (next : ℕ) → next ≡ used + length (entriesFrom 0 (linksFrom (recorded cells base) 0 n) n)
+        → L.Done n (next - used) ≡ linkD named ps
+    unfolding linkD
+    link-done next h =
+        let m : next - used ≡ length (predecessorCells 0 links all) = omega (arith, h, ap length entries) in
+        rw (resolved, m, counted)
+
+    pub link-held : (cells′ preds : List ℕ)
+        → cells′ ≡ putEntered 0 used (linksFrom (recorded cells base) 0 n) cells base n
+        → preds ≡ sets preds₀ used (entriesFrom 0 (linksFrom (recorded cells base) 0 n) n)
+        → Linking ps first base used cells₀ cells′ preds₀ preds
+    link-held cells′ preds h q =
+        record {
+          blocks-are =
+              h ∙ rw (read-back, closed, counted)
+              (records-whole all links first all 0 used cells₀ base (omega (arith, fits, counted)));
+          predecessors-are = q ∙ ap (λ (x : List ℕ). sets preds₀ used x) entries;
+        }

@@ -3,14 +3,10 @@ use borrow.Author.Needs.{needs}
 use native.Mathlib.Omega.{arith}
 use Prim.Native.Nat.{_+_, _-_}
 use mathlib.Core.Path.{refl}
-use lib.ListN.{take}
 use denote.Ref.{now}
-use Rattle.parser.specs.Step.{refusal}
 use Rattle.link.specs.Blocks.{blocksOf}
 use Rattle.body.specs.Records.{partsAt}
-use Rattle.link.specs.declared.Numbered.the-variants as N
-use Rattle.link.proofs.Cutting.{Cutting, cut-start, cut-room, turn-refused, turn-done, cut-end, cut-on, added-is}
-use Rattle.link.proofs.Places.{same-place}
+use Rattle.link.proofs.Cutting.{Cutting, cut-start, next-room, next-refused, next-above, next-last, next-on}
 use Rattle.link.proofs.close.link_blocks.Statement.{statement}
 use Rattle.link.proofs.close.link_blocks.Tie as tie
 
@@ -47,27 +43,18 @@ block-end-requires c κs =
 
 add-block-requires : tie.Need-add-block-requires Inv-loop μ-loop
 add-block-requires c κs =
-    let block-end = c .before .block-end in
+    let ends = c .before .block-end in
     let loop = c .before .before .loop in
     let a = c .before .before .before .before .before .before .before .args in
-    let pre = c .before .before .before .before .before .before .before .pre in
-    let items = now (a .items) in
-    let ps = partsAt items (a .first) (a .count) in
-    let all = blocksOf ps in
-    let end = a .first + a .count in
-    let names = take (a .labelled) (now (a .labels)) in
-    let same = same-place ps (a .before) names (pre .before-are) (pre .labels-are) in
-    let stop = block-end .result in
-    let ends = block-end .ensures .0 in (
-      omega (arith, ends),
-      omega (arith, block-end .ensures .1, pre .few-items),
-      omega (arith, block-end .ensures .1, pre .items-there),
+    let pre = c .before .before .before .before .before .before .before .pre in (
+      omega (arith, ends .ensures .0),
+      omega (arith, ends .ensures .1, pre .few-items),
+      omega (arith, ends .ensures .1, pre .items-there),
       pre .few-labels,
       pre .labels-there,
       omega (arith, loop .inv .left .long, pre .blocks-there),
-      cut-room items all (a .name) (a .first) end (a .base) (now (a .blocks)) (loop .blocks) (loop .from) (loop .k)
-          (loop .inv)
-          stop ends (a .before) names same,
+      next-room (now (a .items)) (a .first) (a .count) (a .name) (now (a .labels)) (a .labelled) (a .before)
+          (now (a .blocks)) (a .base) pre (loop .inv) (ends .ensures .0),
     )
 
 same-length : tie.Need-same-length Inv-loop μ-loop
@@ -78,56 +65,31 @@ same-length c =
 
 returns : tie.Need-returns Inv-loop μ-loop
 returns c =
-    let add-block = c .before .before .before .before .before .add-block in
-    let block-end = c .before .before .before .before .before .before .before .block-end in
-    let loop = c .before .before .before .before .before .before .before .before .loop in
+    let e = c .before .e in
+    let add = c .before .before .before .before .before .add-block in
+    let ends = c .before .before .before .before .before .before .before .block-end in
     let back8 = c .before .before .before .before .before .before .before .before in
-    let refuse = back8 .before .refuse in
+    let loop = back8 .loop in
+    let empty = back8 .before .refuse in
     let a = back8 .before .before .before .before .before .args in
     let pre = back8 .before .before .before .before .before .pre in
-    let e′ = c .before .e in
-    let items = now (a .items) in
-    let ps = partsAt items (a .first) (a .count) in
-    let all = blocksOf ps in
-    let end = a .first + a .count in
-    let names = take (a .labelled) (now (a .labels)) in
-    let same = same-place ps (a .before) names (pre .before-are) (pre .labels-are) in
-    let stop = block-end .result in
-    let ends = block-end .ensures .0 in
-    let e = e′ .given .0 .0 in
-    let is = added-is (a .before) names items (loop .from) stop (loop .k) (refuse .result) (refusal 22 (a .name) 0)
-    (add-block .result) (N.Refused e) (refuse .ensures) (add-block .ensures .0) (e′ .given .1) in
-    let r = turn-refused items all (a .name) (a .first) end (a .base) (now (a .blocks)) (loop .blocks) (loop .from)
-    (loop .k) (loop .inv)
-    stop ends (a .before) names same e is in
+    let r =
+    next-refused (now (a .items)) (a .first) (a .count) (a .name) (now (a .labels)) (a .labelled) (a .before)
+    (now (a .blocks)) (a .base) pre (loop .inv) (ends .ensures .0) (empty .ensures) (add .ensures .0) (e .given .1) in
     rw r (refl, tt)
 
 sub-t21 : tie.Need-sub-t21 Inv-loop μ-loop
 sub-t21 c =
-    let next2 = c .before .before .next in
-    let add-block = c .before .before .before .before .before .before .add-block in
-    let block-end = c .before .before .before .before .before .before .before .before .block-end in
+    let next = c .before .before .next in
+    let add = c .before .before .before .before .before .before .add-block in
     let back8 = c .before .before .before .before .before .before .before .before in
+    let ends = back8 .block-end in
     let loop = back8 .before .loop in
-    let refuse = back8 .before .before .refuse in
+    let empty = back8 .before .before .refuse in
     let a = back8 .before .before .before .before .before .before .args in
     let pre = back8 .before .before .before .before .before .before .pre in
-    let next′ = next2 in
-    let items = now (a .items) in
-    let ps = partsAt items (a .first) (a .count) in
-    let all = blocksOf ps in
-    let end = a .first + a .count in
-    let names = take (a .labelled) (now (a .labels)) in
-    let same = same-place ps (a .before) names (pre .before-are) (pre .labels-are) in
-    let stop = block-end .result in
-    let ends = block-end .ensures .0 in
-    let next = next′ .given .0 .0 in
-    let is = added-is (a .before) names items (loop .from) stop (loop .k) (refuse .result) (refusal 22 (a .name) 0)
-    (add-block .result) (N.Done next) (refuse .ensures) (add-block .ensures .0) (next′ .given .1) in
-    let d = turn-done items all (a .name) (a .first) end (a .base) (now (a .blocks)) (loop .blocks) (loop .from)
-    (loop .k) (loop .inv)
-    stop ends (a .before) names same next is in
-    omega (arith, d .0, d .2 .above)
+    next-above (now (a .items)) (a .first) (a .count) (a .name) (now (a .labels)) (a .labelled) (a .before)
+    (now (a .blocks)) (a .base) pre (loop .inv) (ends .ensures .0) (empty .ensures) (add .ensures .0) (next .given .1)
 
 same-length-2 : tie.Need-same-length-2 Inv-loop μ-loop
 same-length-2 c =
@@ -138,31 +100,17 @@ same-length-2 c =
 
 returns-2 : tie.Need-returns-2 Inv-loop μ-loop
 returns-2 c =
-    let if1 = c .if1 in
-    let next2 = c .before .before .next in
-    let add-block = c .before .before .before .before .before .before .add-block in
-    let block-end = c .before .before .before .before .before .before .before .before .block-end in
+    let next = c .before .before .next in
+    let add = c .before .before .before .before .before .before .add-block in
     let back8 = c .before .before .before .before .before .before .before .before in
+    let ends = back8 .block-end in
     let loop = back8 .before .loop in
-    let refuse = back8 .before .before .refuse in
+    let empty = back8 .before .before .refuse in
     let a = back8 .before .before .before .before .before .before .args in
     let pre = back8 .before .before .before .before .before .before .pre in
-    let next′ = next2 in
-    let items = now (a .items) in
-    let ps = partsAt items (a .first) (a .count) in
-    let all = blocksOf ps in
-    let end = a .first + a .count in
-    let names = take (a .labelled) (now (a .labels)) in
-    let same = same-place ps (a .before) names (pre .before-are) (pre .labels-are) in
-    let stop = block-end .result in
-    let ends = block-end .ensures .0 in
-    let next = next′ .given .0 .0 in
-    let is = added-is (a .before) names items (loop .from) stop (loop .k) (refuse .result) (refusal 22 (a .name) 0)
-    (add-block .result) (N.Done next) (refuse .ensures) (add-block .ensures .0) (next′ .given .1) in
-    cut-end items all (a .name) (a .first) end (a .base) (now (a .blocks)) (loop .blocks) (loop .from) (loop .k)
-    (loop .inv)
-    stop ends (a .before) names same next (add-block .last .1 .1 .1 .1 .1 .1 .1 .0) is (add-block .ensures .1)
-    (if1 .taken)
+    next-last (now (a .items)) (a .first) (a .count) (a .name) (now (a .labels)) (a .labelled) (a .before)
+    (now (a .blocks)) (a .base) pre (loop .inv) (ends .ensures .0) (empty .ensures) (add .ensures .0) (next .given .1)
+    (add .ensures .1) (c .if1 .taken)
 
 add-from-2 : tie.Need-add-from-2 Inv-loop μ-loop
 add-from-2 c =
@@ -173,49 +121,22 @@ add-from-2 c =
 
 loop-less : tie.Need-loop-less Inv-loop μ-loop
 loop-less c =
-    let back8 = c .before .before .before .before .before .before .before .before in
-    let a = back8 .before .before .before .before .before .before .args in
-    let pre = back8 .before .before .before .before .before .before .pre in
-    let loop = back8 .before .loop in
-    let block-end = c .before .before .before .before .before .before .before .before .block-end in
-    let if1 = c .if1 in
-    let items = now (a .items) in
-    let ps = partsAt items (a .first) (a .count) in
-    let all = blocksOf ps in
-    let end = a .first + a .count in
-    let names = take (a .labelled) (now (a .labels)) in
-    let same = same-place ps (a .before) names (pre .before-are) (pre .labels-are) in
-    let stop = block-end .result in
-    let ends = block-end .ensures .0 in
-    omega (arith, ends, block-end .ensures .1, if1 .left)
+    let ends = c .before .before .before .before .before .before .before .before .block-end in
+    omega (arith, ends .ensures .0, ends .ensures .1, c .if1 .left)
 
 loop-again : tie.Need-loop-again Inv-loop μ-loop
 loop-again c =
-    let if1 = c .if1 in
-    let next2 = c .before .before .next in
-    let add-block = c .before .before .before .before .before .before .add-block in
-    let block-end = c .before .before .before .before .before .before .before .before .block-end in
+    let next = c .before .before .next in
+    let add = c .before .before .before .before .before .before .add-block in
     let back8 = c .before .before .before .before .before .before .before .before in
+    let ends = back8 .block-end in
     let loop = back8 .before .loop in
-    let refuse = back8 .before .before .refuse in
+    let empty = back8 .before .before .refuse in
     let a = back8 .before .before .before .before .before .before .args in
     let pre = back8 .before .before .before .before .before .before .pre in
-    let next′ = next2 in
-    let items = now (a .items) in
-    let ps = partsAt items (a .first) (a .count) in
-    let all = blocksOf ps in
-    let end = a .first + a .count in
-    let names = take (a .labelled) (now (a .labels)) in
-    let same = same-place ps (a .before) names (pre .before-are) (pre .labels-are) in
-    let stop = block-end .result in
-    let ends = block-end .ensures .0 in
-    let next = next′ .given .0 .0 in
-    let is = added-is (a .before) names items (loop .from) stop (loop .k) (refuse .result) (refusal 22 (a .name) 0)
-    (add-block .result) (N.Done next) (refuse .ensures) (add-block .ensures .0) (next′ .given .1) in
-    cut-on items all (a .name) (a .first) end (a .base) (now (a .blocks)) (loop .blocks) (loop .from) (loop .k)
-    (loop .inv)
-    stop ends (a .before) names same next (add-block .last .1 .1 .1 .1 .1 .1 .1 .0) is (add-block .ensures .1)
-    (omega (arith, block-end .ensures .1, if1 .left))
+    next-on (now (a .items)) (a .first) (a .count) (a .name) (now (a .labels)) (a .labelled) (a .before)
+    (now (a .blocks)) (a .base) pre (loop .inv) (ends .ensures .0) (empty .ensures) (add .ensures .0) (next .given .1)
+    (add .ensures .1) (omega (arith, ends .ensures .1, c .if1 .left))
 
 pub link-blocks-spec : {M : Type 1} → statement M
 link-blocks-spec =
