@@ -8,6 +8,10 @@ ghost use lib.Seq.{sets};
 ghost use Rattle.lexer.specs.Decoded.{tokensOf};
 ghost use Rattle.parser.specs.Runs.{runOf, variablesCells};
 ghost use Rattle.utils.specs.Limits.{mostFunctions, mostFormals};
+ghost use Rattle.pieces.specs.Kinds as T;
+ghost use Rattle.parser.specs.Grammar.{consumeD};
+ghost use Rattle.parser.specs.Step.{thenAt};
+ghost use Rattle.functions.specs.declared.Entered.the-variants as E;
 ghost use Rattle.functions.specs.Functions.{optionalFormals, optionalType, enteredD, signatureD, headerD};
 ghost use Rattle.functions.specs.Rows.{knownFrom, typesAt};
 ghost use Rattle.functions.specs.Columns.{formalsAt, IsRow, HasRows, tableSize};
@@ -54,6 +58,17 @@ pub fn parse_optional_type(tokens: &[u32], at: usize) -> TypeRead
     TypeRead::At(Ty::Void, at)
 }
 
+// The brace behind a header; `ty` is the number of its function type.
+fn open_body(tokens: &[u32], at: usize, ty: u32) -> Entered
+    ensures { λ r. ⌜ r ≡ thenAt E.Refused (consumeD (tokensOf (now (tokens .entry))) at T.leftBrace)
+        (λ next. E.At ty next) ⌝ }
+{
+    match parser::consume(tokens, at, kinds::LEFT_BRACE) {
+        Consumed::Refused(e) => Entered::Refused(e),
+        Consumed::At(next) => Entered::At(ty, next),
+    }
+}
+
 // The name is entered after the type and before `{`: SymbolTable::insert of ir.rs. Its formals stand in row n.
 fn enter(
     tokens: &[u32],
@@ -81,10 +96,7 @@ fn enter(
             name,
         });
     }
-    match parser::consume(tokens, at, kinds::LEFT_BRACE) {
-        Consumed::Refused(e) => Entered::Refused(e),
-        Consumed::At(next) => Entered::At(ty, next),
-    }
+    open_body(tokens, at, ty)
 }
 
 // What stands behind the name.

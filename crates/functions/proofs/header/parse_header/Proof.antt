@@ -17,13 +17,6 @@ returns c =
     let refuse = c .refuse in
     rw (← consume-named .ensures, name .given .1, le-leb 64 _ (if1 .taken), refuse .ensures) (refl, tt)
 
-returns-2 : tie.Need-returns-2
-unfolding headerD opened
-returns-2 c =
-    let consume-named = c .before .before .before .consume-named in
-    let e = c .before .e in
-    rw (← consume-named .ensures, e .given .1) (refl, tt)
-
 returns-3 : tie.Need-returns-3
 unfolding headerD opened
 returns-3 c =
@@ -37,7 +30,10 @@ returns-3 c =
     )
 
 pub parse-header-spec : {M : Type 1} → statement M
+unfolding headerD opened
 parse-header-spec =
     tie.close
     (tie.spec (λ c κs. search needs) (λ c. search needs) (λ c. search needs) (λ c κs. search needs) returns
-    (λ c κs. search needs) returns-2 (λ c. search needs) returns-3)
+    (λ c κs. search needs)
+    (λ c. let read = c .before .before .before .consume-named in rw (← read .ensures, c .before .e .given .1) (refl, tt))
+    (λ c. search needs) returns-3)
