@@ -35,5 +35,6 @@ parse-header-spec =
     tie.close
     (tie.spec (λ c κs. search needs) (λ c. search needs) (λ c. search needs) (λ c κs. search needs) returns
     (λ c κs. search needs)
-    (λ c. let read = c .before .before .before .consume-named in rw (← read .ensures, c .before .e .given .1) (refl, tt))
+    (λ c. let read = c .before .before .before .consume-named in
+    rw (← read .ensures, c .before .e .given .1) (refl, tt))
     (λ c. search needs) returns-3)
