@@ -4,13 +4,13 @@ use mathlib.Core.Path.{_≡_, refl, sym, ap, subst, _∙_}
 use mathlib.Core.List.{List, []}
 use mathlib.Core.Bool.{Bool, true, false}
 use native.Mathlib.Omega.{arith}
-use borrow.Author.Tests.{eq-eqb, ne-eqb, le-ltb}
+use borrow.Author.Tests.{eq-eqb, ne-eqb}
 use lib.ListN.{length, take}
 use Rattle.utils.specs.Bytes.{pick, padTo}
-use Rattle.lexer.specs.Read.{Reading, readFrom, readOf, readDef, Reads}
+use Rattle.lexer.specs.Read.{Reading, reading, readFrom, readOf}
 use Rattle.lexer.specs.Read as lexed
 use Rattle.lexer.specs.Numbered as lexes
-use Rattle.lexer.specs.Decoded.{Tok, tokensOf, tokenAt}
+use Rattle.lexer.specs.Decoded.{tokensOf, tokenAt}
 use Rattle.lexer.specs.declared.TokenAt.{TokenAt}
 use Rattle.messages.specs.Messages.{messageOf}
 use Rattle.lexer.specs.declared.ReadAnswer.{ReadAnswer}
@@ -19,10 +19,12 @@ use Rattle.functions.specs.Answer.{Slices, countsFrom}
 use Rattle.functions.specs.declared.Counts.{Counts}
 use Rattle.functions.specs.declared.ProgramRead.the-variants as U
 use Rattle.unit.specs.Outcome.{UnitOutcome, checked, refused, unitD, unitRead, unitSlices, asLong, cleared, none}
-use Rattle.checker.specs.Check.{Checking, accepted, checkRefusal, checkedOr, checkOf}
-use Rattle.checker.specs.Promise.{checking, padded, sized, sizedUnit, allSized, checkDef, Lexed, Refuses, Sizes}
+use Rattle.unit.specs.Outcome.{UnitHeld}
+use Rattle.checker.specs.Check.{Checking, accepted, checkRefusal, refusing, refusedAt, checkedOr, checkOf}
+use Rattle.checker.specs.Promise.{checking, padded, sized, sizedUnit, allSized, checkDef, Lexed, Sizes}
 use Rattle.checker.specs.Promise.{IfSized, IfSizedUnit, gated, Gives, Checks}
 use Rattle.checker.specs.declared.CheckAnswer.{CheckAnswer}
+use Rattle.unit.proofs.Building.{as-cleared}
 use Rattle.checker.proofs.Lexed.{no-message, first-tokens, first-names}
 
 -- answers and slices that are equal part by part
@@ -31,52 +33,82 @@ pub same-checking : {r r′ : CheckAnswer} {m m′ t t′ n n′ : List ℕ} {u 
     → checking r m t n u ≡ checking r′ m′ t′ n′ u′
 same-checking e₁ e₂ e₃ e₄ e₅ = rw (e₁, e₂, e₃, e₄, e₅)
 
-module _ (text m t n : List ℕ) (u : Slices) (r : ReadAnswer) (v : Lexed 1 text r m t n) where
-  abbrev ts : List Tok
-  ts = tokensOf (readFrom 1 text .tokens)
+-- A text that is read; its first line has any number. ---------------------------------------------------------------
 
-  -- a text that reads is what its functions make of it
-  goes-on : checkOf text ≡ checkedOr text (readFrom 1 text) ts (unitD ts)
+module _ {line : ℕ} {text m t n : List ℕ} {r : ReadAnswer} (v : Lexed line text r m t n) (u : Slices) where
+  abbrev read : Reading
+  read = readFrom line text
+
+  -- an acceptance, with so many records and these slices
+  pub accepted-as : (k k′ : Counts) (u′ w : Slices) → k ≡ k′ → u′ ≡ asLong u w
+      → checking (accepted (r .tokens) (r .names) k) m t n u′
+      ≡ padded m t n u
+      (checking (accepted (read .answer .tokens) (read .answer .names) k′) [] (read .tokens) (read .names) w)
+  accepted-as k k′ u′ w e q =
+      same-checking (rw (v .answer, e)) (v .message ∙ ap (padTo (length m)) (no-message v)) (v .tokens) (v .names) q
+
+  -- a refusal at the cells in use is one at the reading's tokens and names
+  pub refused-as : (e : Refusal) (u₁ : Slices) (d : Checking) → cleared u₁ ≡ cleared u
+      → d ≡ padded m t n u₁ (refusedAt text (take (r .names * 2) n) (tokensOf (take (r .tokens * 4) t)) e)
+      → d ≡ padded m t n u (refusedAt text (read .names) (tokensOf (read .tokens)) e)
+  refused-as e u₁ d k g = (rw (first-tokens v, first-names v) at g) ∙ rw k
+
+-- its functions, by the cells in use
+module _ {text m t n : List ℕ} {r : ReadAnswer} (v : Lexed 1 text r m t n) (u : Slices) (tk nm : List ℕ)
+    (tk-is : tk ≡ readFrom 1 text .tokens) (nm-is : nm ≡ readFrom 1 text .names) where
+  goes-on : checkOf text ≡ checkedOr text (readFrom 1 text) (tokensOf tk) (unitD (tokensOf tk))
   unfolding checkOf readOf pick
-  goes-on = rw (eq-eqb _ _ (sym (ap (λ (a : ReadAnswer). a .number) (v .answer)) ∙ v .fine))
+  goes-on = rw (eq-eqb _ _ (sym (ap (λ (a : ReadAnswer). a .number) (v .answer)) ∙ v .fine), tk-is)
 
-  -- the answer and the slices, by what the functions are
-  module _ (u′ : Slices) (unit-is : u′ ≡ asLong u (unitSlices ts (readFrom 1 text .names) (unitD ts))) where
-    unit-by : (o : UnitOutcome) → unitD ts ≡ o → u′ ≡ asLong u (unitSlices ts (readFrom 1 text .names) o)
-    unit-by o e = unit-is ∙ ap (λ (x : UnitOutcome). asLong u (unitSlices ts (readFrom 1 text .names) x)) e
+  accepts-by : (k : Counts) (u′ : Slices) (o : UnitOutcome) → U.Done k ≡ unitRead o
+      → UnitHeld (tokensOf tk) nm u u′ o
+      → checking (accepted (r .tokens) (r .names) k) m t n u′
+      ≡ padded m t n u (checkedOr text (readFrom 1 text) (tokensOf tk) o)
+  accepts-by k u′ (checked fs) h e =
+      let counts-are : k ≡ countsFrom none fs = cc in
+      accepted-as v u k (countsFrom none fs) u′ (unitSlices (tokensOf tk) (readFrom 1 text .names) (checked fs))
+      counts-are
+      (e ∙ ap (λ (x : List ℕ). asLong u (unitSlices (tokensOf tk) x (checked fs))) nm-is)
+  accepts-by k u′ (refused e′) h e = absurd (let z : _≡_ {A = ℕ} 0 1 = cc in omega arith)
 
-    accepts-by : (k : Counts) (o : UnitOutcome) → unitD ts ≡ o → U.Done k ≡ unitRead o
-        → checking (accepted (r .tokens) (r .names) k) m t n u′ ≡ padded m t n u (checkedOr text (readFrom 1 text) ts o)
-    accepts-by k (checked fs) e h =
-        let counts-are : k ≡ countsFrom none fs = cc in
-        same-checking (rw (v .answer, counts-are)) (v .message ∙ ap (padTo (length m)) (no-message v)) (v .tokens)
-        (v .names)
-        (unit-by (checked fs) e)
-    accepts-by k (refused e′) e h = absurd (let z : _≡_ {A = ℕ} 0 1 = cc in omega arith)
+  pub ends-accepted : (k : Counts) (u′ : Slices) → U.Done k ≡ unitRead (unitD (tokensOf tk))
+      → UnitHeld (tokensOf tk) nm u u′ (unitD (tokensOf tk))
+      → checking (accepted (r .tokens) (r .names) k) m t n u′ ≡ padded m t n u (checkOf text)
+  ends-accepted k u′ h e = accepts-by k u′ (unitD (tokensOf tk)) h e ∙ ap (padded m t n u) (sym goes-on)
 
-    pub check-accepts : (k : Counts) → U.Done k ≡ unitRead (unitD ts)
-        → checking (accepted (r .tokens) (r .names) k) m t n u′ ≡ padded m t n u (checkOf text)
-    check-accepts k h = accepts-by k (unitD ts) refl h ∙ ap (padded m t n u) (sym goes-on)
+  refuses-by : (e : Refusal) (o : UnitOutcome) → U.Refused e ≡ unitRead o
+      → refusedAt text (readFrom 1 text .names) (tokensOf tk) e ≡ checkedOr text (readFrom 1 text) (tokensOf tk) o
+  refuses-by e (checked fs) h = absurd (let z : _≡_ {A = ℕ} 0 1 = cc in omega arith)
+  refuses-by e (refused e′) h =
+      let same : e ≡ e′ = cc in
+      ap (refusedAt text (readFrom 1 text .names) (tokensOf tk)) same
 
-    refuses-by : (e : Refusal) (o : UnitOutcome) → unitD ts ≡ o → U.Refused e ≡ unitRead o
-        → (res : CheckAnswer) (m′ t′ n′ : List ℕ) → Refuses text (readFrom 1 text .names) ts e m t n res m′ t′ n′
-        → checking res m′ t′ n′ u′ ≡ padded m t n u (checkedOr text (readFrom 1 text) ts o)
-    refuses-by e (checked fs) q h res m′ t′ n′ w = absurd (let z : _≡_ {A = ℕ} 0 1 = cc in omega arith)
-    refuses-by e (refused e′) q h res m′ t′ n′ w =
-        let same : e ≡ e′ = cc in
-        rw (← same)
-        (same-checking (w .answer) (w .message) (w .tokens) (w .names)
-        (unit-by (refused e) (q ∙ ap refused (sym same))))
+  pub ends-refused : (e : Refusal) (u₁ : Slices) (d : Checking) → U.Refused e ≡ unitRead (unitD (tokensOf tk))
+      → cleared u₁ ≡ cleared u
+      → d ≡ padded m t n u₁ (refusedAt text (take (r .names * 2) n) (tokensOf (take (r .tokens * 4) t)) e)
+      → d ≡ padded m t n u (checkOf text)
+  ends-refused e u₁ d h k g =
+      refused-as v u e u₁ d k g
+      ∙ ap (λ (x : List ℕ). padded m t n u (refusedAt text (readFrom 1 text .names) (tokensOf x) e)) (sym tk-is)
+      ∙ ap (padded m t n u) (refuses-by e (unitD (tokensOf tk)) h ∙ sym goes-on)
 
-    pub check-refuses : (e : Refusal) → U.Refused e ≡ unitRead (unitD ts)
-        → (res : CheckAnswer) (m′ t′ n′ : List ℕ) → Refuses text (readFrom 1 text .names) ts e m t n res m′ t′ n′
-        → checking res m′ t′ n′ u′ ≡ padded m t n u (checkOf text)
-    check-refuses e h res m′ t′ n′ w = refuses-by e (unitD ts) refl h res m′ t′ n′ w ∙ ap (padded m t n u) (sym goes-on)
+-- the refusal by parts of the slices, tk and nm, that are the cells in use
+pub refuses-by-cells : (text m t n : List ℕ) (u : Slices) (e : Refusal) (tk nm tk′ nm′ : List ℕ) → tk ≡ tk′ → nm ≡ nm′
+    → (x : TokenAt) → x ≡ tokenAt (tokensOf tk) (e .token)
+    → (res : CheckAnswer) (m′ t′ n′ : List ℕ) (u′ : Slices) → res ≡ checkRefusal (e .number) (x .line .0) (x .place)
+    → m′ ≡ padTo (length m) (messageOf text (tokensOf tk) nm e) → t′ ≡ padTo (length t) [] → n′ ≡ padTo (length n) []
+    → u′ ≡ cleared u
+    → checking res m′ t′ n′ u′ ≡ padded m t n u (refusedAt text nm′ (tokensOf tk′) e)
+refuses-by-cells text m t n u e tk nm tk′ nm′ p q x w res m′ t′ n′ u′ a b d f g =
+    rw (← p, ← q)
+    (same-checking (a ∙ ap (λ (y : TokenAt). checkRefusal (e .number) (y .line .0) (y .place)) w) b d f g)
+
+-- Once `read_from` is done. -----------------------------------------------------------------------------------------
 
 -- a text that doesn't read has no tokens and no names
-pub unread-from : (line : ℕ) (text : List ℕ) → (readFrom line text .answer .number ≡ 0 → ⊥)
+unread : (line : ℕ) (text : List ℕ) → (readFrom line text .answer .number ≡ 0 → ⊥)
     → (readFrom line text .tokens ≡ []) × (readFrom line text .names ≡ [])
-unread-from line text h = from (lexed.lexedFrom line text) h
+unread line text h = from (lexed.lexedFrom line text) h
   where
     from : (o : lexes.Outcome) → (lexed.readingOf o .answer .number ≡ 0 → ⊥)
         → (lexed.readingOf o .tokens ≡ []) × (lexed.readingOf o .names ≡ [])
@@ -84,115 +116,58 @@ unread-from line text h = from (lexed.lexedFrom line text) h
     from (lexes.Outcome.refused e) g = (refl, refl)
     from lexes.Outcome.cut g = absurd (g refl)
 
-pub unread : (text : List ℕ) → (readOf text .answer .number ≡ 0 → ⊥)
-    → (readOf text .tokens ≡ []) × (readOf text .names ≡ [])
-unfolding readOf
-unread text h = unread-from 1 text h
+module _ (line : ℕ) (text t₀ n₀ m₀ : List ℕ) (r : ReadAnswer) (t n m : List ℕ)
+    (reads : reading r t n m ≡ lexed.padded t₀ n₀ m₀ (readFrom line text)) where
+  answer-is : r ≡ readFrom line text .answer
+  answer-is = ap (λ (x : Reading). x .answer) reads
 
--- the same by the cells in use
-module _ (text m t n : List ℕ) (u : Slices) (r : ReadAnswer) (v : Lexed 1 text r m t n) (tk nm : List ℕ)
-    (tk-is : tk ≡ readFrom 1 text .tokens) (nm-is : nm ≡ readFrom 1 text .names) (u′ : Slices)
-    (unit-is : u′ ≡ asLong u (unitSlices (tokensOf tk) nm (unitD (tokensOf tk)))) where
-  unit-same : u′ ≡ asLong u (unitSlices (tokensOf (readFrom 1 text .tokens)) (readFrom 1 text .names)
-      (unitD (tokensOf (readFrom 1 text .tokens))))
-  unit-same =
-      unit-is
-      ∙ ap (λ (x : List ℕ). asLong u (unitSlices (tokensOf x) nm (unitD (tokensOf x)))) tk-is
-      ∙ ap (λ (x : List ℕ). asLong u (unitSlices (tokensOf (readFrom 1 text .tokens)) x
-      (unitD (tokensOf (readFrom 1 text .tokens)))))
-      nm-is
+  tokens-are : t ≡ padTo (length t₀) (readFrom line text .tokens)
+  tokens-are = ap (λ (x : Reading). x .tokens) reads
 
-  pub ends-accepted : (k : Counts) → U.Done k ≡ unitRead (unitD (tokensOf tk))
-      → checking (accepted (r .tokens) (r .names) k) m t n u′ ≡ padded m t n u (checkOf text)
-  ends-accepted k h =
-      check-accepts text m t n u r v u′ unit-same k (h ∙ ap (λ (x : List ℕ). unitRead (unitD (tokensOf x))) tk-is)
+  names-are : n ≡ padTo (length n₀) (readFrom line text .names)
+  names-are = ap (λ (x : Reading). x .names) reads
 
-  -- the refusal stands at the reading's own tokens and names
-  refused-there : (e : Refusal) (res : CheckAnswer) (m′ t′ n′ : List ℕ)
-      → Refuses text (take (r .names * 2) n) (tokensOf (take (r .tokens * 4) t)) e m t n res m′ t′ n′
-      → Refuses text (readFrom 1 text .names) (tokensOf (readFrom 1 text .tokens)) e m t n res m′ t′ n′
-  refused-there e res m′ t′ n′ w =
-      subst (λ (x : List ℕ). Refuses text x (tokensOf (readFrom 1 text .tokens)) e m t n res m′ t′ n′) (first-names v)
-      (subst (λ (x : List ℕ). Refuses text (take (r .names * 2) n) (tokensOf x) e m t n res m′ t′ n′) (first-tokens v)
-      w)
-
-  pub ends-refused : (e : Refusal) → U.Refused e ≡ unitRead (unitD (tokensOf tk))
-      → (res : CheckAnswer) (m′ t′ n′ : List ℕ)
-      → Refuses text (take (r .names * 2) n) (tokensOf (take (r .tokens * 4) t)) e m t n res m′ t′ n′
-      → checking res m′ t′ n′ u′ ≡ padded m t n u (checkOf text)
-  ends-refused e h res m′ t′ n′ w =
-      check-refuses text m t n u r v u′ unit-same e (h ∙ ap (λ (x : List ℕ). unitRead (unitD (tokensOf x))) tk-is) res
-      m′
-      t′ n′ (refused-there e res m′ t′ n′ w)
-
--- the refusal by parts of the slices, tk and nm, that are the cells in use
-pub refuses-by-cells : (text m t n : List ℕ) (e : Refusal) (tk nm tk′ nm′ : List ℕ) → tk ≡ tk′ → nm ≡ nm′
-    → (x : TokenAt) → x ≡ tokenAt (tokensOf tk) (e .token)
-    → (res : CheckAnswer) (m′ t′ n′ : List ℕ) → res ≡ checkRefusal (e .number) (x .line .0) (x .place)
-    → m′ ≡ padTo (length m) (messageOf text (tokensOf tk) nm e) → t′ ≡ padTo (length t) [] → n′ ≡ padTo (length n) []
-    → Refuses text nm′ (tokensOf tk′) e m t n res m′ t′ n′
-refuses-by-cells text m t n e tk nm tk′ nm′ p q x w res m′ t′ n′ a b d f =
-    record {
-      answer =
-          a
-          ∙ ap (λ (y : TokenAt). checkRefusal (e .number) (y .line .0) (y .place))
-          (w ∙ ap (λ (y : List ℕ). tokenAt (tokensOf y) (e .token)) p);
-      message =
-          b
-          ∙ ap (λ (y : List ℕ). padTo (length m) (messageOf text (tokensOf y) nm e)) p
-          ∙ ap (λ (y : List ℕ). padTo (length m) (messageOf text (tokensOf tk′) y e)) q;
-      tokens = d;
-      names = f;
-    }
-
--- Once `read` is done. ----------------------------------------------------------------------------------------------
-
-pub sized-read : (t n m : ℕ) → 16384 ≤ t → 2048 ≤ n → 512 ≤ m → lexed.sized t n m ≡ true
-unfolding lexed.sized pick
-sized-read t n m a b d = rw (le-ltb _ _ a, le-ltb _ _ b, le-ltb _ _ d)
-
-module _ (text t₀ n₀ m₀ : List ℕ) (r : ReadAnswer) (t n m : List ℕ) (reads : Reads text t₀ n₀ m₀ r t n m)
-    (ok : lexed.sized (length t₀) (length n₀) (length m₀) ≡ true) where
-  as-read : readDef text t₀ n₀ m₀ ≡ lexed.padded t₀ n₀ m₀ (readOf text)
-  unfolding readDef pick
-  as-read = rw ok
-
-  answer-is : r ≡ readOf text .answer
-  answer-is = reads .answer ∙ ap (λ (x : Reading). x .answer) as-read
-
-  tokens-are : t ≡ padTo (length t₀) (readOf text .tokens)
-  tokens-are = reads .tokens ∙ ap (λ (x : Reading). x .tokens) as-read
-
-  names-are : n ≡ padTo (length n₀) (readOf text .names)
-  names-are = reads .names ∙ ap (λ (x : Reading). x .names) as-read
-
-  message-is : m ≡ padTo (length m₀) (readOf text .message)
-  message-is = reads .message ∙ ap (λ (x : Reading). x .message) as-read
+  message-is : m ≡ padTo (length m₀) (readFrom line text .message)
+  message-is = ap (λ (x : Reading). x .message) reads
 
   module _ (lt : length t ≡ length t₀) (ln : length n ≡ length n₀) (lm : length m ≡ length m₀) where
-    pub is-lexed : r .number ≡ 0 → Lexed 1 text r m t n
-    unfolding readOf
+    pub is-lexed : r .number ≡ 0 → Lexed line text r m t n
     is-lexed z =
         record {
           answer = answer-is;
           fine = z;
-          message = message-is ∙ ap (λ (k : ℕ). padTo k (readFrom 1 text .message)) (sym lm);
-          tokens = tokens-are ∙ ap (λ (k : ℕ). padTo k (readFrom 1 text .tokens)) (sym lt);
-          names = names-are ∙ ap (λ (k : ℕ). padTo k (readFrom 1 text .names)) (sym ln);
+          message = message-is ∙ ap (λ (k : ℕ). padTo k (readFrom line text .message)) (sym lm);
+          tokens = tokens-are ∙ ap (λ (k : ℕ). padTo k (readFrom line text .tokens)) (sym lt);
+          names = names-are ∙ ap (λ (k : ℕ). padTo k (readFrom line text .names)) (sym ln);
         }
 
-    pub as-at-entry : (u : Slices) → padded m t n u (checkOf text) ≡ padded m₀ t₀ n₀ u (checkOf text)
-    as-at-entry u = rw (lt, ln, lm)
+    -- slices that are cleared since are as long as at entry
+    pub as-at-entry : (u u₁ : Slices) (o : Checking) → u₁ ≡ cleared u → padded m t n u₁ o ≡ padded m₀ t₀ n₀ u o
+    as-at-entry u u₁ o e = rw (lt, ln, lm, as-cleared u u₁ e (o .unit))
 
-  pub not-lexed : (r .number ≡ 0 → ⊥) → (u u′ : Slices) → u′ ≡ cleared u
-      → checking (checkRefusal (r .number) (r .line) (r .place)) m t n u′ ≡ padded m₀ t₀ n₀ u (checkOf text)
-  unfolding checkOf pick
-  not-lexed z u u′ e =
-      let z′ : readOf text .answer .number ≡ 0 → ⊥ = λ q. z (ap (λ (a : ReadAnswer). a .number) answer-is ∙ q) in
-      let k = unread text z′ in
-      rw (ne-eqb _ _ z′)
-      (same-checking (rw answer-is) message-is (tokens-are ∙ ap (padTo (length t₀)) (k .0))
-      (names-are ∙ ap (padTo (length n₀)) (k .1)) e)
+  abbrev unread-as : Checking
+  unread-as =
+      refusing (readFrom line text .answer .number) (readFrom line text .answer .line)
+      (readFrom line text .answer .place) (readFrom line text .message)
+
+  pub not-read : (r .number ≡ 0 → ⊥) → (u u′ : Slices) → u′ ≡ cleared u
+      → (readFrom line text .answer .number ≡ 0 → ⊥)
+      × (checking (checkRefusal (r .number) (r .line) (r .place)) m t n u′ ≡ padded m₀ t₀ n₀ u unread-as)
+  not-read z u u′ e =
+      let z′ : readFrom line text .answer .number ≡ 0 → ⊥ = λ q. z (ap (λ (a : ReadAnswer). a .number) answer-is ∙ q) in
+      let k = unread line text z′ in (
+        z′,
+        same-checking (rw answer-is) message-is (tokens-are ∙ ap (padTo (length t₀)) (k .0))
+            (names-are ∙ ap (padTo (length n₀)) (k .1)) e,
+      )
+
+pub not-lexed : (text t₀ n₀ m₀ : List ℕ) (r : ReadAnswer) (t n m : List ℕ)
+    → reading r t n m ≡ lexed.padded t₀ n₀ m₀ (readFrom 1 text) → (r .number ≡ 0 → ⊥) → (u u′ : Slices) → u′ ≡ cleared u
+    → checking (checkRefusal (r .number) (r .line) (r .place)) m t n u′ ≡ padded m₀ t₀ n₀ u (checkOf text)
+unfolding checkOf readOf pick
+not-lexed text t₀ n₀ m₀ r t n m reads z u u′ e =
+    let k = not-read 1 text t₀ n₀ m₀ r t n m reads z u u′ e in
+    k .1 ∙ rw (ne-eqb _ _ (k .0))
 
 -- The gate. ---------------------------------------------------------------------------------------------------------
 

@@ -1,23 +1,21 @@
 -- The whole answer of `check`: `checkOf`, the gate, and the zeros that follow each slice's contents.
 use Prim.Native.Nat.{ℕ, _≤_}
 use mathlib.Core.Path.{_≡_}
-use mathlib.Core.List.{List, []}
+use mathlib.Core.List.{List}
 use mathlib.Core.Bool.{Bool, true, false}
 use lib.Dec.{ltb}
 use lib.ListN.{length}
 use Rattle.utils.specs.Bytes.{pick, padTo}
 use Rattle.lexer.specs.Read.{readFrom}
-use Rattle.lexer.specs.Decoded.{Tok}
 use Rattle.functions.specs.Columns.{tableSize}
 use Rattle.body.specs.Room.{itemsSize, argumentsSize}
 use Rattle.link.specs.Steps.{blocksSize, predecessorsSize}
 use Rattle.lexer.specs.Sizes.{tokensSize, namesSize}
 use Rattle.utils.specs.Limits.{messageSize}
-use Rattle.parser.specs.declared.Refusal.{Refusal}
 use Rattle.lexer.specs.declared.ReadAnswer.{ReadAnswer}
 use Rattle.functions.specs.Answer.{Long, Slices}
 use Rattle.unit.specs.Outcome.{asLong}
-use Rattle.checker.specs.Check.{Checking, checkRefusal, refusedAt, checkOf}
+use Rattle.checker.specs.Check.{Checking, checkRefusal, checkOf}
 use Rattle.checker.specs.declared.CheckAnswer.{CheckAnswer}
 
 abbrev pub checking : CheckAnswer → List ℕ → List ℕ → List ℕ → Slices → Checking
@@ -70,14 +68,6 @@ pub record Lexed (line : ℕ) (text : List ℕ) (r : ReadAnswer) (m t n : List �
   pub message : m ≡ padTo (length m) (readFrom line text .message)
   pub tokens : t ≡ padTo (length t) (readFrom line text .tokens)
   pub names : n ≡ padTo (length n) (readFrom line text .names)
-
--- a refusal at a token, once its message is written; ns and ts, the names' cells and the tokens in use, are gone
-pub record Refuses (text ns : List ℕ) (ts : List Tok) (e : Refusal) (m₀ t₀ n₀ : List ℕ) (r : CheckAnswer)
-    (m t n : List ℕ) : Type 0 where
-  pub answer : r ≡ refusedAt text ns ts e .answer
-  pub message : m ≡ padTo (length m₀) (refusedAt text ns ts e .message)
-  pub tokens : t ≡ padTo (length t₀) []
-  pub names : n ≡ padTo (length n₀) []
 
 pub record Sizes (m t n : List ℕ) (u : Slices) : Type 0 where
   pub message-long : messageSize ≤ length m

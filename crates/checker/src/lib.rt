@@ -5,9 +5,10 @@ ghost use lib.ListN.{length, take};
 ghost use Rattle.lexer.specs.Decoded.{tokensOf};
 ghost use Rattle.functions.specs.Answer.{slices};
 ghost use Rattle.messages.specs.Messages.{ShortNames};
+ghost use Rattle.unit.specs.Outcome.{cleared};
 ghost use Rattle.utils.specs.Limits.{messageSize};
-ghost use Rattle.checker.specs.Check.{accepted, checkRefusal, checkOf};
-ghost use Rattle.checker.specs.Promise.{checking, padded, Lexed, Refuses, Sizes};
+ghost use Rattle.checker.specs.Check.{accepted, checkRefusal, refusedAt, checkOf};
+ghost use Rattle.checker.specs.Promise.{checking, padded, Lexed, Sizes};
 ghost use Rattle.checker.specs.Promise.{sized, sizedUnit, IfSized, IfSizedUnit, Checks};
 use functions::Counts;
 use functions::ProgramRead;
@@ -75,21 +76,30 @@ pub fn counted(tokens: u32, names: u32, n: Counts) -> CheckAnswer
     }
 }
 
-// A refusal at a token: its message, and no tokens or names.
+// A refusal at a token: its message, and every other slice zero.
 pub fn refuse(
     text: &[u8],
     r: ReadAnswer,
     tokens: &mut [u32],
     names: &mut [u32],
+    functions: &mut [u32],
+    items: &mut [u32],
+    arguments: &mut [u32],
+    blocks: &mut [u32],
+    predecessors: &mut [u32],
     message: &mut [u8],
     e: Refusal,
 ) -> CheckAnswer
     requires { ⌜ (r .tokens * 4 ≤ length (now tokens)) × (r .names * 2 ≤ length (now names))
         × (messageSize ≤ length (now message)) × ShortNames (now text) (take (r .names * 2) (now names)) ⌝ }
-    ensures { λ res. ⌜ Refuses (now (text .entry)) (take (r .names * 2) (now (names .entry)))
-        (tokensOf (take (r .tokens * 4) (now (tokens .entry)))) e
-        (now (message .entry)) (now (tokens .entry)) (now (names .entry))
-        res (now (message .exit)) (now (tokens .exit)) (now (names .exit)) ⌝ }
+    ensures { λ res. ⌜ checking res (now (message .exit)) (now (tokens .exit)) (now (names .exit))
+        (slices (now (functions .exit)) (now (items .exit)) (now (arguments .exit)) (now (blocks .exit))
+        (now (predecessors .exit)))
+        ≡ padded (now (message .entry)) (now (tokens .entry)) (now (names .entry))
+        (slices (now (functions .entry)) (now (items .entry)) (now (arguments .entry)) (now (blocks .entry))
+        (now (predecessors .entry)))
+        (refusedAt (now (text .entry)) (take (r .names * 2) (now (names .entry)))
+        (tokensOf (take (r .tokens * 4) (now (tokens .entry)))) e) ⌝ }
 {
     let last = r.tokens as usize * TOKEN_CELLS;
     let end = r.names as usize * NAME_CELLS;
@@ -97,11 +107,12 @@ pub fn refuse(
     let t = lexer::token_at(&tokens[0..last], e.token);
     utils::clear(tokens);
     utils::clear(names);
+    clear::clear_five(functions, items, arguments, blocks, predecessors);
     let line = t.line;
     refused(e.number, line, t.place)
 }
 
-// The functions of a text that is read.
+// The functions of a text that is read, into cleared slices.
 fn check_lexed(
     text: &[u8],
     r: ReadAnswer,
@@ -116,7 +127,9 @@ fn check_lexed(
 ) -> CheckAnswer
     requires { ⌜ Lexed 1 (now text) r (now message) (now tokens) (now names)
         × Sizes (now message) (now tokens) (now names)
-        (slices (now functions) (now items) (now arguments) (now blocks) (now predecessors)) ⌝ }
+        (slices (now functions) (now items) (now arguments) (now blocks) (now predecessors))
+        × (slices (now functions) (now items) (now arguments) (now blocks) (now predecessors)
+        ≡ cleared (slices (now functions) (now items) (now arguments) (now blocks) (now predecessors))) ⌝ }
     ensures { λ res. ⌜ checking res (now (message .exit)) (now (tokens .exit)) (now (names .exit))
         (slices (now (functions .exit)) (now (items .exit)) (now (arguments .exit)) (now (blocks .exit))
         (now (predecessors .exit)))
@@ -135,10 +148,25 @@ fn check_lexed(
         blocks,
         predecessors,
     ) {
-        ProgramRead::Refused(e) => refuse(text, r, tokens, names, message, e),
+        ProgramRead::Refused(e) => refuse(
+            text,
+            r,
+            tokens,
+            names,
+            functions,
+            items,
+            arguments,
+            blocks,
+            predecessors,
+            message,
+            e,
+        ),
         ProgramRead::Done(n) => counted(r.tokens, r.names, n),
     }
 }
+
+// The number of a text's first line.
+const FIRST_LINE: u32 = 1;
 
 // Slices that have their sizes.
 fn check_sized(
@@ -161,7 +189,8 @@ fn check_sized(
         (slices (now (functions .entry)) (now (items .entry)) (now (arguments .entry)) (now (blocks .entry))
         (now (predecessors .entry))) (checkOf (now (text .entry))) ⌝ }
 {
-    let r = lexer::read(text, tokens, names, message);
+    let r = lexer::read_from(text, FIRST_LINE, tokens, names, message);
+    clear::clear_five(functions, items, arguments, blocks, predecessors);
     if r.number == numbers::ACCEPTED {
         return check_lexed(
             text,
@@ -176,7 +205,6 @@ fn check_sized(
             message,
         );
     }
-    clear::clear_five(functions, items, arguments, blocks, predecessors);
     refused(r.number, Location(r.line), r.place)
 }
 

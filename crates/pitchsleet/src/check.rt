@@ -4,14 +4,13 @@ ghost use Prim.Native.Nat.{_≤_};
 ghost use lib.ListN.{length};
 ghost use Rattle.utils.specs.Bytes.{padTo};
 ghost use Rattle.functions.specs.Answer.{slices};
-ghost use Rattle.checker.specs.Check.{checkOf, checkRefusal};
+ghost use Rattle.checker.specs.Check.{checkOf};
 ghost use Rattle.utils.specs.Limits.{messageSize};
 ghost use Rattle.pitchsleet.specs.CheckBytes.{cellBytes, Sizes, export, exported, checkSize};
 use crate::layout;
 use checker::CheckAnswer;
 use functions::columns;
 use functions::sizes;
-use utils::numbers;
 
 // All cells, one slice after the other, and zeros.
 pub fn put_all(
@@ -83,21 +82,4 @@ pub fn check_out(
         out,
     );
     answer
-}
-
-pub fn short() -> CheckAnswer
-    ensures { λ r. ⌜ r ≡ checkRefusal 30 0 0 ⌝ }
-{
-    CheckAnswer {
-        number: numbers::SHORT_BUFFER,
-        line: 0,
-        place: 0,
-        tokens: 0,
-        names: 0,
-        functions: 0,
-        items: 0,
-        arguments: 0,
-        blocks: 0,
-        predecessors: 0,
-    }
 }

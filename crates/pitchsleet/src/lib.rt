@@ -17,6 +17,7 @@ use checker::CheckAnswer;
 use functions::columns;
 use functions::sizes;
 use lexer::ReadAnswer;
+use pieces::Location;
 use utils::limits;
 use utils::numbers;
 
@@ -114,10 +115,10 @@ pub extern "C" fn pitchsleet_check(text: &[u8], out: &mut [u8], message: &mut [u
         r (now (out .exit)) (now (message .exit)) ⌝ }
 {
     if out.len() < layout::CHECKED {
-        return check::short();
+        return checker::refused(numbers::SHORT_BUFFER, Location(0), 0);
     }
     if message.len() < limits::MESSAGE {
-        return check::short();
+        return checker::refused(numbers::SHORT_BUFFER, Location(0), 0);
     }
     let mut tokens = [0u32; lexer::sizes::TOKENS];
     let mut names = [0u32; lexer::sizes::NAMES];
@@ -155,10 +156,10 @@ pub extern "C" fn pitchsleet_recheck<'t>(
         (now (out .entry)) (now (message .entry)) r (now (out .exit)) (now (message .exit)) ⌝ }
 {
     if out.len() < layout::CHECKED {
-        return check::short();
+        return checker::refused(numbers::SHORT_BUFFER, Location(0), 0);
     }
     if message.len() < limits::MESSAGE {
-        return check::short();
+        return checker::refused(numbers::SHORT_BUFFER, Location(0), 0);
     }
     rechecks::recheck_out(old, table, number, new, out, message)
 }

@@ -473,23 +473,3 @@ module _ (old rows : List ℕ) (number : ℕ) (new : List ℕ) (ts : List Tok) (
                   (omega arith, fits .items-few, fits .arguments-few, fits .blocks-few, fits .predecessors-few),
                 ),
               )
-
--- Slices that are cleared before and after. --------------------------------------------------------------------------
-
-module _ (ts : List Tok) (names : List ℕ) (callees : ℕ → ℕ) (type : ℕ) (f i a b p f₁ i₁ a₁ b₁ p₁ : List ℕ)
-    (k₁ : length f₁ ≡ length f) (k₂ : length i₁ ≡ length i) (k₃ : length a₁ ≡ length a) (k₄ : length b₁ ≡ length b)
-    (k₅ : length p₁ ≡ length p)
-  where
-    -- the function, in slices as long as those at entry
-    pub unit-done : (o : Verdict) (n : Counts) (s : Slices) → U.Done n ≡ verdictRead o
-        → VerdictHeld ts names callees type (slices f₁ i₁ a₁ b₁ p₁) s o
-        → s ≡ asLong (slices f i a b p) (verdictSlices ts names callees type o)
-    unit-done (accepts x table) n s h g = g ∙ rw (k₁, k₂, k₃, k₄, k₅)
-    unit-done (refuses e) n s h g = absurd (let z : _≡_ {A = ℕ} 0 1 = cc in omega arith)
-
-    -- a refusal, after which they are cleared
-    pub unit-refused : (o : Verdict) (e : Refusal) (s : Slices) → U.Refused e ≡ verdictRead o
-        → s ≡ cleared (slices f₁ i₁ a₁ b₁ p₁)
-        → s ≡ asLong (slices f i a b p) (verdictSlices ts names callees type o)
-    unit-refused (accepts x table) e s h g = absurd (let z : _≡_ {A = ℕ} 0 1 = cc in omega arith)
-    unit-refused (refuses r) e s h g = g ∙ rw (k₁, k₂, k₃, k₄, k₅)

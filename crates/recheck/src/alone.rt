@@ -7,11 +7,11 @@ ghost use Rattle.lexer.specs.Decoded.{tokensOf};
 ghost use Rattle.body.specs.Room.{Within};
 ghost use Rattle.functions.specs.Columns.{typeAt, tableSize};
 ghost use Rattle.functions.specs.Answer.{Long, slices, FunctionHeld};
-ghost use Rattle.unit.specs.Outcome.{none, cleared, asLong, Counted};
+ghost use Rattle.unit.specs.Outcome.{none, cleared, Counted};
 ghost use Rattle.headers.specs.Table.{isTable};
 ghost use Rattle.headers.specs.Spelled.{Named, calleesSpelled};
 ghost use Rattle.utils.specs.Limits.{mostFunctions};
-ghost use Rattle.recheck.specs.Recheck.{aloneD, verdictD, verdictSlices};
+ghost use Rattle.recheck.specs.Recheck.{aloneD, verdictD};
 ghost use Rattle.recheck.specs.Alone.{aloneRead, verdictRead, VerdictHeld, Places};
 use functions::Counts;
 use functions::FunctionRead;
@@ -171,7 +171,7 @@ fn build<'t, 'c>(
     }
 }
 
-// The function, or a refusal, which leaves the slices zero.
+// With room for the old headers.
 pub(crate) fn unit<'t, 'c>(
     old: &'t [u8],
     rows: &'c [u32],
@@ -188,23 +188,24 @@ pub(crate) fn unit<'t, 'c>(
 ) -> ProgramRead
     requires { ⌜ (isTable (now old) (now rows) number ≡ true) × Named (now new) (now names) known
         × Within (tokensOf (now tokens)) 0 × (tableSize ≤ length (now functions))
-        × Long (now items) (now arguments) (now blocks) (now predecessors) ⌝ }
+        × Long (now items) (now arguments) (now blocks) (now predecessors)
+        × (slices (now functions) (now items) (now arguments) (now blocks) (now predecessors)
+        ≡ cleared (slices (now functions) (now items) (now arguments) (now blocks) (now predecessors))) ⌝ }
     ensures { λ r. ⌜ r ≡ verdictRead (verdictD (now (old .entry)) (now (rows .entry)) number (now (new .entry))
         (now (names .entry)) (tokensOf (now (tokens .entry)))) ⌝ }
-    ensures { λ _. ⌜ slices (now (functions .exit)) (now (items .exit)) (now (arguments .exit)) (now (blocks .exit))
-        (now (predecessors .exit))
-        ≡ asLong (slices (now (functions .entry)) (now (items .entry)) (now (arguments .entry)) (now (blocks .entry))
-        (now (predecessors .entry)))
-        (verdictSlices (tokensOf (now (tokens .entry))) (now (names .entry))
+    ensures { λ _. ⌜ VerdictHeld (tokensOf (now (tokens .entry))) (now (names .entry))
         (calleesSpelled (now (old .entry)) (now (rows .entry)) (now (new .entry)) (now (names .entry)))
         (getD (now (rows .entry)) (typeAt number) 0)
+        (slices (now (functions .entry)) (now (items .entry)) (now (arguments .entry)) (now (blocks .entry))
+        (now (predecessors .entry)))
+        (slices (now (functions .exit)) (now (items .exit)) (now (arguments .exit)) (now (blocks .exit))
+        (now (predecessors .exit)))
         (verdictD (now (old .entry)) (now (rows .entry)) number (now (new .entry)) (now (names .entry))
-        (tokensOf (now (tokens .entry))))) ⌝ }
+        (tokensOf (now (tokens .entry)))) ⌝ }
     ensures { λ r. ⌜ Counted r ⌝ }
 {
-    clear::clear_five(functions, items, arguments, blocks, predecessors);
     let mut local = [0u32; columns::TABLE];
-    match build(
+    build(
         old,
         rows,
         number,
@@ -218,11 +219,5 @@ pub(crate) fn unit<'t, 'c>(
         blocks,
         predecessors,
         &mut local,
-    ) {
-        ProgramRead::Done(n) => ProgramRead::Done(n),
-        ProgramRead::Refused(e) => {
-            clear::clear_five(functions, items, arguments, blocks, predecessors);
-            ProgramRead::Refused(e)
-        }
-    }
+    )
 }

@@ -5,10 +5,14 @@ ghost use mathlib.Core.Path.{_≡_};
 ghost use mathlib.Core.Bool.{true};
 ghost use Prim.Native.Nat.{_≤_};
 ghost use lib.ListN.{length, getD};
+ghost use Rattle.lexer.specs.Decoded.{tokensOf};
+ghost use Rattle.lexer.specs.Read.{readFrom};
 ghost use Rattle.functions.specs.Answer.{slices};
 ghost use Rattle.functions.specs.Columns.{lineAt};
 ghost use Rattle.checker.specs.Promise.{checking, padded, Lexed, Sizes};
+ghost use Rattle.headers.specs.Kept.{isWhole};
 ghost use Rattle.headers.specs.Table.{isTable};
+ghost use Rattle.unit.specs.Outcome.{cleared};
 ghost use Rattle.utils.specs.Limits.{messageSize};
 ghost use Rattle.recheck.specs.Recheck.{refusedWith, recheckOf};
 ghost use Rattle.recheck.specs.Promise.{Rechecks};
@@ -53,7 +57,71 @@ fn refuse_all(
     checker::refused(number, line, 0)
 }
 
-// A new text that is read.
+// A new text that is read and begins and ends as one function, into cleared slices.
+fn recheck_whole<'t>(
+    old: &'t [u8],
+    table: &[u32],
+    number: u32,
+    new: &'t [u8],
+    r: ReadAnswer,
+    tokens: &mut [u32],
+    names: &mut [u32],
+    functions: &mut [u32],
+    items: &mut [u32],
+    arguments: &mut [u32],
+    blocks: &mut [u32],
+    predecessors: &mut [u32],
+    message: &mut [u8],
+) -> CheckAnswer
+    requires { ⌜ (isTable (now old) (now table) number ≡ true)
+        × Lexed (getD (now table) (lineAt number) 0) (now new) r (now message) (now tokens) (now names)
+        × (isWhole (now new) (tokensOf (readFrom (getD (now table) (lineAt number) 0) (now new) .tokens)) ≡ true)
+        × Sizes (now message) (now tokens) (now names)
+        (slices (now functions) (now items) (now arguments) (now blocks) (now predecessors))
+        × (slices (now functions) (now items) (now arguments) (now blocks) (now predecessors)
+        ≡ cleared (slices (now functions) (now items) (now arguments) (now blocks) (now predecessors))) ⌝ }
+    ensures { λ res. ⌜ checking res (now (message .exit)) (now (tokens .exit)) (now (names .exit))
+        (slices (now (functions .exit)) (now (items .exit)) (now (arguments .exit)) (now (blocks .exit))
+        (now (predecessors .exit)))
+        ≡ padded (now (message .entry)) (now (tokens .entry)) (now (names .entry))
+        (slices (now (functions .entry)) (now (items .entry)) (now (arguments .entry)) (now (blocks .entry))
+        (now (predecessors .entry)))
+        (recheckOf (now (old .entry)) (now (table .entry)) number (now (new .entry))) ⌝ }
+{
+    let last = r.tokens as usize * TOKEN_CELLS;
+    let end = r.names as usize * NAME_CELLS;
+    match alone::unit(
+        old,
+        table,
+        number as usize,
+        new,
+        &tokens[0..last],
+        &names[0..end],
+        r.names,
+        functions,
+        items,
+        arguments,
+        blocks,
+        predecessors,
+    ) {
+        ProgramRead::Refused(e) => checker::refuse(
+            new,
+            r,
+            tokens,
+            names,
+            functions,
+            items,
+            arguments,
+            blocks,
+            predecessors,
+            message,
+            e,
+        ),
+        ProgramRead::Done(n) => checker::counted(r.tokens, r.names, n),
+    }
+}
+
+// A new text that is read, into cleared slices.
 fn recheck_lexed<'t>(
     old: &'t [u8],
     table: &[u32],
@@ -72,7 +140,9 @@ fn recheck_lexed<'t>(
     requires { ⌜ (isTable (now old) (now table) number ≡ true)
         × Lexed (getD (now table) (lineAt number) 0) (now new) r (now message) (now tokens) (now names)
         × Sizes (now message) (now tokens) (now names)
-        (slices (now functions) (now items) (now arguments) (now blocks) (now predecessors)) ⌝ }
+        (slices (now functions) (now items) (now arguments) (now blocks) (now predecessors))
+        × (slices (now functions) (now items) (now arguments) (now blocks) (now predecessors)
+        ≡ cleared (slices (now functions) (now items) (now arguments) (now blocks) (now predecessors))) ⌝ }
     ensures { λ res. ⌜ checking res (now (message .exit)) (now (tokens .exit)) (now (names .exit))
         (slices (now (functions .exit)) (now (items .exit)) (now (arguments .exit)) (now (blocks .exit))
         (now (predecessors .exit)))
@@ -82,12 +152,13 @@ fn recheck_lexed<'t>(
         (recheckOf (now (old .entry)) (now (table .entry)) number (now (new .entry))) ⌝ }
 {
     let last = r.tokens as usize * TOKEN_CELLS;
-    let end = r.names as usize * NAME_CELLS;
-    if !kept::is_whole(new, &tokens[0..last]) {
-        let line = Location(cell_at(table, columns::LINE + number as usize * columns::ROW));
-        return refuse_all(
-            numbers::NOT_ONE_FUNCTION,
-            line,
+    if kept::is_whole(new, &tokens[0..last]) {
+        return recheck_whole(
+            old,
+            table,
+            number,
+            new,
+            r,
             tokens,
             names,
             functions,
@@ -98,23 +169,19 @@ fn recheck_lexed<'t>(
             message,
         );
     }
-    match alone::unit(
-        old,
-        table,
-        number as usize,
-        new,
-        &tokens[0..last],
-        &names[0..end],
-        r.names,
+    let line = Location(cell_at(table, columns::LINE + number as usize * columns::ROW));
+    refuse_all(
+        numbers::NOT_ONE_FUNCTION,
+        line,
+        tokens,
+        names,
         functions,
         items,
         arguments,
         blocks,
         predecessors,
-    ) {
-        ProgramRead::Refused(e) => checker::refuse(new, r, tokens, names, message, e),
-        ProgramRead::Done(n) => checker::counted(r.tokens, r.names, n),
-    }
+        message,
+    )
 }
 
 // Slices that have their sizes.
@@ -158,6 +225,7 @@ fn recheck_sized<'t>(
     }
     let line = cell_at(table, columns::LINE + number as usize * columns::ROW);
     let r = lexer::read_from(new, line, tokens, names, message);
+    clear::clear_five(functions, items, arguments, blocks, predecessors);
     if r.number == numbers::ACCEPTED {
         return recheck_lexed(
             old,
@@ -175,7 +243,6 @@ fn recheck_sized<'t>(
             message,
         );
     }
-    clear::clear_five(functions, items, arguments, blocks, predecessors);
     checker::refused(r.number, Location(r.line), r.place)
 }
 

@@ -31,7 +31,7 @@ use Rattle.sema.proofs.Rows.{globals-stored}
 use Rattle.elaborate.specs.Types.{calleeIn, typedItemsCells, typedArgumentsCells}
 use Rattle.elaborate.proofs.Lists.{length-typed-items, length-typed-arguments}
 use Rattle.elaborate.proofs.Rows.{callees-stored}
-use Rattle.unit.specs.Outcome.{untyped, UnitOutcome, checked, refused, unitD, unitRead, unitSlices, none}
+use Rattle.unit.specs.Outcome.{untyped, checked, refused, unitD, unitRead, unitSlices, none}
 use Rattle.unit.specs.Outcome.{asLong, cleared}
 use Rattle.unit.specs.Outcome.{tablesOf, allItems, allArguments, UnitHeld, Counted}
 use Rattle.unit.specs.Rows.{Done, typedRows, RowsFit, HeldBy, RowsHeld}
@@ -300,42 +300,27 @@ module _ (ts : List Tok) (names f i a b p : List ℕ) where
           rw (u, at-end .1)
           (refl, (written h, (v .functions-few, v .items-few, v .arguments-few, v .blocks-few, v .predecessors-few)))
 
--- Slices that are cleared before and after. -------------------------------------------------------------------------
+-- Slices that are cleared before. -----------------------------------------------------------------------------------
 
-module _ (s₀ s₁ : Slices) (clear-is : s₁ ≡ cleared s₀) where
-  as-long-same : (x : Slices) → asLong s₁ x ≡ asLong s₀ x
-  as-long-same x =
-      ap (λ (s : Slices). asLong s x) clear-is
-      ∙ rw (
-        length-padTo (length (s₀ .functions)) [] (omega arith),
-        length-padTo (length (s₀ .items)) [] (omega arith),
-        length-padTo (length (s₀ .arguments)) [] (omega arith),
-        length-padTo (length (s₀ .blocks)) [] (omega arith),
-        length-padTo (length (s₀ .predecessors)) [] (omega arith),
-      )
+-- slices as long as others
+pub same-long : (s₁ s : Slices) → length (s₁ .functions) ≡ length (s .functions)
+    → length (s₁ .items) ≡ length (s .items) → length (s₁ .arguments) ≡ length (s .arguments)
+    → length (s₁ .blocks) ≡ length (s .blocks) → length (s₁ .predecessors) ≡ length (s .predecessors)
+    → (x : Slices) → asLong s₁ x ≡ asLong s x
+same-long s₁ s k₁ k₂ k₃ k₄ k₅ x = rw (k₁, k₂, k₃, k₄, k₅)
 
-  pub zero-now : s₁ ≡ cleared s₁
-  zero-now = clear-is ∙ sym (as-long-same (slices [] [] [] [] []))
+-- what is padded to cleared slices is padded to those before
+pub as-cleared : (s₀ s₁ : Slices) → s₁ ≡ cleared s₀ → (x : Slices) → asLong s₁ x ≡ asLong s₀ x
+as-cleared s₀ s₁ clear-is x =
+    ap (λ (s : Slices). asLong s x) clear-is
+    ∙ rw (
+      length-padTo (length (s₀ .functions)) [] (omega arith),
+      length-padTo (length (s₀ .items)) [] (omega arith),
+      length-padTo (length (s₀ .arguments)) [] (omega arith),
+      length-padTo (length (s₀ .blocks)) [] (omega arith),
+      length-padTo (length (s₀ .predecessors)) [] (omega arith),
+    )
 
-  module _ (ts : List Tok) (names : List ℕ) (s₂ : Slices) where
-    done-by : (o : UnitOutcome) (n : Counts) → U.Done n ≡ unitRead o → UnitHeld ts names s₁ s₂ o
-        → s₂ ≡ asLong s₀ (unitSlices ts names o)
-    done-by (checked gs) n h g = g ∙ as-long-same (unitSlices ts names (checked gs))
-    done-by (refused e) n h g = absurd (let z : _≡_ {A = ℕ} 0 1 = cc in omega arith)
-
-    pub unit-done : (n : Counts) → U.Done n ≡ unitRead (unitD ts) → UnitHeld ts names s₁ s₂ (unitD ts)
-        → s₂ ≡ asLong s₀ (unitSlices ts names (unitD ts))
-    unit-done = done-by (unitD ts)
-
--- the same of slices as long
-pub unit-refused : (ts : List Tok) (names : List ℕ) (f i a b p f₂ i₂ a₂ b₂ p₂ : List ℕ) (s₃ : Slices) (e : Refusal)
-    → U.Refused e ≡ unitRead (unitD ts) → s₃ ≡ cleared (slices f₂ i₂ a₂ b₂ p₂)
-    → length f₂ ≡ length f → length i₂ ≡ length i → length a₂ ≡ length a → length b₂ ≡ length b → length p₂ ≡ length p
-    → s₃ ≡ asLong (slices f i a b p) (unitSlices ts names (unitD ts))
-unit-refused ts names f i a b p f₂ i₂ a₂ b₂ p₂ s₃ e h g k₁ k₂ k₃ k₄ k₅ =
-    g ∙ rw (k₁, k₂, k₃, k₄, k₅) (sym (empty (unitD ts) h))
-  where
-    empty : (o : UnitOutcome) → U.Refused e ≡ unitRead o
-        → asLong (slices f i a b p) (unitSlices ts names o) ≡ cleared (slices f i a b p)
-    empty (checked gs) q = absurd (let z : _≡_ {A = ℕ} 0 1 = cc in omega arith)
-    empty (refused r) q = refl
+-- cleared slices are clear
+pub zero-now : (s₀ s₁ : Slices) → s₁ ≡ cleared s₀ → s₁ ≡ cleared s₁
+zero-now s₀ s₁ clear-is = clear-is ∙ sym (as-cleared s₀ s₁ clear-is (slices [] [] [] [] []))

@@ -9,12 +9,13 @@ ghost use Rattle.lexer.specs.Decoded.{tokensOf};
 ghost use Rattle.body.specs.Room.{Within};
 ghost use Rattle.functions.specs.Answer.{Long, slices};
 ghost use Rattle.functions.specs.Columns.{tableSize};
-ghost use Rattle.unit.specs.Outcome.{cleared, asLong, unitD, unitRead, unitSlices, Counted, UnitHeld};
+ghost use Rattle.unit.specs.Outcome.{cleared, unitD, unitRead, Counted, UnitHeld};
 use functions::ProgramRead;
 use sema::Checked;
 
-// Parses into cleared slices, then types. A refusal says nothing of the slices.
-fn build(
+// The functions of a text: parsed into cleared slices, then typed. A refusal says nothing of the slices, which the
+// caller clears.
+pub fn unit(
     tokens: &[u32],
     names: &[u32],
     functions: &mut [u32],
@@ -60,44 +61,6 @@ fn build(
                 Checked::Refused(e) => ProgramRead::Refused(e),
                 Checked::Fine => ProgramRead::Done(n),
             }
-        }
-    }
-}
-
-// The functions of a text with their types, or a refusal, which leaves the slices zero.
-pub fn unit(
-    tokens: &[u32],
-    names: &[u32],
-    functions: &mut [u32],
-    items: &mut [u32],
-    arguments: &mut [u32],
-    blocks: &mut [u32],
-    predecessors: &mut [u32],
-) -> ProgramRead
-    requires { ⌜ Within (tokensOf (now tokens)) 0 × (tableSize ≤ length (now functions))
-        × Long (now items) (now arguments) (now blocks) (now predecessors) ⌝ }
-    ensures { λ r. ⌜ r ≡ unitRead (unitD (tokensOf (now (tokens .entry)))) ⌝ }
-    ensures { λ _. ⌜ slices (now (functions .exit)) (now (items .exit)) (now (arguments .exit)) (now (blocks .exit))
-        (now (predecessors .exit))
-        ≡ asLong (slices (now (functions .entry)) (now (items .entry)) (now (arguments .entry)) (now (blocks .entry))
-        (now (predecessors .entry)))
-        (unitSlices (tokensOf (now (tokens .entry))) (now (names .entry)) (unitD (tokensOf (now (tokens .entry))))) ⌝ }
-    ensures { λ r. ⌜ Counted r ⌝ }
-{
-    clear::clear_five(functions, items, arguments, blocks, predecessors);
-    match build(
-        tokens,
-        names,
-        functions,
-        items,
-        arguments,
-        blocks,
-        predecessors,
-    ) {
-        ProgramRead::Done(n) => ProgramRead::Done(n),
-        ProgramRead::Refused(e) => {
-            clear::clear_five(functions, items, arguments, blocks, predecessors);
-            ProgramRead::Refused(e)
         }
     }
 }

@@ -21,54 +21,6 @@ check-sized-requires c κs =
     (now (a .arguments)) (now (a .blocks)) (now (a .predecessors))) (fits-unit .result) (fits2 .result) (if1 .taken)
     (fits2 .ensures .1) (fits-unit .ensures .1)
 
-same-length : tie.Need-same-length
-same-length c =
-    let back8 = c .before .before .before .before .before .before .before .before in
-    let check-sized = back8 .before .before .before .before .before .before .before .before .check-sized in
-    check-sized .kept .1 .0
-
-same-length-2 : tie.Need-same-length-2
-same-length-2 c =
-    let back8 = c .before .before .before .before .before .before .before .before in
-    let check-sized = back8 .before .before .before .before .before .before .before .before .check-sized in
-    check-sized .kept .1 .1 .0
-
-same-length-3 : tie.Need-same-length-3
-same-length-3 c =
-    let back8 = c .before .before .before .before .before .before .before .before in
-    let check-sized = back8 .before .before .before .before .before .before .before .before .check-sized in
-    check-sized .kept .1 .1 .1 .0
-
-same-length-4 : tie.Need-same-length-4
-same-length-4 c =
-    let back8 = c .before .before .before .before .before .before .before .before in
-    let check-sized = back8 .before .before .before .before .before .before .before .before .check-sized in
-    check-sized .kept .1 .1 .1 .1 .0
-
-same-length-5 : tie.Need-same-length-5
-same-length-5 c =
-    let back8 = c .before .before .before .before .before .before .before .before in
-    let check-sized = back8 .before .before .before .before .before .before .before .before .check-sized in
-    check-sized .kept .1 .1 .1 .1 .1 .0
-
-same-length-6 : tie.Need-same-length-6
-same-length-6 c =
-    let back8 = c .before .before .before .before .before .before .before .before in
-    let check-sized = back8 .before .before .before .before .before .before .before .before .check-sized in
-    check-sized .kept .1 .1 .1 .1 .1 .1 .0
-
-same-length-7 : tie.Need-same-length-7
-same-length-7 c =
-    let back8 = c .before .before .before .before .before .before .before .before in
-    let check-sized = back8 .before .before .before .before .before .before .before .before .check-sized in
-    check-sized .kept .1 .1 .1 .1 .1 .1 .1 .0
-
-same-length-8 : tie.Need-same-length-8
-same-length-8 c =
-    let back8 = c .before .before .before .before .before .before .before .before in
-    let check-sized = back8 .before .before .before .before .before .before .before .before .check-sized in
-    check-sized .kept .1 .1 .1 .1 .1 .1 .1 .1 .0
-
 returns : tie.Need-returns
 unfolding checkDef
 returns c =
@@ -100,6 +52,6 @@ returns-2 c =
 pub check-spec : {M : Type 1} → statement M
 check-spec =
     tie.close
-    (tie.spec (λ c κs. search needs) (λ c κs. search needs) check-sized-requires same-length same-length-2
-    same-length-3 same-length-4 same-length-5 same-length-6 same-length-7 same-length-8 returns (λ c κs. search needs)
-    returns-2)
+    (tie.spec (λ c κs. search needs) (λ c κs. search needs) check-sized-requires (λ c. search needs)
+    (λ c. search needs) (λ c. search needs) (λ c. search needs) (λ c. search needs) (λ c. search needs)
+    (λ c. search needs) (λ c. search needs) returns (λ c κs. search needs) returns-2)

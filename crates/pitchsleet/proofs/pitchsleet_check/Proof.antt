@@ -11,12 +11,12 @@ use Rattle.pitchsleet.proofs.pitchsleet_check.Tie as tie
 returns : tie.Need-returns
 unfolding exportDef pick
 returns c =
-    by-parts (rw (lt-ltb _ 252228 (c .before .if1 .taken), c .short .ensures))
+    by-parts (rw (lt-ltb _ 252228 (c .before .if1 .taken), c .refused .ensures))
 
 returns-2 : tie.Need-returns-2
 unfolding exportDef pick
 returns-2 c =
-    by-parts (rw (le-ltb _ _ (c .before .before .if1 .left), lt-ltb _ _ (c .before .if2 .taken), c .short2 .ensures))
+    by-parts (rw (le-ltb _ _ (c .before .before .if1 .left), lt-ltb _ _ (c .before .if2 .taken), c .refused2 .ensures))
 
 same-length : tie.Need-same-length
 same-length c =

@@ -11,14 +11,14 @@ returns : tie.Need-returns
 unfolding recheckDef pick
 returns c =
     let if1 = c .before .if1 in
-    by-parts (rw (lt-ltb _ 252228 (if1 .taken), c .short .ensures))
+    by-parts (rw (lt-ltb _ 252228 (if1 .taken), c .refused .ensures))
 
 returns-2 : tie.Need-returns-2
 unfolding recheckDef pick
 returns-2 c =
     let if1 = c .before .before .if1 in
     let if2 = c .before .if2 in
-    by-parts (rw (le-ltb _ _ (if1 .left), lt-ltb _ _ (if2 .taken), c .short2 .ensures))
+    by-parts (rw (le-ltb _ _ (if1 .left), lt-ltb _ _ (if2 .taken), c .refused2 .ensures))
 
 returns-3 : tie.Need-returns-3
 unfolding recheckDef pick

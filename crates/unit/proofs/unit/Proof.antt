@@ -1,151 +1,93 @@
--- Clearing keeps the lengths, so what `build` stores in cleared slices is padded to those at entry (`unit-done`). On a
--- refusal `build` promises nothing of them, and clearing them again gives the refusal's empty slices (`unit-refused`).
+-- The slices that parsing leaves are what typing asks, and each return is the outcome of both: the first refusal, or
+-- all functions with their types.
+use borrow.Author.Needs.{needs}
 use native.Mathlib.Omega.{arith}
-use mathlib.Core.Path.{sym, subst, _∙_}
+use mathlib.Core.Path.{sym, _∙_}
 use denote.Ref.{now}
 use Rattle.lexer.specs.Decoded.{tokensOf}
-use Rattle.functions.specs.Answer.{slices}
-use Rattle.unit.specs.Outcome.{Counted}
-use Rattle.unit.proofs.Building.{zero-now, unit-done, unit-refused}
-use borrow.Author.Needs.{needs}
+use Rattle.unit.proofs.Building.{refused-whole, parse-refuses, few, rows-fit, types-refuse, fine-whole}
 use Rattle.unit.proofs.unit.Statement.{statement}
 use Rattle.unit.proofs.unit.Tie as tie
 
-build-requires : tie.Need-build-requires
-build-requires c κs =
+type-rows-requires : tie.Need-type-rows-requires
+type-rows-requires c κs =
     let back8 = c .before .before .before .before .before .before .before .before in
-    let clear-five = back8 .before .before .before .before .before .before .before .clear-five in
     let back16 = back8 .before .before .before .before .before .before .before .before in
     let back24 = back16 .before .before .before .before .before .before .before .before in
-    let pre = back24 .before .before .before .before .pre in
-    let a = back24 .before .before .before .before .args in (
-      pre .0,
-      omega (arith, pre .1, clear-five .kept .0),
-      record {
-        items-long = omega (arith, pre .2 .items-long, clear-five .kept .1 .0);
-        arguments-long = omega (arith, pre .2 .arguments-long, clear-five .kept .1 .1 .0);
-        blocks-long = omega (arith, pre .2 .blocks-long, clear-five .kept .1 .1 .1 .0);
-        predecessors-long = omega (arith, pre .2 .predecessors-long, clear-five .kept .1 .1 .1 .1 .0);
-      },
-      zero-now (slices (now (a .functions)) (now (a .items)) (now (a .arguments)) (now (a .blocks))
-          (now (a .predecessors))) _ (clear-five .ensures),
+    let a = back24 .before .before .before .before .before .before .args in
+    let pre = back24 .before .before .before .before .before .before .pre in
+    let parse = back16 .before .parse in
+    let n = c .before .before .before .before .before .n in
+    let m =
+    few (tokensOf (now (a .tokens))) (now (a .names)) (now (a .functions)) (now (a .items)) (now (a .arguments))
+    (now (a .blocks)) (now (a .predecessors)) (pre .1) (pre .2) (pre .3) (parse .ensures .1 .1) (n .given .0 .0)
+    (sym (n .given .1) ∙ parse .ensures .0) _ _ _ _ _ (parse .ensures .1 .0) in (
+      m,
+      omega (arith, m),
+      omega (arith, pre .1, parse .kept .1 .1 .0),
+      rows-fit (tokensOf (now (a .tokens))) (now (a .names)) (now (a .functions)) (now (a .items)) (now (a .arguments))
+          (now (a .blocks)) (now (a .predecessors)) (pre .1) (pre .2) (pre .3) (parse .ensures .1 .1) (n .given .0 .0)
+          (sym (n .given .1) ∙ parse .ensures .0) _ _ _ _ _ (parse .ensures .1 .0),
     )
 
 returns : tie.Need-returns
 returns c =
-    let n = c .before .n in
     let back8 = c .before .before .before .before .before .before .before .before in
-    let build = back8 .before .before .before .before .before .build in
     let back16 = back8 .before .before .before .before .before .before .before .before in
     let back24 = back16 .before .before .before .before .before .before .before .before in
-    let clear-five = back24 .before .before .before .before .before .clear-five in
-    let back32 = back24 .before .before .before .before .before .before .before .before in
-    let back40 = back32 .before .before .before .before .before .before .before .before in
-    let a = back40 .before .before .args in
-    let done = sym (n .given .1) ∙ build .ensures .0 in (
-      done,
-      (
-        unit-done (slices (now (a .functions)) (now (a .items)) (now (a .arguments)) (now (a .blocks))
-            (now (a .predecessors))) _ (clear-five .ensures) (tokensOf (now (a .tokens))) (now (a .names)) _ _ done
-            (build .ensures .1 .0),
-        subst Counted (n .given .1) (build .ensures .1 .1),
-      ),
-    )
-
-same-length-6 : tie.Need-same-length-6
-same-length-6 c =
-    let back8 = c .before .before .before .before .before .before .before .before in
-    let clear-five2 = back8 .before .before .clear-five2 in
-    let back16 = back8 .before .before .before .before .before .before .before .before in
-    let back24 = back16 .before .before .before .before .before .before .before .before in
-    let build = back24 .before .before .before .before .before .build in
-    let back32 = back24 .before .before .before .before .before .before .before .before in
-    let back40 = back32 .before .before .before .before .before .before .before .before in
-    let clear-five = back40 .before .before .before .before .before .clear-five in
-    clear-five2 .kept .0 ∙ build .kept .1 .1 .0 ∙ clear-five .kept .0
-
-same-length-7 : tie.Need-same-length-7
-same-length-7 c =
-    let back8 = c .before .before .before .before .before .before .before .before in
-    let clear-five2 = back8 .before .before .clear-five2 in
-    let back16 = back8 .before .before .before .before .before .before .before .before in
-    let back24 = back16 .before .before .before .before .before .before .before .before in
-    let build = back24 .before .before .before .before .before .build in
-    let back32 = back24 .before .before .before .before .before .before .before .before in
-    let back40 = back32 .before .before .before .before .before .before .before .before in
-    let clear-five = back40 .before .before .before .before .before .clear-five in
-    clear-five2 .kept .1 .0 ∙ build .kept .1 .1 .1 .0 ∙ clear-five .kept .1 .0
-
-same-length-8 : tie.Need-same-length-8
-same-length-8 c =
-    let back8 = c .before .before .before .before .before .before .before .before in
-    let clear-five2 = back8 .before .before .clear-five2 in
-    let back16 = back8 .before .before .before .before .before .before .before .before in
-    let back24 = back16 .before .before .before .before .before .before .before .before in
-    let build = back24 .before .before .before .before .before .build in
-    let back32 = back24 .before .before .before .before .before .before .before .before in
-    let back40 = back32 .before .before .before .before .before .before .before .before in
-    let clear-five = back40 .before .before .before .before .before .clear-five in
-    clear-five2 .kept .1 .1 .0 ∙ build .kept .1 .1 .1 .1 .0 ∙ clear-five .kept .1 .1 .0
-
-same-length-9 : tie.Need-same-length-9
-same-length-9 c =
-    let back8 = c .before .before .before .before .before .before .before .before in
-    let clear-five2 = back8 .before .before .clear-five2 in
-    let back16 = back8 .before .before .before .before .before .before .before .before in
-    let back24 = back16 .before .before .before .before .before .before .before .before in
-    let build = back24 .before .before .before .before .before .build in
-    let back32 = back24 .before .before .before .before .before .before .before .before in
-    let back40 = back32 .before .before .before .before .before .before .before .before in
-    let clear-five = back40 .before .before .before .before .before .clear-five in
-    clear-five2 .kept .1 .1 .1 .0 ∙ build .kept .1 .1 .1 .1 .1 .0 ∙ clear-five .kept .1 .1 .1 .0
-
-same-length-10 : tie.Need-same-length-10
-same-length-10 c =
-    let back8 = c .before .before .before .before .before .before .before .before in
-    let clear-five2 = back8 .before .before .clear-five2 in
-    let back16 = back8 .before .before .before .before .before .before .before .before in
-    let back24 = back16 .before .before .before .before .before .before .before .before in
-    let build = back24 .before .before .before .before .before .build in
-    let back32 = back24 .before .before .before .before .before .before .before .before in
-    let back40 = back32 .before .before .before .before .before .before .before .before in
-    let clear-five = back40 .before .before .before .before .before .clear-five in
-    clear-five2 .kept .1 .1 .1 .1 .0 ∙ build .kept .1 .1 .1 .1 .1 .1 .0 ∙ clear-five .kept .1 .1 .1 .1 .0
+    let a = back24 .before .before .args in
+    let parse = back8 .before .before .before .before .before .parse in
+    let e = c .before .e in
+    refused-whole (tokensOf (now (a .tokens))) (now (a .names)) (now (a .functions)) (now (a .items))
+    (now (a .arguments)) (now (a .blocks)) (now (a .predecessors))
+    (parse-refuses (tokensOf (now (a .tokens))) (now (a .names)) (now (a .functions)) (now (a .items))
+    (now (a .arguments)) (now (a .blocks)) (now (a .predecessors)) _ (sym (e .given .1) ∙ parse .ensures .0)) _
 
 returns-2 : tie.Need-returns-2
 returns-2 c =
     let back8 = c .before .before .before .before .before .before .before .before in
-    let clear-five2 = back8 .before .before .clear-five2 in
     let back16 = back8 .before .before .before .before .before .before .before .before in
-    let e = back16 .before .e in
     let back24 = back16 .before .before .before .before .before .before .before .before in
-    let build = back24 .before .before .before .before .before .build in
     let back32 = back24 .before .before .before .before .before .before .before .before in
-    let back40 = back32 .before .before .before .before .before .before .before .before in
-    let clear-five = back40 .before .before .before .before .before .clear-five in
-    let back48 = back40 .before .before .before .before .before .before .before .before in
-    let back56 = back48 .before .before .before .before .before .before .before .before in
-    let a = back56 .before .before .args in
-    let refused = sym (e .given .1) ∙ build .ensures .0 in (
-      refused,
-      (
-        unit-refused (tokensOf (now (a .tokens))) (now (a .names)) (now (a .functions)) (now (a .items))
-            (now (a .arguments))
-            (now (a .blocks)) (now (a .predecessors)) (build .last .1 .1 .0) (build .last .1 .1 .1 .0)
-            (build .last .1 .1 .1 .1 .0) (build .last .1 .1 .1 .1 .1 .0) (build .last .1 .1 .1 .1 .1 .1 .0) _ _
-            refused (clear-five2 .ensures)
-            (build .kept .1 .1 .0 ∙ clear-five .kept .0)
-            (build .kept .1 .1 .1 .0 ∙ clear-five .kept .1 .0)
-            (build .kept .1 .1 .1 .1 .0 ∙ clear-five .kept .1 .1 .0)
-            (build .kept .1 .1 .1 .1 .1 .0 ∙ clear-five .kept .1 .1 .1 .0)
-            (build .kept .1 .1 .1 .1 .1 .1 .0 ∙ clear-five .kept .1 .1 .1 .1 .0),
-        tt,
-      ),
-    )
+    let a = back32 .before .before .before .before .before .before .args in
+    let pre = back32 .before .before .before .before .before .before .pre in
+    let parse = back24 .before .parse in
+    let n = back8 .before .before .before .before .before .n in
+    let types = c .before .before .before .before .before .before .before .type-rows in
+    let e = c .before .e2 in
+    refused-whole (tokensOf (now (a .tokens))) (now (a .names)) (now (a .functions)) (now (a .items))
+    (now (a .arguments)) (now (a .blocks)) (now (a .predecessors))
+    (types-refuse (tokensOf (now (a .tokens))) (now (a .names)) (now (a .functions)) (now (a .items))
+    (now (a .arguments)) (now (a .blocks)) (now (a .predecessors)) (pre .1) (pre .2) (pre .3) (parse .ensures .1 .1)
+    (n .given .0 .0) (sym (n .given .1) ∙ parse .ensures .0) _ _ _ _ _ (parse .ensures .1 .0) _ _ _ (types .ensures) _
+    (e .given .1)) _
+
+returns-3 : tie.Need-returns-3
+returns-3 c =
+    let back8 = c .before .before .before .before .before .before .before .before in
+    let back16 = back8 .before .before .before .before .before .before .before .before in
+    let back24 = back16 .before .before .before .before .before .before .before .before in
+    let back32 = back24 .before .before .before .before .before .before .before .before in
+    let a = back32 .before .before .before .before .before .args in
+    let pre = back32 .before .before .before .before .before .pre in
+    let parse = back16 .before .before .before .before .before .before .before .before .parse in
+    let n = back8 .before .before .before .before .n in
+    let types = c .before .before .before .before .before .before .type-rows in
+    let fine = c .enum-told in
+    fine-whole (tokensOf (now (a .tokens))) (now (a .names)) (now (a .functions)) (now (a .items)) (now (a .arguments))
+    (now (a .blocks)) (now (a .predecessors)) (pre .1) (pre .2) (pre .3) (parse .ensures .1 .1) (n .given .0 .0)
+    (sym (n .given .1) ∙ parse .ensures .0) _ _ _ _ _ (parse .ensures .1 .0) _ _ _ (types .ensures) (fine .given .1)
 
 pub unit-spec : {M : Type 1} → statement M
 unit-spec =
     tie.close
-    (tie.spec (λ c κs. search needs) build-requires (λ c. search needs) (λ c. search needs) (λ c κs. search needs)
-    (λ c. search needs) (λ c. search needs) (λ c. search needs) (λ c. search needs) (λ c. search needs) returns
-    same-length-6 same-length-7 same-length-8 same-length-9 same-length-10 returns-2)
+    (tie.spec
+    (λ c κs. search needs) (λ c. search needs) (λ c. search needs)
+    type-rows-requires
+    (λ c. search needs) (λ c. search needs)
+    (λ c. search needs) (λ c. search needs) (λ c. search needs) (λ c. search needs) (λ c. search needs)
+    returns
+    (λ c. search needs) (λ c. search needs) (λ c. search needs) (λ c. search needs) (λ c. search needs)
+    returns-2
+    (λ c. search needs) (λ c. search needs) (λ c. search needs) (λ c. search needs) (λ c. search needs)
+    returns-3)

@@ -15,6 +15,32 @@ use Rattle.recheck.proofs.Building.{types-fine}
 use Rattle.recheck.proofs.alone.build.Statement.{statement}
 use Rattle.recheck.proofs.alone.build.Tie as tie
 
+-- From the ends back to the calls, and to the start.
+
+abbrev to-types : tie.After-known-told3 → tie.After-type-rows
+to-types c = search
+
+abbrev from-fine : tie.After-enum-told → tie.After-type-rows
+from-fine c = search
+
+abbrev to-place : tie.After-type-rows → tie.After-place-alone
+to-place c = search
+
+abbrev to-n : tie.After-place-alone → tie.After-n
+to-n c = search
+
+abbrev to-parse : tie.After-place-alone → tie.After-parse-alone
+to-parse c = search
+
+abbrev to-else : tie.After-parse-alone → tie.Else1
+to-else c = search
+
+abbrev to-keeps : tie.After-parse-alone → tie.After-keeps
+to-keeps c = search
+
+abbrev to-start : tie.After-keeps → tie.Start
+to-start c = search
+
 keeps-requires : tie.Need-keeps-requires
 keeps-requires c κs =
     let back8 = c .before .before .before .before .before .before .before .before in
@@ -38,14 +64,12 @@ returns c =
 
 place-alone-requires : tie.Need-place-alone-requires
 place-alone-requires c κs =
-    let back8 = c .before .before .before .before .before .before .before .before in
-    let back16 = back8 .before .before .before .before .before .before .before .before in
-    let back24 = back16 .before .before .before .before .before .before .before .before in
-    let back32 = back24 .before .before .before .before .before .before .before .before in
-    let a = back32 .before .before .before .before .before .args in
-    let pre = back32 .before .before .before .before .before .pre in
-    let keeps = back24 .keeps in
-    let parse = back8 .before .before .before .before .before .before .before .parse-alone in
+    let parsing : tie.After-parse-alone = search in
+    let parse = parsing .parse-alone in
+    let keeps = to-keeps parsing .keeps in
+    let start = to-start (to-keeps parsing) in
+    let a = start .args in
+    let pre = start .pre in
     let t = table-in-range (now (a .old)) (now (a .rows)) (a .number) (pre .0) in (
       t .there,
       t .in-range .count,
@@ -55,18 +79,16 @@ place-alone-requires c κs =
 
 type-rows-requires : tie.Need-type-rows-requires
 type-rows-requires c κs =
-    let back8 = c .before .before .before .before .before .before .before .before in
-    let back16 = back8 .before .before .before .before .before .before .before .before in
-    let back24 = back16 .before .before .before .before .before .before .before .before in
-    let back32 = back24 .before .before .before .before .before .before .before .before in
-    let back40 = back32 .before .before .before .before .before .before .before .before in
-    let a = back40 .before .before .before .before .before .before .args in
-    let pre = back40 .before .before .before .before .before .before .pre in
-    let keeps = back32 .before .keeps in
-    let same = back24 .before .before .before .before .before .before .if1 in
-    let parse = back24 .parse-alone in
-    let n = back8 .before .before .before .before .n in
-    let place = back8 .place-alone in
+    let placed : tie.After-place-alone = search in
+    let place = placed .place-alone in
+    let n = to-n placed .n in
+    let parsing = to-parse placed in
+    let parse = parsing .parse-alone in
+    let same = to-else parsing .if1 in
+    let keeps = to-keeps parsing .keeps in
+    let start = to-start (to-keeps parsing) in
+    let a = start .args in
+    let pre = start .pre in
     let kept = sym (keeps .ensures) ∙ not-false (keeps .result) (same .left) in
     let parsed =
     parsed-is (tokensOf (now (a .tokens))) (now (a .names)) (n .given .0 .0)
@@ -88,14 +110,11 @@ type-rows-requires c κs =
 
 returns-2 : tie.Need-returns-2
 returns-2 c =
-    let back8 = c .before .before .before .before .before .before .before .before in
-    let back16 = back8 .before .before .before .before .before .before .before .before in
-    let back24 = back16 .before .before .before .before .before .before .before .before in
-    let back32 = back24 .before .before .before .before .before .before .before .before in
-    let a = back32 .before .before .before .args in
-    let keeps = back16 .before .before .before .before .before .before .keeps in
-    let same = back16 .before .before .before .if1 in
-    let parse = back8 .before .before .before .before .before .parse-alone in
+    let parsing : tie.After-parse-alone = search in
+    let parse = parsing .parse-alone in
+    let same = to-else parsing .if1 in
+    let keeps = to-keeps parsing .keeps in
+    let a = to-start (to-keeps parsing) .args in
     let e = c .before .e in
     let kept = sym (keeps .ensures) ∙ not-false (keeps .result) (same .left) in
     parse-refused (now (a .old)) (now (a .rows)) (a .number) (now (a .new)) (tokensOf (now (a .tokens)))
@@ -105,21 +124,19 @@ returns-2 c =
 
 returns-3 : tie.Need-returns-3
 returns-3 c =
-    let back8 = c .before .before .before .before .before .before .before .before in
-    let back16 = back8 .before .before .before .before .before .before .before .before in
-    let back24 = back16 .before .before .before .before .before .before .before .before in
-    let back32 = back24 .before .before .before .before .before .before .before .before in
-    let back40 = back32 .before .before .before .before .before .before .before .before in
-    let back48 = back40 .before .before .before .before .before .before .before .before in
-    let a = back48 .before .before .before .before .before .before .args in
-    let pre = back48 .before .before .before .before .before .before .pre in
-    let keeps = back40 .before .keeps in
-    let same = back32 .before .before .before .before .before .before .if1 in
-    let parse = back32 .parse-alone in
-    let n = back16 .before .before .before .before .n in
-    let place = back16 .place-alone in
-    let types = c .before .before .before .before .before .before .before .type-rows in
+    let typed = to-types c in
+    let types = typed .type-rows in
+    let placed = to-place typed in
+    let place = placed .place-alone in
     let e = c .before .e2 in
+    let n = to-n placed .n in
+    let parsing = to-parse placed in
+    let parse = parsing .parse-alone in
+    let same = to-else parsing .if1 in
+    let keeps = to-keeps parsing .keeps in
+    let start = to-start (to-keeps parsing) in
+    let a = start .args in
+    let pre = start .pre in
     let kept = sym (keeps .ensures) ∙ not-false (keeps .result) (same .left) in
     let parsed =
     parsed-is (tokensOf (now (a .tokens))) (now (a .names)) (n .given .0 .0)
@@ -143,21 +160,19 @@ returns-3 c =
 
 returns-4 : tie.Need-returns-4
 returns-4 c =
-    let back8 = c .before .before .before .before .before .before .before .before in
-    let back16 = back8 .before .before .before .before .before .before .before .before in
-    let back24 = back16 .before .before .before .before .before .before .before .before in
-    let back32 = back24 .before .before .before .before .before .before .before .before in
-    let back40 = back32 .before .before .before .before .before .before .before .before in
-    let back48 = back40 .before .before .before .before .before .before .before .before in
-    let a = back48 .before .before .before .before .before .args in
-    let pre = back48 .before .before .before .before .before .pre in
-    let keeps = back40 .keeps in
-    let same = back32 .before .before .before .before .before .if1 in
-    let parse = back24 .before .before .before .before .before .before .before .parse-alone in
-    let n = back16 .before .before .before .n in
-    let place = back8 .before .before .before .before .before .before .before .place-alone in
-    let types = c .before .before .before .before .before .before .type-rows in
+    let typed = from-fine c in
+    let types = typed .type-rows in
+    let placed = to-place typed in
+    let place = placed .place-alone in
     let fine = c .enum-told in
+    let n = to-n placed .n in
+    let parsing = to-parse placed in
+    let parse = parsing .parse-alone in
+    let same = to-else parsing .if1 in
+    let keeps = to-keeps parsing .keeps in
+    let start = to-start (to-keeps parsing) in
+    let a = start .args in
+    let pre = start .pre in
     let kept = sym (keeps .ensures) ∙ not-false (keeps .result) (same .left) in
     let parsed =
     parsed-is (tokensOf (now (a .tokens))) (now (a .names)) (n .given .0 .0)
@@ -178,136 +193,30 @@ returns-4 c =
     (place .ensures)
     (types .result) (types .last .1 .1 .1 .1 .1 .0) (types .last .1 .1 .1 .1 .1 .1 .0) (types .ensures) (fine .given .1)
 
--- Lengths, where a slice went through several calls. ------------------------------------------------------------------
-
-same-length-8 : tie.Need-same-length-8
-same-length-8 c =
-    let back8 = c .before .before .before .before .before .before .before .before in
-    let back16 = back8 .before .before .before .before .before .before .before .before in
-    let back24 = back16 .before .before .before .before .before .before .before .before in
-    let back32 = back24 .before .before .before .before .before .before .before .before in
-    let parse = back32 .parse-alone in
-    let place = back16 .place-alone in
-    place .kept .0 ∙ parse .kept .1 .1 .0
-
-same-length-9 : tie.Need-same-length-9
-same-length-9 c =
-    let back8 = c .before .before .before .before .before .before .before .before in
-    let back16 = back8 .before .before .before .before .before .before .before .before in
-    let back24 = back16 .before .before .before .before .before .before .before .before in
-    let back32 = back24 .before .before .before .before .before .before .before .before in
-    let parse = back32 .parse-alone in
-    let types = c .before .before .before .before .before .before .before .type-rows in
-    types .kept .1 .1 .1 .1 .1 .0 ∙ parse .kept .1 .1 .1 .0
-
-same-length-10 : tie.Need-same-length-10
-same-length-10 c =
-    let back8 = c .before .before .before .before .before .before .before .before in
-    let back16 = back8 .before .before .before .before .before .before .before .before in
-    let back24 = back16 .before .before .before .before .before .before .before .before in
-    let back32 = back24 .before .before .before .before .before .before .before .before in
-    let parse = back32 .parse-alone in
-    let types = c .before .before .before .before .before .before .before .type-rows in
-    types .kept .1 .1 .1 .1 .1 .1 .0 ∙ parse .kept .1 .1 .1 .1 .0
-
-same-length-11 : tie.Need-same-length-11
-same-length-11 c =
-    let back8 = c .before .before .before .before .before .before .before .before in
-    let back16 = back8 .before .before .before .before .before .before .before .before in
-    let back24 = back16 .before .before .before .before .before .before .before .before in
-    let back32 = back24 .before .before .before .before .before .before .before .before in
-    let parse = back32 .parse-alone in
-    parse .kept .1 .1 .1 .1 .1 .0
-
-same-length-12 : tie.Need-same-length-12
-same-length-12 c =
-    let back8 = c .before .before .before .before .before .before .before .before in
-    let back16 = back8 .before .before .before .before .before .before .before .before in
-    let back24 = back16 .before .before .before .before .before .before .before .before in
-    let back32 = back24 .before .before .before .before .before .before .before .before in
-    let parse = back32 .parse-alone in
-    parse .kept .1 .1 .1 .1 .1 .1 .0
-
-same-length-13 : tie.Need-same-length-13
-same-length-13 c =
-    let back8 = c .before .before .before .before .before .before .before .before in
-    let back16 = back8 .before .before .before .before .before .before .before .before in
-    let back24 = back16 .before .before .before .before .before .before .before .before in
-    let back32 = back24 .before .before .before .before .before .before .before .before in
-    let back40 = back32 .before .before .before .before .before .before .before .before in
-    let keeps = back40 .before .keeps in
-    let place = back16 .place-alone in
-    place .kept .1 .1 .1 .1 .1 .1 .1 .0 ∙ keeps .kept .1 .1 .1 .1 .1 .1 .0
-
-same-length-14 : tie.Need-same-length-14
-same-length-14 c =
-    let back8 = c .before .before .before .before .before .before .before .before in
-    let back16 = back8 .before .before .before .before .before .before .before .before in
-    let back24 = back16 .before .before .before .before .before .before .before .before in
-    let parse = back24 .before .before .before .before .before .before .before .parse-alone in
-    let place = back8 .before .before .before .before .before .before .before .place-alone in
-    place .kept .0 ∙ parse .kept .1 .1 .0
-
-same-length-15 : tie.Need-same-length-15
-same-length-15 c =
-    let back8 = c .before .before .before .before .before .before .before .before in
-    let back16 = back8 .before .before .before .before .before .before .before .before in
-    let back24 = back16 .before .before .before .before .before .before .before .before in
-    let parse = back24 .before .before .before .before .before .before .before .parse-alone in
-    let types = c .before .before .before .before .before .before .type-rows in
-    types .kept .1 .1 .1 .1 .1 .0 ∙ parse .kept .1 .1 .1 .0
-
-same-length-16 : tie.Need-same-length-16
-same-length-16 c =
-    let back8 = c .before .before .before .before .before .before .before .before in
-    let back16 = back8 .before .before .before .before .before .before .before .before in
-    let back24 = back16 .before .before .before .before .before .before .before .before in
-    let parse = back24 .before .before .before .before .before .before .before .parse-alone in
-    let types = c .before .before .before .before .before .before .type-rows in
-    types .kept .1 .1 .1 .1 .1 .1 .0 ∙ parse .kept .1 .1 .1 .1 .0
-
-same-length-17 : tie.Need-same-length-17
-same-length-17 c =
-    let back8 = c .before .before .before .before .before .before .before .before in
-    let back16 = back8 .before .before .before .before .before .before .before .before in
-    let back24 = back16 .before .before .before .before .before .before .before .before in
-    let parse = back24 .before .before .before .before .before .before .before .parse-alone in
-    parse .kept .1 .1 .1 .1 .1 .0
-
-same-length-18 : tie.Need-same-length-18
-same-length-18 c =
-    let back8 = c .before .before .before .before .before .before .before .before in
-    let back16 = back8 .before .before .before .before .before .before .before .before in
-    let back24 = back16 .before .before .before .before .before .before .before .before in
-    let parse = back24 .before .before .before .before .before .before .before .parse-alone in
-    parse .kept .1 .1 .1 .1 .1 .1 .0
-
-same-length-19 : tie.Need-same-length-19
-same-length-19 c =
-    let back8 = c .before .before .before .before .before .before .before .before in
-    let back16 = back8 .before .before .before .before .before .before .before .before in
-    let back24 = back16 .before .before .before .before .before .before .before .before in
-    let back32 = back24 .before .before .before .before .before .before .before .before in
-    let back40 = back32 .before .before .before .before .before .before .before .before in
-    let keeps = back40 .keeps in
-    let place = back8 .before .before .before .before .before .before .before .place-alone in
-    place .kept .1 .1 .1 .1 .1 .1 .1 .0 ∙ keeps .kept .1 .1 .1 .1 .1 .1 .0
-
 pub build-spec : {M : Type 1} → statement M
 build-spec =
     tie.close
-    (tie.spec
-    keeps-requires
-    (λ c κs. search needs) (λ c. search needs)
-    returns
-    (λ c κs. search needs) (λ c. search needs) (λ c. search needs)
-    place-alone-requires
-    type-rows-requires
-    (λ c. search needs) (λ c. search needs)
+    (tie.spec keeps-requires (λ c κs. search needs) (λ c. search needs) returns (λ c κs. search needs)
+    (λ c. search needs) (λ c. search needs) place-alone-requires type-rows-requires (λ c. search needs)
     (λ c. search needs) (λ c. search needs) (λ c. search needs) (λ c. search needs) (λ c. search needs)
-    (λ c. search needs)
-    returns-2
-    same-length-8 same-length-9 same-length-10 same-length-11 same-length-12 same-length-13
+    (λ c. search needs) (λ c. search needs) returns-2
+    (λ c. to-place (to-types c) .place-alone .kept .0 ∙ to-parse (to-place (to-types c)) .parse-alone .kept .1 .1 .0)
+    (λ c. to-types c .type-rows .kept .1 .1 .1 .1 .1 .0
+    ∙ to-parse (to-place (to-types c)) .parse-alone .kept .1 .1 .1 .0)
+    (λ c. to-types c .type-rows .kept .1 .1 .1 .1 .1 .1 .0
+    ∙ to-parse (to-place (to-types c)) .parse-alone .kept .1 .1 .1 .1 .0)
+    (λ c. to-parse (to-place (to-types c)) .parse-alone .kept .1 .1 .1 .1 .1 .0)
+    (λ c. to-parse (to-place (to-types c)) .parse-alone .kept .1 .1 .1 .1 .1 .1 .0)
+    (λ c. to-place (to-types c) .place-alone .kept .1 .1 .1 .1 .1 .1 .1 .0
+    ∙ to-keeps (to-parse (to-place (to-types c))) .keeps .kept .1 .1 .1 .1 .1 .1 .0)
     returns-3
-    same-length-14 same-length-15 same-length-16 same-length-17 same-length-18 same-length-19
+    (λ c. to-place (from-fine c) .place-alone .kept .0 ∙ to-parse (to-place (from-fine c)) .parse-alone .kept .1 .1 .0)
+    (λ c. from-fine c .type-rows .kept .1 .1 .1 .1 .1 .0
+    ∙ to-parse (to-place (from-fine c)) .parse-alone .kept .1 .1 .1 .0)
+    (λ c. from-fine c .type-rows .kept .1 .1 .1 .1 .1 .1 .0
+    ∙ to-parse (to-place (from-fine c)) .parse-alone .kept .1 .1 .1 .1 .0)
+    (λ c. to-parse (to-place (from-fine c)) .parse-alone .kept .1 .1 .1 .1 .1 .0)
+    (λ c. to-parse (to-place (from-fine c)) .parse-alone .kept .1 .1 .1 .1 .1 .1 .0)
+    (λ c. to-place (from-fine c) .place-alone .kept .1 .1 .1 .1 .1 .1 .1 .0
+    ∙ to-keeps (to-parse (to-place (from-fine c))) .keeps .kept .1 .1 .1 .1 .1 .1 .0)
     returns-4)

@@ -10,6 +10,20 @@ use Rattle.recheck.proofs.Parsed.{alone-refused, alone-end, alone-globa
 use Rattle.recheck.proofs.alone.parse_alone.Statement.{statement}
 use Rattle.recheck.proofs.alone.parse_alone.Tie as tie
 
+-- From the ends back to the call, and to the start.
+
+abbrev to-parse : tie.After-token-at → tie.After-parse-function
+to-parse c = search
+
+abbrev from-global : tie.After-refuse → tie.After-token-at
+from-global c = search
+
+abbrev from-other : tie.After-refuse2 → tie.After-token-at
+from-other c = search
+
+abbrev to-start : tie.After-parse-function → tie.Start
+to-start c = search
+
 parse-function-requires : tie.Need-parse-function-requires
 parse-function-requires c κs =
     let back8 = c .before .before .before .before .before .before .before .before in
@@ -30,48 +44,26 @@ parse-function-requires c κs =
 returns : tie.Need-returns
 unfolding knownFrom
 returns c =
-    let back8 = c .before .before .before .before .before .before .before .before in
-    let back16 = back8 .before .before .before .before .before .before .before .before in
-    let back24 = back16 .before .before .before .before .before .before .before .before in
-    let a = back24 .before .before .before .before .before .args in
-    let parse = back16 .parse-function in
-    let next = c .before .before .before .before .next in
-    let behind = c .before .before .token-at in
+    let told : tie.After-token-at = search in
+    let behind = told .token-at in
+    let next = told .before .before .next in
+    let parse = to-parse told .parse-function in
+    let a = to-start (to-parse told) .args in
     let given =
     slices (now (a .functions)) (now (a .items)) (now (a .arguments)) (now (a .blocks)) (now (a .predecessors)) in
     alone-end (tokensOf (now (a .tokens))) (now (a .names)) given _ _ refl
     (sym (next .given .1) ∙ parse .ensures .0) (parse .ensures .1) (behind .ensures) (c .if1 .taken)
 
-same-length-6 : tie.Need-same-length-6
-same-length-6 c =
-    let back8 = c .before .before .before .before .before .before .before .before in
-    let back16 = back8 .before .before .before .before .before .before .before .before in
-    back16 .before .before .before .parse-function .kept .1 .1 .1 .1 .1 .0
-
-same-length-7 : tie.Need-same-length-7
-same-length-7 c =
-    let back8 = c .before .before .before .before .before .before .before .before in
-    let back16 = back8 .before .before .before .before .before .before .before .before in
-    back16 .before .before .before .parse-function .kept .1 .1 .1 .1 .1 .1 .0
-
-same-length-8 : tie.Need-same-length-8
-same-length-8 c =
-    let back8 = c .before .before .before .before .before .before .before .before in
-    let back16 = back8 .before .before .before .before .before .before .before .before in
-    back16 .before .before .before .parse-function .kept .1 .1 .1 .1 .1 .1 .1 .0
-
 returns-2 : tie.Need-returns-2
 unfolding knownFrom
 returns-2 c =
-    let back8 = c .before .before .before .before .before .before .before .before in
-    let back16 = back8 .before .before .before .before .before .before .before .before in
-    let back24 = back16 .before .before .before .before .before .before .before .before in
-    let a = back24 .before .before .before .before .before .before .before .before .args in
-    let parse = back16 .before .before .before .parse-function in
-    let next = c .before .before .before .before .before .before .before .next in
-    let behind = c .before .before .before .before .before .token-at in
-    let end = c .before .before .before .if1 in
     let global = c .before .if2 in
+    let end = c .before .before .before .if1 in
+    let told = from-global c in
+    let behind = told .token-at in
+    let next = told .before .before .next in
+    let parse = to-parse told .parse-function in
+    let a = to-start (to-parse told) .args in
     let given =
     slices (now (a .functions)) (now (a .items)) (now (a .arguments)) (now (a .blocks)) (now (a .predecessors)) in
     alone-global (tokensOf (now (a .tokens))) (now (a .names)) given _ _ refl
@@ -80,47 +72,25 @@ returns-2 c =
 returns-3 : tie.Need-returns-3
 unfolding knownFrom
 returns-3 c =
-    let back8 = c .before .before .before .before .before .before .before .before in
-    let back16 = back8 .before .before .before .before .before .before .before .before in
-    let back24 = back16 .before .before .before .before .before .before .before .before in
-    let a = back24 .before .before .args in
-    let parse = back8 .before .before .before .before .before .parse-function in
     let e = c .before .e in
+    let parsed : tie.After-parse-function = search in
+    let parse = parsed .parse-function in
+    let a = to-start parsed .args in
     let given =
     slices (now (a .functions)) (now (a .items)) (now (a .arguments)) (now (a .blocks)) (now (a .predecessors)) in
     alone-refused (tokensOf (now (a .tokens))) (now (a .names)) given _ _ refl
     (sym (e .given .1) ∙ parse .ensures .0)
 
-same-length-16 : tie.Need-same-length-16
-same-length-16 c =
-    let back8 = c .before .before .before .before .before .before .before .before in
-    let back16 = back8 .before .before .before .before .before .before .before .before in
-    back16 .before .before .before .parse-function .kept .1 .1 .1 .1 .1 .0
-
-same-length-17 : tie.Need-same-length-17
-same-length-17 c =
-    let back8 = c .before .before .before .before .before .before .before .before in
-    let back16 = back8 .before .before .before .before .before .before .before .before in
-    back16 .before .before .before .parse-function .kept .1 .1 .1 .1 .1 .1 .0
-
-same-length-18 : tie.Need-same-length-18
-same-length-18 c =
-    let back8 = c .before .before .before .before .before .before .before .before in
-    let back16 = back8 .before .before .before .before .before .before .before .before in
-    back16 .before .before .before .parse-function .kept .1 .1 .1 .1 .1 .1 .1 .0
-
 returns-4 : tie.Need-returns-4
 unfolding knownFrom
 returns-4 c =
-    let back8 = c .before .before .before .before .before .before .before .before in
-    let back16 = back8 .before .before .before .before .before .before .before .before in
-    let back24 = back16 .before .before .before .before .before .before .before .before in
-    let a = back24 .before .before .before .before .before .before .before .before .args in
-    let parse = back16 .before .before .before .parse-function in
-    let next = c .before .before .before .before .before .before .before .next in
-    let behind = c .before .before .before .before .before .token-at in
-    let end = c .before .before .before .if1 in
     let global = c .before .if2 in
+    let end = c .before .before .before .if1 in
+    let told = from-other c in
+    let behind = told .token-at in
+    let next = told .before .before .next in
+    let parse = to-parse told .parse-function in
+    let a = to-start (to-parse told) .args in
     let given =
     slices (now (a .functions)) (now (a .items)) (now (a .arguments)) (now (a .blocks)) (now (a .predecessors)) in
     alone-other (tokensOf (now (a .tokens))) (now (a .names)) given _ _ refl
@@ -129,22 +99,15 @@ returns-4 c =
 pub parse-alone-spec : {M : Type 1} → statement M
 parse-alone-spec =
     tie.close
-    (tie.spec
-    parse-function-requires
-    (λ c. search needs) (λ c. search needs) (λ c κs. search needs)
-    (λ c. search needs) (λ c. search needs) (λ c. search needs) (λ c. search needs) (λ c. search needs)
-    returns
+    (tie.spec parse-function-requires (λ c. search needs) (λ c. search needs) (λ c κs. search needs)
+    (λ c. search needs) (λ c. search needs) (λ c. search needs) (λ c. search needs) (λ c. search needs) returns
     (λ c κs. search needs)
-    same-length-6
-    same-length-7
-    same-length-8
-    (λ c. search needs) (λ c. search needs)
-    returns-2
-    (λ c κs. search needs)
-    (λ c. search needs) (λ c. search needs) (λ c. search needs) (λ c. search needs) (λ c. search needs)
-    returns-3
-    same-length-16
-    same-length-17
-    same-length-18
-    (λ c. search needs) (λ c. search needs)
-    returns-4)
+    (λ c. to-parse (from-global c) .parse-function .kept .1 .1 .1 .1 .1 .0)
+    (λ c. to-parse (from-global c) .parse-function .kept .1 .1 .1 .1 .1 .1 .0)
+    (λ c. to-parse (from-global c) .parse-function .kept .1 .1 .1 .1 .1 .1 .1 .0)
+    (λ c. search needs) (λ c. search needs) returns-2 (λ c κs. search needs)
+    (λ c. search needs) (λ c. search needs) (λ c. search needs) (λ c. search needs) (λ c. search needs) returns-3
+    (λ c. to-parse (from-other c) .parse-function .kept .1 .1 .1 .1 .1 .0)
+    (λ c. to-parse (from-other c) .parse-function .kept .1 .1 .1 .1 .1 .1 .0)
+    (λ c. to-parse (from-other c) .parse-function .kept .1 .1 .1 .1 .1 .1 .1 .0)
+    (λ c. search needs) (λ c. search needs) returns-4)
