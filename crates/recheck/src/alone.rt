@@ -22,7 +22,6 @@ use headers::bring;
 use headers::kept;
 use pieces::kinds;
 use sema::Checked;
-use unit::clear;
 use unit::types;
 use utils::cell_at;
 use utils::numbers;
