@@ -9,6 +9,10 @@ use Rattle.lexer.specs.Decoded.{Tok, tokenAt}
 use Rattle.pieces.specs.Kinds as T
 use Rattle.body.specs.Shapes.{Shape, name, operation}
 
+-- an item's cells
+abbrev pub itemWidth : ℕ
+itemWidth = 8
+
 -- the slices' cells: 3,072 items, and 3,464 arguments
 abbrev pub itemsSize : ℕ
 itemsSize = 24576

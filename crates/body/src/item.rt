@@ -39,11 +39,22 @@ fn parse_call_item(
 {
     match runs::parse_call(tokens, word, arguments, used * VARIABLE_CELLS) {
         Called::Refused(e) => ItemRead::Refused(e),
-        Called::Done(callee, count, next) => {
-            let run = Last::Run(used as u32, count as u32);
+        Called::Done {
+            callee,
+            count,
+            next,
+        } => {
+            let run = Last::Run {
+                first: used as u32,
+                count: count as u32,
+            };
             let r = records::record_of(kind, word as u32, dest, dty, callee, run);
             records::put_record(items, n, r);
-            ItemRead::Done(r, used + count, next)
+            ItemRead::Done {
+                record: r,
+                arguments: used + count,
+                next,
+            }
         }
     }
 }
@@ -68,7 +79,11 @@ pub(crate) fn parse_item(
         Parsed::Done(o, next) => {
             let r = records::operation_record(o);
             records::put_record(items, n, r);
-            ItemRead::Done(r, used, next)
+            ItemRead::Done {
+                record: r,
+                arguments: used,
+                next,
+            }
         }
         Parsed::Call(word) => {
             parse_call_item(

@@ -22,9 +22,9 @@ pub enum Last {
     // The right operand and its type, the label of a label or a `jmp`, or nothing.
     Name(Identifier, u32),
     // The two labels of a `br`.
-    Labels(Identifier, Identifier),
+    Labels { then: Identifier, els: Identifier },
     // A call's arguments: the first one's index among all, and how many they are.
-    Run(u32, u32),
+    Run { first: u32, count: u32 },
 }
 
 // An item (docs/INTERFACE.md): the result and the left operand, each with its type, and what its kind has besides.
@@ -53,7 +53,11 @@ pub enum BodyRead {
 
 // An operation's record, how many arguments there are with its own, and the index to go on at.
 pub enum ItemRead {
-    Done(ItemRecord, usize, usize),
+    Done {
+        record: ItemRecord,
+        arguments: usize,
+        next: usize,
+    },
     Refused(Refusal),
 }
 

@@ -24,8 +24,8 @@ fn first_cell(last: Last) -> u32
 {
     match last {
         Last::Name(x, _) => x.0,
-        Last::Labels(l, _) => l.0,
-        Last::Run(first, _) => first,
+        Last::Labels { then: l, .. } => l.0,
+        Last::Run { first, .. } => first,
     }
 }
 
@@ -34,8 +34,8 @@ fn second_cell(last: Last) -> u32
 {
     match last {
         Last::Name(_, ty) => ty,
-        Last::Labels(_, m) => m.0,
-        Last::Run(_, count) => count,
+        Last::Labels { els: m, .. } => m.0,
+        Last::Run { count, .. } => count,
     }
 }
 
@@ -65,9 +65,18 @@ fn last_of(kind: u32, first: u32, second: u32) -> Last
     ensures { λ r. ⌜ r ≡ lastOf kind first second ⌝ }
 {
     match kind {
-        kinds::CALL => Last::Run(first, second),
-        kinds::CALL_INTO => Last::Run(first, second),
-        kinds::BRANCH => Last::Labels(Identifier(first), Identifier(second)),
+        kinds::CALL => Last::Run {
+            first,
+            count: second,
+        },
+        kinds::CALL_INTO => Last::Run {
+            first,
+            count: second,
+        },
+        kinds::BRANCH => Last::Labels {
+            then: Identifier(first),
+            els: Identifier(second),
+        },
         _ => Last::Name(Identifier(first), second),
     }
 }
@@ -138,13 +147,13 @@ fn operation_token(o: Operation) -> usize
     ensures { λ r. ⌜ r ≡ operationToken o ⌝ }
 {
     match o {
-        Operation::BinaryOp(w, _, _, _) => w,
-        Operation::UnaryOp(w, _, _) => w,
+        Operation::BinaryOp { token: w, .. } => w,
+        Operation::UnaryOp { token: w, .. } => w,
         Operation::Const(w, _) => w,
         Operation::Print(w, _) => w,
         Operation::Nop(w) => w,
         Operation::Jump(w, _) => w,
-        Operation::Branch(w, _, _, _) => w,
+        Operation::Branch { token: w, .. } => w,
         Operation::Ret(w) => w,
         Operation::RetValue(w, _) => w,
     }
@@ -157,14 +166,35 @@ fn record_by(o: Operation, w: u32) -> ItemRecord
     let none = Identifier(0);
     let nothing = Last::Name(none, 0);
     match o {
-        Operation::BinaryOp(_, v, x, y) => valued_record(kinds::BINARY, w, v, x, y),
-        Operation::UnaryOp(_, v, x) => valued_record(kinds::UNARY, w, v, x, none),
+        Operation::BinaryOp {
+            result: v,
+            lhs: x,
+            rhs: y,
+            ..
+        } => valued_record(kinds::BINARY, w, v, x, y),
+        Operation::UnaryOp {
+            result: v,
+            operand: x,
+            ..
+        } => valued_record(kinds::UNARY, w, v, x, none),
         Operation::Const(_, v) => valued_record(kinds::CONST, w, v, none, none),
         Operation::Print(_, x) => record_of(kinds::PRINT, w, none, 0, x, nothing),
         Operation::Nop(_) => record_of(kinds::NOP, w, none, 0, none, nothing),
         Operation::Jump(_, l) => record_of(kinds::JUMP, w, none, 0, none, Last::Name(l, 0)),
-        Operation::Branch(_, x, l, m) => {
-            record_of(kinds::BRANCH, w, none, 0, x, Last::Labels(l, m))
+        Operation::Branch {
+            cond: x,
+            then: l,
+            els: m,
+            ..
+        } => {
+            record_of(
+                kinds::BRANCH,
+                w,
+                none,
+                0,
+                x,
+                Last::Labels { then: l, els: m },
+            )
         }
         Operation::Ret(_) => record_of(kinds::RET, w, none, 0, none, nothing),
         Operation::RetValue(_, x) => record_of(kinds::RET_VALUE, w, none, 0, x, nothing),

@@ -90,7 +90,10 @@ fn refuse(read: ItemRead) -> Refusal
 {
     match read {
         ItemRead::Refused(e) => e,
-        ItemRead::Done(r, _, _) => parser::refuse(numbers::NO_LABEL_FIRST, r.token as usize),
+        ItemRead::Done { record: r, .. } => parser::refuse(
+            numbers::NO_LABEL_FIRST,
+            r.token as usize,
+        ),
     }
 }
 
@@ -109,7 +112,11 @@ fn item_turn(tokens: &[u32], s: Going, items: &mut [u32], arguments: &mut [u32])
     }
     match read {
         ItemRead::Refused(e) => Turn::Refused(e),
-        ItemRead::Done(r, then, next) => Turn::On(Going {
+        ItemRead::Done {
+            record: r,
+            arguments: then,
+            next,
+        } => Turn::On(Going {
             at: next,
             items: n + 1,
             arguments: then,

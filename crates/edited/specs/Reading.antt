@@ -7,7 +7,11 @@ use mathlib.Core.List.{List, [], _∷_}
 use lib.ListN.{getD, take, drop}
 use Rattle.utils.specs.Bytes.{pick}
 use Rattle.lexer.specs.Decoded.{isName, nameOf}
-use Rattle.functions.specs.Columns.{rowAt}
+use Rattle.lexer.specs.Sizes.{tokenWidth}
+use Rattle.body.specs.Room.{itemWidth}
+use Rattle.link.specs.Steps.{blockWidth}
+use Rattle.functions.specs.Columns.{rowWidth, rowAt, tokenCell, closeCell, placeCell, firstItemCell, itemCountCell}
+use Rattle.functions.specs.Columns.{firstBlockCell, blockCountCell, countCell}
 use Rattle.elaborate.specs.Types.{isCall}
 use Rattle.checker.specs.Check.{Checking}
 
@@ -162,12 +166,14 @@ pub record Own : Type 0 where
 -- the records of function j, by its row: its name's token to its closing one, its items, and so on
 abbrev pub ownOf : Checking → ℕ → Own
 ownOf given j =
-    let row = take 45 (drop (rowAt j) (given .unit .functions)) in
-    let items = recordsFrom 8 (getD row 8 0) (getD row 9 0) (given .unit .items) in
-    let blocks = recordsFrom 8 (getD row 10 0) (getD row 11 0) (given .unit .blocks) in
+    let row = take rowWidth (drop (rowAt j) (given .unit .functions)) in
+    let items = recordsFrom itemWidth (getD row firstItemCell 0) (getD row itemCountCell 0) (given .unit .items) in
+    let blocks = recordsFrom blockWidth (getD row firstBlockCell 0) (getD row blockCountCell 0) (given .unit .blocks) in
     record {
       row = row;
-      tokens = recordsFrom 4 (getD row 0 0) (getD row 2 0 + 1 - getD row 0 0) (given .tokens);
+      tokens =
+          recordsFrom tokenWidth (getD row tokenCell 0) (getD row closeCell 0 + 1 - getD row tokenCell 0)
+          (given .tokens);
       items = items;
       arguments = recordsFrom 2 (firstArgument items) (argumentsOf items) (given .unit .arguments);
       blocks = blocks;
@@ -193,19 +199,19 @@ abbrev pub firstsOf : (ℕ → List ℕ) → ℕ → Own → Firsts
 firstsOf spells first own =
     record {
       spells = spells;
-      token = getD (own .row) 0 0;
+      token = getD (own .row) tokenCell 0;
       line = first;
-      place = getD (own .row) 3 0;
-      item = getD (own .row) 8 0;
+      place = getD (own .row) placeCell 0;
+      item = getD (own .row) firstItemCell 0;
       argument = firstArgument (own .items);
-      block = getD (own .row) 10 0;
+      block = getD (own .row) firstBlockCell 0;
       predecessor = firstPredecessor (own .blocks);
     }
 
 abbrev pub seenOwn : Firsts → Own → ReadingOf
 seenOwn o own =
     record {
-      row = seen o (rowColumns (getD (own .row) 12 0)) (own .row);
+      row = seen o (rowColumns (getD (own .row) countCell 0)) (own .row);
       tokens = seenEach o tokenColumns (own .tokens);
       items = seenEach o itemColumns (own .items);
       arguments = seenEach o (λ _. variableColumns) (own .arguments);

@@ -4,7 +4,12 @@ use mathlib.Core.Path.{_≡_}
 use mathlib.Core.List.{List, [], _∷_, _++_}
 use lib.ListN.{length}
 use Rattle.utils.specs.Bytes.{padTo}
+use Rattle.utils.specs.Limits.{mostFormals}
+use Rattle.lexer.specs.Sizes.{tokenWidth}
 use Rattle.lexer.specs.Decoded.{Tok}
+use Rattle.body.specs.Room.{itemWidth}
+use Rattle.link.specs.Steps.{blockWidth}
+use Rattle.functions.specs.Columns.{rowWidth}
 use Rattle.body.specs.Records.{argumentsCount}
 use Rattle.functions.specs.Functions.{Function, blocksIn}
 use Rattle.functions.specs.Answer.{predecessorsIn}
@@ -18,18 +23,18 @@ abbrev pub ownWritten : List ℕ → Function → Written → Own
 ownWritten tokens f w =
     let is = f .items in
     record {
-      row = padTo 45 (w .row);
-      tokens = recordsFrom 4 (f .token) (f .next - 1 + 1 - f .token) tokens;
-      items = records 8 (length is) (w .items);
+      row = padTo rowWidth (w .row);
+      tokens = recordsFrom tokenWidth (f .token) (f .next - 1 + 1 - f .token) tokens;
+      items = records itemWidth (length is) (w .items);
       arguments = records 2 (argumentsCount is) (w .arguments);
-      blocks = records 8 (length (blocksIn is)) (w .blocks);
+      blocks = records blockWidth (length (blocksIn is)) (w .blocks);
       predecessors = records 1 (length (predecessorsIn is)) (w .predecessors);
     }
 
 -- Formals that a row of 45 cells has room for.
 abbrev pub FewFormals : List Function → Type 0
 FewFormals [] = Unit
-FewFormals (f ∷ fs) = (length (f .head .formals) ≤ 16) × FewFormals fs
+FewFormals (f ∷ fs) = (length (f .head .formals) ≤ mostFormals) × FewFormals fs
 
 -- f stands in k behind `before`, typed with `table`, as `check` and `recheck` write the functions of a text.
 pub record Stands (k : Checking) (ts : List Tok) (callees : ℕ → ℕ) (before : List Function) (f : Function)

@@ -62,8 +62,8 @@ fn typed_last(table: &[u32], last: Last) -> Last
 {
     match last {
         Last::Name(x, _) => Last::Name(x, cell_at(table, x.0 as usize)),
-        Last::Labels(_, _) => last,
-        Last::Run(_, _) => last,
+        Last::Labels { .. } => last,
+        Last::Run { .. } => last,
     }
 }
 
@@ -135,8 +135,8 @@ fn type_call(table: &[u32], r: ItemRecord, arguments: &mut [u32])
     let last = r.last;
     match last {
         Last::Name(_, _) => {}
-        Last::Labels(_, _) => {}
-        Last::Run(first, count) => type_run(table, arguments, first, count),
+        Last::Labels { .. } => {}
+        Last::Run { first, count } => type_run(table, arguments, first, count),
     }
 }
 

@@ -71,3 +71,28 @@ formalsAt i = 14 + i * rowWidth
 
 abbrev pub formalTypeAt : ℕ → ℕ → ℕ
 formalTypeAt i k = 15 + i * rowWidth + k * 2
+
+-- The same cells of one row alone, counted from its first: those by which a function's records are found.
+abbrev pub tokenCell : ℕ
+tokenCell = 0
+
+abbrev pub closeCell : ℕ
+closeCell = 2
+
+abbrev pub placeCell : ℕ
+placeCell = 3
+
+abbrev pub firstItemCell : ℕ
+firstItemCell = 8
+
+abbrev pub itemCountCell : ℕ
+itemCountCell = 9
+
+abbrev pub firstBlockCell : ℕ
+firstBlockCell = 10
+
+abbrev pub blockCountCell : ℕ
+blockCountCell = 11
+
+abbrev pub countCell : ℕ
+countCell = 12

@@ -60,7 +60,10 @@ fn build_with(
                 n.predecessors,
             ) {
                 Linked::Refused(e) => Building::Refused(e),
-                Linked::Done(count, edges) => Building::Done(Body {
+                Linked::Done {
+                    blocks: count,
+                    predecessors: edges,
+                } => Building::Done(Body {
                     next: closed.next,
                     items: closed.items,
                     arguments: closed.arguments,

@@ -44,7 +44,7 @@ pub fn parse_optional_formals(tokens: &[u32], at: usize, rows: &mut [u32], used:
     if t.kind == kinds::LEFT_PAREN {
         return parser::runs::parse_formals(tokens, t.next, rows, used);
     }
-    Run::Done(0, at)
+    Run::Done { count: 0, next: at }
 }
 
 // A colon and a type, or void.
@@ -65,7 +65,7 @@ fn open_body(tokens: &[u32], at: usize, ty: u32) -> Entered
 {
     match parser::consume(tokens, at, kinds::LEFT_BRACE) {
         Consumed::Refused(e) => Entered::Refused(e),
-        Consumed::At(next) => Entered::At(ty, next),
+        Consumed::At(next) => Entered::At { ty, next },
     }
 }
 
@@ -117,13 +117,16 @@ fn parse_signature(
 {
     match parse_optional_formals(tokens, at, rows, columns::FORMALS + n * columns::ROW) {
         Run::Refused(e) => HeaderRead::Refused(e),
-        Run::Done(formals, at1) => match parse_optional_type(tokens, at1) {
+        Run::Done {
+            count: formals,
+            next: at1,
+        } => match parse_optional_type(tokens, at1) {
             TypeRead::Refused(e) => HeaderRead::Refused(e),
             TypeRead::At(result, at2) => {
                 let ret = parser::runs::type_cell(result);
                 match enter(tokens, rows, n, types, token, name, formals, ret, at2) {
                     Entered::Refused(e) => HeaderRead::Refused(e),
-                    Entered::At(ty, next) => HeaderRead::At(Head {
+                    Entered::At { ty, next } => HeaderRead::At(Head {
                         name,
                         formals,
                         ret,

@@ -26,7 +26,7 @@ use pieces::kinds;
 
 // The number of a function type and the index behind the opening brace.
 pub enum Entered {
-    At(u32, usize),
+    At { ty: u32, next: usize },
     Refused(Refusal),
 }
 

@@ -71,7 +71,10 @@ fn keeps_behind<'t, 'c>(
     bring::copy_row(local, 0, rows, i);
     match header::parse_optional_formals(tokens, at, local, columns::SECOND_FORMALS) {
         Run::Refused(_) => true,
-        Run::Done(formals, at1) => match header::parse_optional_type(tokens, at1) {
+        Run::Done {
+            count: formals,
+            next: at1,
+        } => match header::parse_optional_type(tokens, at1) {
             TypeRead::Refused(_) => true,
             TypeRead::At(result, _) => {
                 if !names::is_spelled(old, new, rows, names, i, name) {

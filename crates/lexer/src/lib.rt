@@ -60,7 +60,7 @@ pub enum Next {
 
 // How many tokens and names a text has.
 pub enum LexResult {
-    Done(u32, u32),
+    Done { tokens: u32, names: u32 },
     Refused(Refusal),
 }
 
@@ -189,7 +189,10 @@ fn lex_all(text: &[u8], line: u32, tokens: &mut [u32], names: &mut [u32]) -> Lex
                 if !push_token(tokens, count, token) {
                     return LexResult::Refused(too_many(token));
                 }
-                return LexResult::Done(count as u32 + 1, known as u32);
+                return LexResult::Done {
+                    tokens: count as u32 + 1,
+                    names: known as u32,
+                };
             }
             Next::Refused(refusal) => {
                 return LexResult::Refused(refusal);
@@ -233,7 +236,13 @@ pub fn lex_from(text: &[u8], line: u32, tokens: &mut [u32], names: &mut [u32]) -
         ≡ padTo (length (now (names .entry))) (namesIn (lexedFrom line (now (text .entry)))) ⌝ }
 {
     match lex_text(text, line, tokens, names) {
-        LexResult::Done(count, known) => LexResult::Done(count, known),
+        LexResult::Done {
+            tokens: count,
+            names: known,
+        } => LexResult::Done {
+            tokens: count,
+            names: known,
+        },
         LexResult::Refused(refusal) => {
             utils::clear(tokens);
             utils::clear(names);
@@ -277,7 +286,10 @@ pub fn read_from(
             report::report(message, refusal);
             report::answer_of(refusal)
         }
-        LexResult::Done(count, known) => {
+        LexResult::Done {
+            tokens: count,
+            names: known,
+        } => {
             utils::clear_bytes(message);
             ReadAnswer {
                 number: numbers::ACCEPTED,

@@ -62,13 +62,16 @@ pub(crate) fn answer_of(refusal: Refusal) -> ReadAnswer
     }
 }
 
+// Where the byte stands in its text.
+const BYTE: usize = 19;
+
 fn report_unexpected(message: &mut [u8], line: Location, b: u8)
     requires { ⌜ messageSize ≤ length (now message) ⌝ }
     ensures { λ r. ⌜ now (message .exit)
         ≡ padTo (length (now (message .entry))) (reported (line .0) [] (unexpected b)) ⌝ }
 {
     let mut text = *b"Unexpected token: ' '.";
-    text[19] = b;
+    text[BYTE] = b;
     utils::error(message, line.0, &text);
 }
 

@@ -30,6 +30,10 @@ use Rattle.link.specs.declared.Goes.the-variants as G
 use Rattle.link.specs.declared.Numbered.{Numbered}
 use Rattle.link.specs.declared.Numbered.the-variants as N
 
+-- a block's cells
+abbrev pub blockWidth : ℕ
+blockWidth = 8
+
 -- the slices' cells: 1,024 blocks, and two predecessors for each
 abbrev pub blocksSize : ℕ
 blocksSize = 8192

@@ -52,7 +52,7 @@ fn close_block(
     let r = body::records::record_at(items, stop - 1);
     match labels::resolve(labels, labelled, before, r) {
         Goes::Refused(e) => Goes::Refused(e),
-        Goes::Done(count, to, other) => {
+        Goes::Done { count, to, other } => {
             let b = BlockRecord {
                 first: from as u32,
                 operations: (stop - from) as u32,
@@ -64,7 +64,7 @@ fn close_block(
                 dead: 0,
             };
             put_block(blocks, k, b);
-            Goes::Done(count, to, other)
+            Goes::Done { count, to, other }
         }
     }
 }
@@ -93,7 +93,7 @@ fn add_block(
     }
     match close_block(items, from, stop, labels, labelled, before, blocks, k) {
         Goes::Refused(e) => Numbered::Refused(e),
-        Goes::Done(_, _, _) => Numbered::Done(k + 1),
+        Goes::Done { .. } => Numbered::Done(k + 1),
     }
 }
 

@@ -85,7 +85,11 @@ fn resolve_one(
     ensures { λ r. ⌜ r ≡ oneD before (take labelled (now (labels .entry))) token (next .0) ⌝ }
 {
     match get(labels, labelled, before, next) {
-        Found::At(to) => Goes::Done(1, to, BlockId(0)),
+        Found::At(to) => Goes::Done {
+            count: 1,
+            to,
+            other: BlockId(0),
+        },
         Found::Nowhere => Goes::Refused(unknown(token, next)),
     }
 }
@@ -103,7 +107,11 @@ fn resolve_two(
 {
     match get(labels, labelled, before, then) {
         Found::At(to) => match get(labels, labelled, before, els) {
-            Found::At(other) => Goes::Done(2, to, other),
+            Found::At(other) => Goes::Done {
+                count: 2,
+                to,
+                other,
+            },
             Found::Nowhere => Goes::Refused(unknown(token, els)),
         },
         Found::Nowhere => Goes::Refused(unknown(token, then)),
@@ -122,9 +130,17 @@ pub fn resolve(labels: &[u32], labelled: usize, before: usize, r: ItemRecord) ->
             if r.kind == kinds::JUMP {
                 return resolve_one(labels, labelled, before, token, next);
             }
-            Goes::Done(0, BlockId(0), BlockId(0))
+            Goes::Done {
+                count: 0,
+                to: BlockId(0),
+                other: BlockId(0),
+            }
         }
-        Last::Labels(then, els) => resolve_two(labels, labelled, before, token, then, els),
-        Last::Run(_, _) => Goes::Done(0, BlockId(0), BlockId(0)),
+        Last::Labels { then, els } => resolve_two(labels, labelled, before, token, then, els),
+        Last::Run { .. } => Goes::Done {
+            count: 0,
+            to: BlockId(0),
+            other: BlockId(0),
+        },
     }
 }

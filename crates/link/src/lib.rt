@@ -12,7 +12,7 @@ use parser::Refusal;
 
 // How many blocks and predecessors a function has, or 22 or 14.
 pub enum Linked {
-    Done(usize, usize),
+    Done { blocks: usize, predecessors: usize },
     Refused(Refusal),
 }
 
@@ -24,7 +24,11 @@ pub enum Found {
 
 // How many successors a block has, and the two of them; or 14.
 pub enum Goes {
-    Done(u32, BlockId, BlockId),
+    Done {
+        count: u32,
+        to: BlockId,
+        other: BlockId,
+    },
     Refused(Refusal),
 }
 
@@ -69,7 +73,10 @@ pub fn link(
         Numbered::Refused(e) => Linked::Refused(e),
         Numbered::Done(n) => {
             let next = enter::enter_blocks(blocks, base, n as u32, predecessors, used);
-            Linked::Done(n, next - used)
+            Linked::Done {
+                blocks: n,
+                predecessors: next - used,
+            }
         }
     }
 }

@@ -84,17 +84,22 @@ fn put_word(buf: &mut [u8], at: usize, kind: u32) -> usize
     put_row(buf, at, &WORDS, kind)
 }
 
+// The bits of the lowest integer, and of -1.
+const LOWEST: u32 = 2147483648;
+
+const MINUS_ONE: u32 = 4294967295;
+
 // An integer from its 32 bits.
 fn put_signed(buf: &mut [u8], at: usize, bits: u32) -> usize
     requires { ⌜ at + 11 ≤ length (now buf) ⌝ }
     ensures { λ r. ⌜ (r ≡ at + length (signed bits))
         × (now (buf .exit) ≡ sets (now (buf .entry)) at (signed bits)) × (r ≤ at + 11) ⌝ }
 {
-    if bits < 2147483648 {
+    if bits < LOWEST {
         return utils::put_decimal(buf, at, bits);
     }
     let next = utils::put(buf, at, b"-");
-    utils::put_decimal(buf, next, 4294967295 - bits + 1)
+    utils::put_decimal(buf, next, MINUS_ONE - bits + 1)
 }
 
 fn put_shown(buf: &mut [u8], at: usize, kind: u32, name: Identifier, integer: u32) -> usize

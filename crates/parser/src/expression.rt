@@ -64,7 +64,15 @@ fn parse_unary(tokens: &[u32], result: Variable, word: usize, at: usize) -> Pars
 {
     match consume_named(tokens, at, kinds::LOCAL, numbers::NO_LOCAL) {
         Named::Refused(e) => Parsed::Refused(e),
-        Named::At(x, at1) => parse_end(tokens, Operation::UnaryOp(word, result, x), at1),
+        Named::At(x, at1) => parse_end(
+            tokens,
+            Operation::UnaryOp {
+                token: word,
+                result,
+                operand: x,
+            },
+            at1,
+        ),
     }
 }
 
@@ -75,7 +83,16 @@ fn parse_binary(tokens: &[u32], result: Variable, word: usize, at: usize) -> Par
         Named::Refused(e) => Parsed::Refused(e),
         Named::At(x, at1) => match consume_named(tokens, at1, kinds::LOCAL, numbers::NO_LOCAL) {
             Named::Refused(e) => Parsed::Refused(e),
-            Named::At(y, at2) => parse_end(tokens, Operation::BinaryOp(word, result, x, y), at2),
+            Named::At(y, at2) => parse_end(
+                tokens,
+                Operation::BinaryOp {
+                    token: word,
+                    result,
+                    lhs: x,
+                    rhs: y,
+                },
+                at2,
+            ),
         },
     }
 }

@@ -46,11 +46,25 @@ pub struct Variable {
 // The operations of ir.rs but calls, whose arguments are a run of a lent slice. An operand that typing has not seen yet
 // is its name alone. The first number is the operation's token.
 pub enum Operation {
-    BinaryOp(usize, Variable, Identifier, Identifier),
-    UnaryOp(usize, Variable, Identifier),
+    BinaryOp {
+        token: usize,
+        result: Variable,
+        lhs: Identifier,
+        rhs: Identifier,
+    },
+    UnaryOp {
+        token: usize,
+        result: Variable,
+        operand: Identifier,
+    },
     Const(usize, Variable),
     Jump(usize, Identifier),
-    Branch(usize, Identifier, Identifier, Identifier),
+    Branch {
+        token: usize,
+        cond: Identifier,
+        then: Identifier,
+        els: Identifier,
+    },
     Ret(usize),
     RetValue(usize, Identifier),
     Print(usize, Identifier),
@@ -81,13 +95,17 @@ pub enum Defined {
 
 // How many variables a run has and the index to go on at, or a refusal.
 pub enum Run {
-    Done(usize, usize),
+    Done { count: usize, next: usize },
     Refused(Refusal),
 }
 
 // A call's callee, how many arguments it has and the index to go on at, or a refusal.
 pub enum Called {
-    Done(Identifier, usize, usize),
+    Done {
+        callee: Identifier,
+        count: usize,
+        next: usize,
+    },
     Refused(Refusal),
 }
 

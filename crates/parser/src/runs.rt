@@ -74,7 +74,7 @@ fn close_formals(tokens: &[u32], at: usize, n: usize) -> Run
 {
     match consume(tokens, at, kinds::RIGHT_PAREN) {
         Consumed::Refused(e) => Run::Refused(e),
-        Consumed::At(i) => Run::Done(n, i),
+        Consumed::At(i) => Run::Done { count: n, next: i },
     }
 }
 
@@ -113,7 +113,10 @@ pub fn parse_formals(tokens: &[u32], at: usize, cells: &mut [u32], used: usize) 
 {
     let t = lexer::token_at(tokens, at);
     if t.kind == kinds::RIGHT_PAREN {
-        return Run::Done(0, t.next);
+        return Run::Done {
+            count: 0,
+            next: t.next,
+        };
     }
     parse_formals_from(tokens, at, cells, used)
 }
@@ -131,7 +134,10 @@ pub fn parse_arguments(tokens: &[u32], at: usize, cells: &mut [u32], used: usize
     loop {
         let t = lexer::token_at(tokens, here);
         if t.kind == kinds::SEMICOLON {
-            return Run::Done(n, t.next);
+            return Run::Done {
+                count: n,
+                next: t.next,
+            };
         }
         match consume_named(tokens, here, kinds::LOCAL, numbers::NO_LOCAL) {
             Named::Refused(e) => {
@@ -163,7 +169,11 @@ pub fn parse_call(tokens: &[u32], word: usize, cells: &mut [u32], used: usize) -
             Named::Refused(e) => Called::Refused(e),
             Named::At(callee, at1) => match parse_arguments(tokens, at1, cells, used) {
                 Run::Refused(e) => Called::Refused(e),
-                Run::Done(count, next) => Called::Done(callee, count, next),
+                Run::Done { count, next } => Called::Done {
+                    callee,
+                    count,
+                    next,
+                },
             },
         },
     }

@@ -50,7 +50,16 @@ pub(crate) fn parse_branch(tokens: &[u32], word: usize, at: usize) -> Parsed
             Named::Refused(e) => Parsed::Refused(e),
             Named::At(l, at2) => match consume_named(tokens, at2, kinds::LABEL, numbers::NO_LABEL) {
                 Named::Refused(e) => Parsed::Refused(e),
-                Named::At(m, at3) => parse_end(tokens, Operation::Branch(word, x, l, m), at3),
+                Named::At(m, at3) => parse_end(
+                    tokens,
+                    Operation::Branch {
+                        token: word,
+                        cond: x,
+                        then: l,
+                        els: m,
+                    },
+                    at3,
+                ),
             },
         },
     }

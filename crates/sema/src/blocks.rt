@@ -73,8 +73,8 @@ fn analyze_record(
     let last = r.last;
     match last {
         Last::Name(x, _) => analyze_plain(tokens, ret, table, r, x),
-        Last::Labels(_, _) => Checked::Fine,
-        Last::Run(first, count) => {
+        Last::Labels { .. } => Checked::Fine,
+        Last::Run { first, count } => {
             if r.kind == kinds::CALL_INTO {
                 return calls::analyze_call_into(
                     table,
