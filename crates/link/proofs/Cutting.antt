@@ -284,7 +284,7 @@ module _ (items : List ℕ) (all : List Block) (named first end base : ℕ) (cel
 
 -- One turn, from what the calls give. --------------------------------------------------------------------------------
 
-module _ (items : List ℕ) (first count named : ℕ) (labels : List ℕ) (labelled before : ℕ) (cells₀ : List ℕ) (base : ℕ)
+module _ {items : List ℕ} {first count named : ℕ} {labels : List ℕ} {labelled before : ℕ} {cells₀ : List ℕ} {base : ℕ}
     (pre : Cut items first count labels labelled before cells₀ base) {cells : List ℕ} {from k : ℕ}
     (cut : Cutting items (blocksOf (partsAt items first count)) named first (first + count) base cells₀ cells from k)
     {stop : ℕ} (ends : stop ≡ from + run (partsAt items from (first + count - from)))

@@ -36,9 +36,9 @@ pub link-refused : (ps : List Shape) (named : ℕ) (e : Refusal)
 unfolding linkD
 link-refused ps named e h = rw (numbered-refused (blocksOf ps) (resolveD named (blocksOf ps)) e h)
 
-module _ (items : List ℕ) (first count named : ℕ) (labels : List ℕ) (labelled : ℕ) (cells₀ : List ℕ) (base : ℕ)
-    (preds₀ : List ℕ) (used : ℕ) (ready : Ready items first count labels labelled cells₀ base preds₀ used)
-    (cells : List ℕ) {r : Numbered} {n : ℕ}
+module _ {items : List ℕ} {first count : ℕ} {labels : List ℕ} {labelled : ℕ} {cells₀ : List ℕ} {base : ℕ}
+    {preds₀ : List ℕ} {used : ℕ} (ready : Ready items first count labels labelled cells₀ base preds₀ used)
+    (named : ℕ) (cells : List ℕ) {r : Numbered} {n : ℕ}
     (e : r ≡ numberedBy (blocksOf (partsAt items first count)) (resolveD named (blocksOf (partsAt items first count))))
     (h : ClosedHeld (blocksOf (partsAt items first count)) first base cells₀ cells r) (f : r ≡ N.Done n)
   where

@@ -9,6 +9,7 @@ ghost use Rattle.link.specs.Edges.{resolveD};
 ghost use Rattle.link.specs.Steps.{goesD, run, putGoes, addedD, addedCells, Cut, numberedBy, ClosedHeld};
 ghost use Rattle.link.specs.Steps.{blocksSize};
 use crate::Goes;
+use crate::LabelCounts;
 use crate::Numbered;
 use crate::labels;
 use body::kinds;
@@ -39,18 +40,18 @@ fn close_block(
     from: usize,
     stop: usize,
     labels: &[u32],
-    labelled: usize,
-    before: usize,
+    counts: LabelCounts,
     blocks: &mut [u32],
     k: usize,
 ) -> Goes
-    requires { ⌜ (from < stop) × (stop ≤ 3072) × (stop * 8 ≤ length (now items)) × (labelled ≤ mostLabels)
-        × (labelled ≤ length (now labels)) × (k * 8 + 8 ≤ length (now blocks)) ⌝ }
-    ensures { λ r. ⌜ (r ≡ goesD before (take labelled (now (labels .entry))) (recordAt (now (items .entry)) (stop - 1)))
+    requires { ⌜ (from < stop) × (stop ≤ 3072) × (stop * 8 ≤ length (now items)) × (counts .all ≤ mostLabels)
+        × (counts .all ≤ length (now labels)) × (k * 8 + 8 ≤ length (now blocks)) ⌝ }
+    ensures { λ r. ⌜ (r ≡ goesD (counts .leading) (take (counts .all) (now (labels .entry)))
+        (recordAt (now (items .entry)) (stop - 1)))
         × (now (blocks .exit) ≡ putGoes (now (blocks .entry)) k from (stop - from) r) ⌝ }
 {
     let r = body::records::record_at(items, stop - 1);
-    match labels::resolve(labels, labelled, before, r) {
+    match labels::resolve(labels, counts, r) {
         Goes::Refused(e) => Goes::Refused(e),
         Goes::Done { count, to, other } => {
             let b = BlockRecord {
@@ -77,21 +78,21 @@ fn add_block(
     stop: usize,
     empty: Refusal,
     labels: &[u32],
-    labelled: usize,
-    before: usize,
+    counts: LabelCounts,
     blocks: &mut [u32],
     k: usize,
 ) -> Numbered
-    requires { ⌜ (from ≤ stop) × (stop ≤ 3072) × (stop * 8 ≤ length (now items)) × (labelled ≤ mostLabels)
-        × (labelled ≤ length (now labels)) × (blocksSize ≤ length (now blocks)) × (from < stop → k < 1024) ⌝ }
-    ensures { λ r. ⌜ r ≡ addedD before (take labelled (now (labels .entry))) (now (items .entry)) from stop empty k ⌝ }
-    ensures { λ r. ⌜ now (blocks .exit) ≡ addedCells before (take labelled (now (labels .entry))) (now (items .entry))
-        from stop (now (blocks .entry)) k ⌝ }
+    requires { ⌜ (from ≤ stop) × (stop ≤ 3072) × (stop * 8 ≤ length (now items)) × (counts .all ≤ mostLabels)
+        × (counts .all ≤ length (now labels)) × (blocksSize ≤ length (now blocks)) × (from < stop → k < 1024) ⌝ }
+    ensures { λ r. ⌜ r ≡ addedD (counts .leading) (take (counts .all) (now (labels .entry))) (now (items .entry))
+        from stop empty k ⌝ }
+    ensures { λ r. ⌜ now (blocks .exit) ≡ addedCells (counts .leading) (take (counts .all) (now (labels .entry)))
+        (now (items .entry)) from stop (now (blocks .entry)) k ⌝ }
 {
     if stop == from {
         return Numbered::Refused(empty);
     }
-    match close_block(items, from, stop, labels, labelled, before, blocks, k) {
+    match close_block(items, from, stop, labels, counts, blocks, k) {
         Goes::Refused(e) => Numbered::Refused(e),
         Goes::Done { .. } => Numbered::Done(k + 1),
     }
@@ -104,12 +105,11 @@ pub fn link_blocks(
     count: usize,
     name: usize,
     labels: &[u32],
-    labelled: usize,
-    before: usize,
+    counts: LabelCounts,
     blocks: &mut [u32],
     base: usize,
 ) -> Numbered
-    requires { ⌜ Cut (now items) first count (now labels) labelled before (now blocks) base ⌝ }
+    requires { ⌜ Cut (now items) first count (now labels) (counts .all) (counts .leading) (now blocks) base ⌝ }
     ensures { λ r. ⌜ r ≡ numberedBy (blocksOf (partsAt (now (items .entry)) first count))
         (resolveD name (blocksOf (partsAt (now (items .entry)) first count))) ⌝ }
     ensures { λ r. ⌜ ClosedHeld (blocksOf (partsAt (now (items .entry)) first count)) first base
@@ -117,21 +117,11 @@ pub fn link_blocks(
 {
     let end = first + count;
     let empty = parser::refuse(numbers::EMPTY_BLOCK, name);
-    let mut from = first + before;
+    let mut from = first + counts.leading;
     let mut k = base;
     loop {
         let stop = block_end(items, from, end);
-        match add_block(
-            items,
-            from,
-            stop,
-            empty,
-            labels,
-            labelled,
-            before,
-            blocks,
-            k,
-        ) {
+        match add_block(items, from, stop, empty, labels, counts, blocks, k) {
             Numbered::Refused(e) => {
                 return Numbered::Refused(e);
             }

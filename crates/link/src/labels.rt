@@ -9,6 +9,7 @@ ghost use Rattle.link.specs.Steps.{blockId, foundOf, oneD, twoD, goesD};
 ghost use Rattle.link.specs.Edges.{missing};
 use crate::Found;
 use crate::Goes;
+use crate::LabelCounts;
 use body::ItemRecord;
 use body::Last;
 use body::kinds;
@@ -34,27 +35,29 @@ pub fn leading_labels(items: &[u32], first: usize, count: usize) -> usize
 }
 
 // The block that label i opens or names.
-fn block_of(before: usize, i: usize) -> BlockId
+fn block_of(leading: usize, i: usize) -> BlockId
     requires { ⌜ i ≤ mostLabels ⌝ }
-    ensures { λ r. ⌜ r ≡ blockId (blockOf before i) ⌝ }
+    ensures { λ r. ⌜ r ≡ blockId (blockOf leading i) ⌝ }
 {
-    if i < before {
+    if i < leading {
         return BlockId(0);
     }
-    let k = (i + 1 - before) as u32;
+    let k = (i + 1 - leading) as u32;
     BlockId(k)
 }
 
 // The block of the first label of this name, in text order.
-fn get(labels: &[u32], labelled: usize, before: usize, name: Identifier) -> Found
-    requires { ⌜ (labelled ≤ mostLabels) × (labelled ≤ length (now labels)) ⌝ }
-    ensures { λ r. ⌜ r ≡ foundOf (labelPlace before 0 (take labelled (now (labels .entry))) (name .0)) ⌝ }
+fn get(labels: &[u32], counts: LabelCounts, name: Identifier) -> Found
+    requires { ⌜ (counts .all ≤ mostLabels) × (counts .all ≤ length (now labels)) ⌝ }
+    ensures { λ r. ⌜ r ≡ foundOf (labelPlace (counts .leading) 0 (take (counts .all) (now (labels .entry)))
+        (name .0)) ⌝ }
 {
-    let mut rest = labelled;
+    let all = counts.all;
+    let mut rest = all;
     while 0 < rest {
-        let i = labelled - rest;
+        let i = all - rest;
         if labels[i] == name.0 {
-            return Found::At(block_of(before, i));
+            return Found::At(block_of(counts.leading, i));
         }
         rest -= 1;
     }
@@ -74,17 +77,11 @@ fn unknown(token: usize, name: Identifier) -> Refusal
     }
 }
 
-fn resolve_one(
-    labels: &[u32],
-    labelled: usize,
-    before: usize,
-    token: usize,
-    next: Identifier,
-) -> Goes
-    requires { ⌜ (labelled ≤ mostLabels) × (labelled ≤ length (now labels)) ⌝ }
-    ensures { λ r. ⌜ r ≡ oneD before (take labelled (now (labels .entry))) token (next .0) ⌝ }
+fn resolve_one(labels: &[u32], counts: LabelCounts, token: usize, next: Identifier) -> Goes
+    requires { ⌜ (counts .all ≤ mostLabels) × (counts .all ≤ length (now labels)) ⌝ }
+    ensures { λ r. ⌜ r ≡ oneD (counts .leading) (take (counts .all) (now (labels .entry))) token (next .0) ⌝ }
 {
-    match get(labels, labelled, before, next) {
+    match get(labels, counts, next) {
         Found::At(to) => Goes::Done {
             count: 1,
             to,
@@ -96,17 +93,16 @@ fn resolve_one(
 
 fn resolve_two(
     labels: &[u32],
-    labelled: usize,
-    before: usize,
+    counts: LabelCounts,
     token: usize,
     then: Identifier,
     els: Identifier,
 ) -> Goes
-    requires { ⌜ (labelled ≤ mostLabels) × (labelled ≤ length (now labels)) ⌝ }
-    ensures { λ r. ⌜ r ≡ twoD before (take labelled (now (labels .entry))) token (then .0) (els .0) ⌝ }
+    requires { ⌜ (counts .all ≤ mostLabels) × (counts .all ≤ length (now labels)) ⌝ }
+    ensures { λ r. ⌜ r ≡ twoD (counts .leading) (take (counts .all) (now (labels .entry))) token (then .0) (els .0) ⌝ }
 {
-    match get(labels, labelled, before, then) {
-        Found::At(to) => match get(labels, labelled, before, els) {
+    match get(labels, counts, then) {
+        Found::At(to) => match get(labels, counts, els) {
             Found::At(other) => Goes::Done {
                 count: 2,
                 to,
@@ -119,16 +115,16 @@ fn resolve_two(
 }
 
 // Where a block leads whose last operation has this record.
-pub fn resolve(labels: &[u32], labelled: usize, before: usize, r: ItemRecord) -> Goes
-    requires { ⌜ (labelled ≤ mostLabels) × (labelled ≤ length (now labels)) ⌝ }
-    ensures { λ res. ⌜ res ≡ goesD before (take labelled (now (labels .entry))) r ⌝ }
+pub fn resolve(labels: &[u32], counts: LabelCounts, r: ItemRecord) -> Goes
+    requires { ⌜ (counts .all ≤ mostLabels) × (counts .all ≤ length (now labels)) ⌝ }
+    ensures { λ res. ⌜ res ≡ goesD (counts .leading) (take (counts .all) (now (labels .entry))) r ⌝ }
 {
     let token = r.token as usize;
     let last = r.last;
     match last {
         Last::Name(next, _) => {
             if r.kind == kinds::JUMP {
-                return resolve_one(labels, labelled, before, token, next);
+                return resolve_one(labels, counts, token, next);
             }
             Goes::Done {
                 count: 0,
@@ -136,7 +132,7 @@ pub fn resolve(labels: &[u32], labelled: usize, before: usize, r: ItemRecord) ->
                 other: BlockId(0),
             }
         }
-        Last::Labels { then, els } => resolve_two(labels, labelled, before, token, then, els),
+        Last::Labels { then, els } => resolve_two(labels, counts, token, then, els),
         Last::Run { .. } => Goes::Done {
             count: 0,
             to: BlockId(0),

@@ -38,6 +38,12 @@ pub enum Numbered {
     Refused(Refusal),
 }
 
+// How many labels a function has, and how many of them lead: those stand before its first operation and name block 0.
+pub struct LabelCounts {
+    pub all: usize,
+    pub leading: usize,
+}
+
 // The items of a function stand in `count` records from the record `first` on, and its labels at the front of `labels`;
 // `name` is the token of its name. Its block records go to `blocks` from the record `base` on, and the predecessors of
 // its blocks to `predecessors` from the cell `used` on.
@@ -58,18 +64,12 @@ pub fn link(
     ensures { λ r. ⌜ LinkHeld (partsAt (now (items .entry)) first count) first base used (now (blocks .entry))
         (now (blocks .exit)) (now (predecessors .entry)) (now (predecessors .exit)) r ⌝ }
 {
-    let before = labels::leading_labels(items, first, count);
-    match close::link_blocks(
-        items,
-        first,
-        count,
-        name,
-        labels,
-        labelled,
-        before,
-        blocks,
-        base,
-    ) {
+    let leading = labels::leading_labels(items, first, count);
+    let counts = LabelCounts {
+        all: labelled,
+        leading,
+    };
+    match close::link_blocks(items, first, count, name, labels, counts, blocks, base) {
         Numbered::Refused(e) => Linked::Refused(e),
         Numbered::Done(n) => {
             let next = enter::enter_blocks(blocks, base, n as u32, predecessors, used);

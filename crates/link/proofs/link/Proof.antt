@@ -11,77 +11,78 @@ use Rattle.link.proofs.link.Tie as tie
 
 leading-labels-requires : tie.Need-leading-labels-requires
 leading-labels-requires c κs =
-    let pre = c .before .before .before .before .pre in
-    pre .items-there
+    let s : tie.Start = search in
+    s .pre .items-there
 
 link-blocks-requires : tie.Need-link-blocks-requires
 link-blocks-requires c κs =
-    let pre = c .before .before .before .before .before .before .pre in
-    let leading-labels = c .before .leading-labels in
+    let s : tie.Start = search in
+    let counted : tie.After-leading-labels = search in
+    let pre = s .pre in
     record {
       items-there = pre .items-there;
       few-items = pre .few-items;
       few-labels = pre .few-labels;
       labels-there = pre .labels-there;
       labels-are = pre .labels-are;
-      before-are = leading-labels .ensures .0;
-      before-few = leading-labels .ensures .1;
+      before-are = counted .leading-labels .ensures .0;
+      before-few = counted .leading-labels .ensures .1;
       few-blocks = pre .few-blocks;
       blocks-there = pre .blocks-there;
     }
 
 cast-enter-blocks : tie.Need-cast-enter-blocks
 cast-enter-blocks c =
-    let n = c .before .before .n in
-    let blocks = c .before .before .before .before .before .before .link-blocks in
-    let cells = blocks .last .1 .1 .1 .1 .1 .1 .1 .0 in
-    let back8 = c .before .before .before .before .before .before .before .before in
-    let a = back8 .before .before .before .before .before .args in
-    let pre = back8 .before .before .before .before .before .pre in
+    let s : tie.Start = search in
+    let cut : tie.After-link-blocks = search in
+    let done : tie.After-n = search in
+    let blocks = cut .link-blocks in
+    let cells = blocks .last .1 .1 .1 .1 .1 .1 .0 in
     let few =
-    fits (now (a .items)) (a .first) (a .count) (a .name) (now (a .labels)) (a .labelled) (now (a .blocks)) (a .base)
-    (now (a .predecessors)) (a .used) pre cells (blocks .ensures .0) (blocks .ensures .1)
-    (n .given .1) in
+    fits (s .pre) (s .args .name) cells (blocks .ensures .0) (blocks .ensures .1) (done .n .given .1) in
     omega arith
 
 enter-blocks-requires : tie.Need-enter-blocks-requires
 enter-blocks-requires c κs =
-    let n = c .before .before .before .n in
-    let blocks = c .before .before .before .before .before .before .before .link-blocks in
-    let cells = blocks .last .1 .1 .1 .1 .1 .1 .1 .0 in
-    let back8 = c .before .before .before .before .before .before .before .before in
-    let a = back8 .before .before .before .before .before .before .args in
-    let pre = back8 .before .before .before .before .before .before .pre in
-    enter-ready (now (a .items)) (a .first) (a .count) (a .name) (now (a .labels)) (a .labelled) (now (a .blocks))
-    (a .base) (now (a .predecessors)) (a .used) pre cells (blocks .ensures .0) (blocks .ensures .1)
-    (n .given .1)
-    (blocks .kept .1 .1 .1 .1 .1 .1 .1 .0)
+    let s : tie.Start = search in
+    let cut : tie.After-link-blocks = search in
+    let done : tie.After-n = search in
+    let blocks = cut .link-blocks in
+    let cells = blocks .last .1 .1 .1 .1 .1 .1 .0 in
+    enter-ready (s .pre) (s .args .name) cells (blocks .ensures .0) (blocks .ensures .1) (done .n .given .1)
+    (blocks .kept .1 .1 .1 .1 .1 .1 .0)
 
 returns : tie.Need-returns
 returns c =
-    let back8 = c .before .before .before .before .before .before .before .before in
-    let a = back8 .before .before .before .before .args in
-    let link-blocks = c .before .before .before .before .before .link-blocks in
-    let e = c .before .e in
-    let ps = partsAt (now (a .items)) (a .first) (a .count) in
-    (link-refused ps (a .name) (e .given .0 .0) (sym (e .given .1) ∙ link-blocks .ensures .0), tt)
+    let s : tie.Start = search in
+    let cut : tie.After-link-blocks = search in
+    let wrong : tie.After-e = search in
+    let ps = partsAt (now (s .args .items)) (s .args .first) (s .args .count) in
+    let e = wrong .e .given in
+    (link-refused ps (s .args .name) (e .0 .0) (sym (e .1) ∙ cut .link-blocks .ensures .0), tt)
+
+-- What was done before the edges were entered.
+abbrev to-start : tie.After-enter-blocks → tie.Start
+to-start p = search
+
+abbrev to-cut : tie.After-enter-blocks → tie.After-link-blocks
+to-cut p = search
+
+abbrev to-done : tie.After-enter-blocks → tie.After-n
+to-done p = search
 
 returns-2 : tie.Need-returns-2
 returns-2 c =
-    let enter = c .before .before .before .before .enter-blocks in
-    let back8 = c .before .before .before .before .before .before .before .before in
-    let n = back8 .n in
-    let blocks = back8 .before .before .before .before .link-blocks in
-    let cells = blocks .last .1 .1 .1 .1 .1 .1 .1 .0 in
-    let back16 = back8 .before .before .before .before .before .before .before .before in
-    let a = back16 .before .before .before .args in
-    let pre = back16 .before .before .before .pre in (
-      link-done (now (a .items)) (a .first) (a .count) (a .name) (now (a .labels)) (a .labelled) (now (a .blocks))
-          (a .base) (now (a .predecessors)) (a .used) pre cells (blocks .ensures .0) (blocks .ensures .1)
-          (n .given .1) (enter .result) (enter .ensures .0),
-      link-held (now (a .items)) (a .first) (a .count) (a .name) (now (a .labels)) (a .labelled) (now (a .blocks))
-          (a .base) (now (a .predecessors)) (a .used) pre cells (blocks .ensures .0) (blocks .ensures .1)
-          (n .given .1) (enter .last .0) (enter .last .1 .1 .1 .0) (enter .ensures .1 .0) (enter .ensures .1 .1),
+    let entered : tie.After-enter-blocks = search in
+    let blocks = to-cut entered .link-blocks in
+    let cells = blocks .last .1 .1 .1 .1 .1 .1 .0 in
+    let s = to-start entered in
+    let n = to-done entered .n .given .1 in
+    let enter = entered .enter-blocks in (
+      link-done (s .pre) (s .args .name) cells (blocks .ensures .0) (blocks .ensures .1) n (enter .result)
+          (enter .ensures .0),
+      link-held (s .pre) (s .args .name) cells (blocks .ensures .0) (blocks .ensures .1) n (enter .last .0)
+          (enter .last .1 .1 .1 .0) (enter .ensures .1 .0) (enter .ensures .1 .1),
     )
 
 pub link-spec : {M : Type 1} → statement M

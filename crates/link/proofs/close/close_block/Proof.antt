@@ -5,18 +5,20 @@ use Rattle.link.proofs.close.close_block.Tie as tie
 
 returns : tie.Need-returns
 returns c =
-    let record-at = c .before .before .before .before .record-at in
-    let resolve = c .before .before .before .resolve in
-    let e = c .before .e in
-    (rw (← record-at .ensures, ← resolve .ensures, e .given .1), search needs)
+    let read : tie.After-record-at = search in
+    let resolved : tie.After-resolve = search in
+    let wrong : tie.After-e = search in
+    (rw (← read .record-at .ensures, ← resolved .resolve .ensures, wrong .e .given .1), search needs)
 
 returns-2 : tie.Need-returns-2
 returns-2 c =
-    let record-at = c .before .before .before .before .before .before .before .before .record-at in
-    let resolve = c .before .before .before .before .before .before .before .resolve in
-    let count = c .before .before .before .before .before .count in
-    let put-block = c .before .before .put-block in
-    (rw (← record-at .ensures, ← resolve .ensures, count .given .1), put-block .ensures)
+    let read : tie.After-record-at = search in
+    let resolved : tie.After-resolve = search in
+    let right : tie.After-count = search in
+    let stored : tie.After-put-block = search in (
+      rw (← read .record-at .ensures, ← resolved .resolve .ensures, right .count .given .1),
+      stored .put-block .ensures,
+    )
 
 pub close-block-spec : {M : Type 1} → statement M
 close-block-spec =

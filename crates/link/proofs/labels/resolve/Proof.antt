@@ -9,24 +9,21 @@ use Rattle.link.proofs.labels.resolve.Tie as tie
 returns : tie.Need-returns
 unfolding goesD leadsBy pick
 returns c =
-    let last = c .before .before .before .before .last in
-    let if1 = c .before .if1 in
-    let resolve-one = c .resolve-one in
-    rw (last .given .1, eq-eqb _ _ (if1 .taken)) (resolve-one .ensures)
+    let read : tie.After-last = search in
+    let jumps : tie.Then1 = search in
+    rw (read .last .given .1, eq-eqb _ _ (jumps .if1 .taken)) (c .resolve-one .ensures)
 
 returns-2 : tie.Need-returns-2
 unfolding goesD leadsBy pick
 returns-2 c =
-    let last = c .before .before .before .last in
-    let if1 = c .if1 in
-    rw (last .given .1, ne-eqb _ _ (if1 .left))
+    let read : tie.After-last = search in
+    rw (read .last .given .1, ne-eqb _ _ (c .if1 .left))
 
 returns-3 : tie.Need-returns-3
 unfolding goesD leadsBy
 returns-3 c =
-    let last2 = c .before .before .last2 in
-    let resolve-two = c .resolve-two in
-    rw (last2 .given .1) (resolve-two .ensures)
+    let read : tie.After-last2 = search in
+    rw (read .last2 .given .1) (c .resolve-two .ensures)
 
 pub resolve-spec : {M : Type 1} → statement M
 unfolding goesD leadsBy
