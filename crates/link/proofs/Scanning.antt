@@ -1,5 +1,5 @@
 -- Records read one after the other: what the labels and operations from here on are, with one record more.
-use Prim.Native.Nat.{ℕ, zero, suc, _+_, _-_, _<_}
+use Prim.Native.Nat.{ℕ, zero, suc, _+_, _-_, _≤_, _<_}
 use mathlib.Core.Path.{_≡_}
 use mathlib.Core.List.{List, [], _∷_}
 use native.Mathlib.Omega.{arith}
@@ -19,7 +19,7 @@ parts-more cells first (suc count) h =
     let e : suc count - 1 ≡ count = omega arith in
     rw e
 
-pub parts-none : (cells : List ℕ) (first count : ℕ) → count ≡ 0 → partsAt cells first count ≡ []
+parts-none : (cells : List ℕ) (first count : ℕ) → count ≡ 0 → partsAt cells first count ≡ []
 unfolding partsAt
 parts-none cells first count z = rw z
 
@@ -31,7 +31,14 @@ pub operation-part : (r : ItemRecord) → (r .kind ≡ 1 → ⊥) → recordPart
 unfolding recordPart pick
 operation-part r h = rw (ne-eqb _ _ h)
 
--- Behind i leading labels of `count` items.
+-- Behind i leading labels of `count` items: all are read, or there is one more item.
+pub leading-all : (cells : List ℕ) (first count i : ℕ) → count ≤ i → (whole : ℕ)
+    → i + leading (partsAt cells (first + i) (count - i)) ≡ whole → i ≡ whole
+unfolding leading
+leading-all cells first count i h whole e =
+    let f = rw (parts-none cells (first + i) (count - i) (omega arith)) at e in
+    omega (arith, f)
+
 module _ (cells : List ℕ) (first count i : ℕ) (less : i < count) (r : ItemRecord)
     (read : r ≡ recordAt cells (first + i)) where
   here : partsAt cells (first + i) (count - i)
@@ -55,7 +62,14 @@ module _ (cells : List ℕ) (first count i : ℕ) (less : i < count) (r : ItemRe
       let e = rw (here, operation-part r k) at h in
       omega (arith, e)
 
--- The operations from the item i on, up to the item `end`.
+-- The operations from the item i on, up to the item `end`: all are read, or there is one more item.
+pub run-all : (cells : List ℕ) (i end : ℕ) → end ≤ i → (whole : ℕ) → i + run (partsAt cells i (end - i)) ≡ whole
+    → i ≡ whole
+unfolding run
+run-all cells i end h whole e =
+    let f = rw (parts-none cells i (end - i) (omega arith)) at e in
+    omega (arith, f)
+
 module _ (cells : List ℕ) (i end : ℕ) (less : i < end) (r : ItemRecord) (read : r ≡ recordAt cells i) where
   there : partsAt cells i (end - i) ≡ recordPart r ∷ partsAt cells (i + 1) (end - (i + 1))
   there =
