@@ -1,14 +1,19 @@
--- Records read one after the other: what the labels and operations from here on are, with one record more.
+-- Records read one after the other: what the labels and operations from here on are, with one record more. And labels
+-- looked up one after the other.
 use Prim.Native.Nat.{ℕ, zero, suc, _+_, _-_, _≤_, _<_}
 use mathlib.Core.Path.{_≡_}
 use mathlib.Core.List.{List, [], _∷_}
 use native.Mathlib.Omega.{arith}
 use borrow.Author.Tests.{eq-eqb, ne-eqb}
+use lib.ListN.{length, drop, take, getD, drop-of-length-le}
+use lib.Seq.{drop-cons, getD-take, length-take-le}
+use native.Mathlib.Numerals.{add-one}
 use Rattle.utils.specs.Bytes.{pick}
 use Rattle.body.specs.Shapes.{name, operation}
 use Rattle.body.specs.Records.{firstCell, recordAt, recordPart, goesOf, partsAt}
 use Rattle.body.specs.declared.ItemRecord.{ItemRecord}
-use Rattle.link.specs.Table.{leading}
+use Rattle.link.specs.Edges.{Place, at, nowhere}
+use Rattle.link.specs.Table.{leading, blockOf, labelPlace}
 use Rattle.link.specs.Steps.{run}
 
 pub parts-more : (cells : List ℕ) (first count : ℕ) → 0 < count
@@ -88,3 +93,31 @@ module _ (cells : List ℕ) (i end : ℕ) (less : i < end) (r : ItemRecord) (rea
   run-ends k whole h =
       let e = rw (there, label-part r k) at h in
       omega (arith, e)
+
+-- The last `rest` of a function's labels, among which this name is looked up.
+module _ (labels : List ℕ) (before all rest l : ℕ) (there : all ≤ length labels) (few : rest ≤ all) (whole : Place)
+    (left : labelPlace before (all - rest) (drop (all - rest) (take all labels)) l ≡ whole) where
+  long : length (take all labels) ≡ all
+  long = length-take-le all labels there
+
+  pub label-nowhere : rest ≤ 0 → nowhere ≡ whole
+  unfolding labelPlace
+  label-nowhere h = rw (drop-of-length-le (take all labels) {i = all - rest} (omega (arith, long, h))) at left
+
+  module _ (some : 0 < rest) where
+    here-first : drop (all - rest) (take all labels)
+        ≡ getD labels (all - rest) 0 ∷ drop (suc (all - rest)) (take all labels)
+    here-first =
+        rw (← getD-take all labels (all - rest) 0 (omega arith))
+        (drop-cons (take all labels) (all - rest) 0 (omega (arith, long)))
+
+    pub label-here : getD labels (all - rest) 0 ≡ l → at (blockOf before (all - rest)) ≡ whole
+    unfolding labelPlace pick
+    label-here h = rw (here-first, eq-eqb _ _ h) at left
+
+    pub label-later : (getD labels (all - rest) 0 ≡ l → ⊥)
+        → labelPlace before (all - (rest - 1)) (drop (all - (rest - 1)) (take all labels)) l ≡ whole
+    unfolding labelPlace pick
+    label-later h =
+        let next : all - (rest - 1) ≡ all - rest + 1 = omega arith in
+        rw (next, add-one (all - rest)) (rw (here-first, ne-eqb _ _ h, add-one (all - rest)) at left)

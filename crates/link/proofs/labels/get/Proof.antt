@@ -1,17 +1,12 @@
 -- The labels that are left decide as all of them do.
 use borrow.Author.Needs.{needs}
-use borrow.Author.Tests.{eq-eqb, ne-eqb}
 use native.Mathlib.Omega.{arith}
-use native.Mathlib.Numerals.{add-one}
-use Prim.Native.Nat.{_+_, _-_, _≤_, _<_}
+use Prim.Native.Nat.{_-_, _≤_}
 use mathlib.Core.Path.{_≡_}
-use lib.ListN.{length, drop, take, getD}
-use lib.Seq.{drop-cons}
+use lib.ListN.{drop, take}
 use denote.Ref.{now}
-use Rattle.utils.specs.Bytes.{pick}
 use Rattle.link.specs.Table.{labelPlace}
-use lib.Seq.{length-take-le, getD-take}
-use lib.ListN.{drop-of-length-le}
+use Rattle.link.proofs.Scanning.{label-here, label-later, label-nowhere}
 use Rattle.link.proofs.labels.get.Statement.{statement}
 use Rattle.link.proofs.labels.get.Tie as tie
 
@@ -34,54 +29,31 @@ loop-holds c =
     (omega arith, rw none)
 
 returns : tie.Need-returns Inv-loop μ-loop
-unfolding labelPlace pick
 returns c =
-    let start : tie.Start Inv-loop μ-loop = search in
-    let at : tie.At-loop Inv-loop μ-loop = search in
-    let in-loop : tie.In-loop Inv-loop μ-loop = search in
-    let found : tie.Then1 Inv-loop μ-loop = search in
-    let loop = at .loop in
-    let s = now (start .args .labels) in
-    let n = start .args .counts .all in
-    let t = take n s in
-    let i = n - loop .rest in
-    let same : getD s i 0 ≡ start .args .name .0 = found .if1 .taken in
-    let less : i < n = omega (arith, in-loop .loop-test .taken, loop .inv .0) in
-    let l : length t ≡ n = length-take-le n s (start .pre .1) in
-    let d = drop-cons t i 0 (omega (arith, less, l)) in
-    let g = getD-take n s i 0 less in
-    rw (← loop .inv .1, d, g, eq-eqb _ _ same, c .block-of .ensures)
+    let s : tie.Start Inv-loop μ-loop = search in
+    let turn : tie.At-loop Inv-loop μ-loop = search in
+    let some : tie.In-loop Inv-loop μ-loop = search in
+    let same : tie.Then1 Inv-loop μ-loop = search in
+    let a = s .args in
+    let here =
+    label-here (now (a .labels)) (a .counts .leading) (a .counts .all) (turn .loop .rest) (a .name .0) (s .pre .1)
+    (turn .loop .inv .0) _ (turn .loop .inv .1) (some .loop-test .taken) (same .if1 .taken) in
+    rw (← here, c .block-of .ensures)
 
 loop-again : tie.Need-loop-again Inv-loop μ-loop
-unfolding labelPlace pick
 loop-again c =
-    let start : tie.Start Inv-loop μ-loop = search in
-    let at : tie.At-loop Inv-loop μ-loop = search in
-    let in-loop : tie.In-loop Inv-loop μ-loop = search in
-    let loop = at .loop in
-    let s = now (start .args .labels) in
-    let n = start .args .counts .all in
-    let t = take n s in
-    let i = n - loop .rest in
-    let other : getD s i 0 ≡ start .args .name .0 → ⊥ = c .if1 .left in
-    let less : i < n = omega (arith, in-loop .loop-test .taken, loop .inv .0) in
-    let l : length t ≡ n = length-take-le n s (start .pre .1) in
-    let d = drop-cons t i 0 (omega (arith, less, l)) in
-    let g = getD-take n s i 0 less in
-    let next : n - (loop .rest - 1) ≡ i + 1 = omega (arith, in-loop .loop-test .taken, loop .inv .0) in
-    (omega (arith, loop .inv .0), rw (next, ← loop .inv .1, d, g, ne-eqb _ _ other, add-one i))
+    let turn : tie.At-loop Inv-loop μ-loop = search in
+    (omega (arith, turn .loop .inv .0), search label-later)
 
 returns-2 : tie.Need-returns-2 Inv-loop μ-loop
-unfolding labelPlace
 returns-2 c =
-    let start : tie.Start Inv-loop μ-loop = search in
-    let at : tie.At-loop Inv-loop μ-loop = search in
-    let s = now (start .args .labels) in
-    let n = start .args .counts .all in
-    let t = take n s in
-    let i = n - at .loop .rest in
-    let l : length t ≡ n = length-take-le n s (start .pre .1) in
-    rw (← at .loop .inv .1, drop-of-length-le t {i = i} (omega (arith, l, c .loop-test .left)))
+    let s : tie.Start Inv-loop μ-loop = search in
+    let turn : tie.At-loop Inv-loop μ-loop = search in
+    let a = s .args in
+    let none =
+    label-nowhere (now (a .labels)) (a .counts .leading) (a .counts .all) (turn .loop .rest) (a .name .0) (s .pre .1)
+    (turn .loop .inv .0) _ (turn .loop .inv .1) (c .loop-test .left) in
+    rw (← none)
 
 pub get-spec : {M : Type 1} → statement M
 get-spec =
