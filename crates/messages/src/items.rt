@@ -6,20 +6,23 @@ ghost use lib.Seq.{sets};
 ghost use Rattle.lexer.specs.Decoded.{nameOf};
 ghost use Rattle.messages.specs.Messages.{atToken, atName, itemOf, ShortNames};
 use crate::words;
+use lexer::TokenAt;
+use parser::Refusal;
 use pieces::Identifier;
 use pieces::kinds;
 use utils::numbers;
 
-fn put_at_token(buf: &mut [u8], at: usize, kind: u32, name: Identifier, integer: u32) -> usize
+fn put_at_token(buf: &mut [u8], at: usize, t: TokenAt) -> usize
     requires { ⌜ at + 26 ≤ length (now buf) ⌝ }
-    ensures { λ r. ⌜ (r ≡ at + length (atToken kind name integer))
-        × (now (buf .exit) ≡ sets (now (buf .entry)) at (atToken kind name integer)) × (r ≤ at + 26) ⌝ }
+    ensures { λ r. ⌜ (r ≡ at + length (atToken (t .kind) (t .name) (t .integer)))
+        × (now (buf .exit) ≡ sets (now (buf .entry)) at (atToken (t .kind) (t .name) (t .integer)))
+        × (r ≤ at + 26) ⌝ }
 {
-    if kind == kinds::END_OF_FILE {
+    if t.kind == kinds::END_OF_FILE {
         return utils::put(buf, at, b"at end of file");
     }
     let p1 = utils::put(buf, at, b"at ");
-    words::put_quoted_shown(buf, p1, kind, name, integer)
+    words::put_quoted_shown(buf, p1, t.kind, t.name, t.integer)
 }
 
 fn put_at_name(buf: &mut [u8], at: usize, text: &[u8], names: &[u32], name: Identifier) -> usize
@@ -38,32 +41,31 @@ pub(crate) fn put_item(
     at: usize,
     text: &[u8],
     names: &[u32],
-    kind: u32,
-    own: Identifier,
-    integer: u32,
-    number: u32,
-    name: Identifier,
+    t: TokenAt,
+    e: Refusal,
 ) -> usize
     requires { ⌜ (at + 69 ≤ length (now buf)) × ShortNames (now text) (now names) ⌝ }
-    ensures { λ r. ⌜ (r ≡ at + length (itemOf (now (text .entry)) (now (names .entry)) kind own integer number name))
+    ensures { λ r. ⌜ (r ≡ at + length
+        (itemOf (now (text .entry)) (now (names .entry)) (t .kind) (t .name) (t .integer) (e .number) (e .name)))
         × (now (buf .exit) ≡ sets (now (buf .entry)) at
-        (itemOf (now (text .entry)) (now (names .entry)) kind own integer number name))
+        (itemOf (now (text .entry)) (now (names .entry)) (t .kind) (t .name) (t .integer) (e .number) (e .name)))
         × (r ≤ at + 69) ⌝ }
 {
+    let number = e.number;
     if number < numbers::DUPLICATE_LABEL {
-        return put_at_token(buf, at, kind, own, integer);
+        return put_at_token(buf, at, t);
     }
     if number == numbers::DUPLICATE_LABEL {
-        return put_at_name(buf, at, text, names, own);
+        return put_at_name(buf, at, text, names, t.name);
     }
     if number == numbers::MISSING_TARGET {
         return at;
     }
     if number < numbers::OTHER_TYPE {
-        return put_at_name(buf, at, text, names, name);
+        return put_at_name(buf, at, text, names, e.name);
     }
     if number < numbers::EMPTY_BLOCK {
-        return put_at_token(buf, at, kind, own, integer);
+        return put_at_token(buf, at, t);
     }
     at
 }

@@ -38,13 +38,9 @@ fn put_parts(
     ensures { λ _. ⌜ now (message .exit) ≡ padTo (length (now (message .entry)))
         (messageAt (now (text .entry)) (now (names .entry)) t e) ⌝ }
 {
-    let number = e.number;
-    let name = e.name;
-    let own = t.name;
-    let line = t.line.0;
-    let i = items::put_item(item, 0, text, names, t.kind, own, t.integer, number, name);
-    let n = texts::put_text(said, 0, text, names, number, e.wanted, e.found, name);
-    utils::report(message, line, &item[..i], &said[..n]);
+    let i = items::put_item(item, 0, text, names, t, e);
+    let n = texts::put_text(said, 0, text, names, e);
+    utils::report(message, t.line.0, &item[..i], &said[..n]);
 }
 
 // The message of a refusal, and zeros after it.

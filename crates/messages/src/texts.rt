@@ -7,6 +7,7 @@ ghost use Rattle.lexer.specs.Decoded.{nameOf};
 ghost use Rattle.messages.specs.Messages.{expected, missing, unexpected, otherType, otherCount, fixed, textOf};
 ghost use Rattle.messages.specs.Messages.{ShortNames};
 use crate::words;
+use parser::Refusal;
 use pieces::Identifier;
 use utils::numbers;
 
@@ -98,28 +99,21 @@ pub(crate) fn put_fixed(buf: &mut [u8], at: usize, number: u32) -> usize
     }
 }
 
-pub(crate) fn put_text(
-    buf: &mut [u8],
-    at: usize,
-    text: &[u8],
-    names: &[u32],
-    number: u32,
-    wanted: u32,
-    found: u32,
-    name: Identifier,
-) -> usize
+pub(crate) fn put_text(buf: &mut [u8], at: usize, text: &[u8], names: &[u32], e: Refusal) -> usize
     requires { ⌜ (at + 91 ≤ length (now buf)) × ShortNames (now text) (now names) ⌝ }
-    ensures { λ r. ⌜ (r ≡ at + length (textOf (now (text .entry)) (now (names .entry)) number wanted found name))
+    ensures { λ r. ⌜ (r ≡ at + length
+        (textOf (now (text .entry)) (now (names .entry)) (e .number) (e .wanted) (e .found) (e .name)))
         × (now (buf .exit) ≡ sets (now (buf .entry)) at
-        (textOf (now (text .entry)) (now (names .entry)) number wanted found name))
+        (textOf (now (text .entry)) (now (names .entry)) (e .number) (e .wanted) (e .found) (e .name)))
         × (r ≤ at + 91) ⌝ }
 {
+    let number = e.number;
     match number {
-        numbers::TOKEN_EXPECTED => put_expected(buf, at, wanted),
-        numbers::MISSING_TARGET => put_missing(buf, at, text, names, name),
-        numbers::UNEXPECTED_TYPE => put_unexpected(buf, at, found, wanted),
-        numbers::OTHER_TYPE => put_other_type(buf, at, wanted, found),
-        numbers::OTHER_COUNT => put_other_count(buf, at, wanted, found),
+        numbers::TOKEN_EXPECTED => put_expected(buf, at, e.wanted),
+        numbers::MISSING_TARGET => put_missing(buf, at, text, names, e.name),
+        numbers::UNEXPECTED_TYPE => put_unexpected(buf, at, e.found, e.wanted),
+        numbers::OTHER_TYPE => put_other_type(buf, at, e.wanted, e.found),
+        numbers::OTHER_COUNT => put_other_count(buf, at, e.wanted, e.found),
         _ => put_fixed(buf, at, number),
     }
 }

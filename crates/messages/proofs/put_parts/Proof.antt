@@ -9,34 +9,38 @@ use Rattle.messages.proofs.put_parts.Tie as tie
 
 slice-aggregate-report : tie.Need-slice-aggregate-report
 slice-aggregate-report c =
-    let back8 = c .before .before .before .before .before .before .before .before in
-    let back16 = back8 .before .before .before .before .before .before .before .before in
-    let put = back8 .put-item in
-    let a = back16 .before .args in
-    let x =
-    itemOf (now (a .text)) (now (a .names)) (a .t .kind) (a .t .name) (a .t .integer) (a .e .number) (a .e .name) in
-    front-long (now (a .item)) x (put .last .0) (put .result) 69 (back16 .before .pre .0) (put .ensures)
+    let s : tie.Start = search in
+    let p : tie.After-put-item = search in
+    let put = p .put-item in
+    let a = s .args in
+    let t = a .t in
+    let e = a .e in
+    let x = itemOf (now (a .text)) (now (a .names)) (t .kind) (t .name) (t .integer) (e .number) (e .name) in
+    front-long (now (a .item)) x (put .last .0) (put .result) 69 (s .pre .0) (put .ensures)
 
 slice-aggregate-report-2 : tie.Need-slice-aggregate-report-2
 slice-aggregate-report-2 c =
-    let put = c .before .before .before .before .before .put-text in
-    let back8 = c .before .before .before .before .before .before .before .before in
-    let back16 = back8 .before .before .before .before .before .before .before .before in
-    let a = back16 .before .before .args in
-    let y = textOf (now (a .text)) (now (a .names)) (a .e .number) (a .e .wanted) (a .e .found) (a .e .name) in
-    front-long (now (a .said)) y (put .last .0) (put .result) 91 (back16 .before .before .pre .1) (put .ensures)
+    let s : tie.Start = search in
+    let p : tie.After-put-text = search in
+    let put = p .put-text in
+    let a = s .args in
+    let e = a .e in
+    let y = textOf (now (a .text)) (now (a .names)) (e .number) (e .wanted) (e .found) (e .name) in
+    front-long (now (a .said)) y (put .last .0) (put .result) 91 (s .pre .1) (put .ensures)
 
 report-requires : tie.Need-report-requires
 report-requires c κs =
-    let text = c .before .before .before .before .before .put-text in
-    let back8 = c .before .before .before .before .before .before .before .before in
-    let back16 = back8 .before .before .before .before .before .before .before .before in
-    let item = back8 .before .put-item in
-    let a = back16 .before .before .args in
-    let pre = back16 .before .before .pre in
-    let x =
-    itemOf (now (a .text)) (now (a .names)) (a .t .kind) (a .t .name) (a .t .integer) (a .e .number) (a .e .name) in
-    let y = textOf (now (a .text)) (now (a .names)) (a .e .number) (a .e .wanted) (a .e .found) (a .e .name) in
+    let s : tie.Start = search in
+    let p1 : tie.After-put-item = search in
+    let p2 : tie.After-put-text = search in
+    let item = p1 .put-item in
+    let text = p2 .put-text in
+    let pre = s .pre in
+    let a = s .args in
+    let t = a .t in
+    let e = a .e in
+    let x = itemOf (now (a .text)) (now (a .names)) (t .kind) (t .name) (t .integer) (e .number) (e .name) in
+    let y = textOf (now (a .text)) (now (a .names)) (e .number) (e .wanted) (e .found) (e .name) in
     rw (
       read-back (now (a .item)) x (item .last .0) (item .result) 69 (pre .0) (item .ensures),
       read-back (now (a .said)) y (text .last .0) (text .result) 91 (pre .1) (text .ensures),
@@ -45,21 +49,23 @@ report-requires c κs =
 
 returns : tie.Need-returns
 returns c =
-    let report = c .before .before .report in
-    let back8 = c .before .before .before .before .before .before .before .before in
-    let back16 = back8 .before .before .before .before .before .before .before .before in
-    let text = back8 .put-text in
-    let item = back8 .before .before .before .before .put-item in
-    let a = back16 .before .before .before .before .before .args in
-    let pre = back16 .before .before .before .before .before .pre in
-    let x =
-    itemOf (now (a .text)) (now (a .names)) (a .t .kind) (a .t .name) (a .t .integer) (a .e .number) (a .e .name) in
-    let y = textOf (now (a .text)) (now (a .names)) (a .e .number) (a .e .wanted) (a .e .found) (a .e .name) in
+    let s : tie.Start = search in
+    let p1 : tie.After-put-item = search in
+    let p2 : tie.After-put-text = search in
+    let item = p1 .put-item in
+    let text = p2 .put-text in
+    let pre = s .pre in
+    let made : tie.After-report = search in
+    let a = s .args in
+    let t = a .t in
+    let e = a .e in
+    let x = itemOf (now (a .text)) (now (a .names)) (t .kind) (t .name) (t .integer) (e .number) (e .name) in
+    let y = textOf (now (a .text)) (now (a .names)) (e .number) (e .wanted) (e .found) (e .name) in
     rw (
       read-back (now (a .item)) x (item .last .0) (item .result) 69 (pre .0) (item .ensures),
       read-back (now (a .said)) y (text .last .0) (text .result) 91 (pre .1) (text .ensures),
     ) at
-    (report .ensures)
+    (made .report .ensures)
 
 pub put-parts-spec : {M : Type 1} → statement M
 put-parts-spec =

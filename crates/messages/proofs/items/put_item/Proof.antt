@@ -12,74 +12,87 @@ use Rattle.messages.proofs.items.put_item.Tie as tie
 returns : tie.Need-returns
 unfolding itemOf pick
 returns c =
-    let a = c .before .before .before .before .before .before .before .before .args in
-    let p = c .before .before .put-at-token in
-    rw (lt-ltb _ _ (c .before .before .before .before .if1 .taken)) (wider (now (a .buf)) (a .at) (atToken (a .kind)
-    (a .own) (a .integer)) (p .last .0) (p .result) 26 69 (omega arith) (p .ensures))
+    let s : tie.Start = search in
+    let t1 : tie.Then1 = search in
+    let put : tie.After-put-at-token = search in
+    let a = s .args in
+    let t = a .t in
+    let p = put .put-at-token in
+    rw (lt-ltb _ _ (t1 .if1 .taken)) (wider (now (a .buf)) (a .at) (atToken (t .kind) (t .name) (t .integer))
+    (p .last .0) (p .result) 26 69 (omega arith) (p .ensures))
 
 returns-2 : tie.Need-returns-2
 unfolding itemOf pick
 returns-2 c =
-    let a = c .before .before .before .before .before .before .before .before .before .args in
-    let p = c .before .before .put-at-name in
-    rw (
-      le-ltb _ _ (c .before .before .before .before .before .if1 .left),
-      eq-eqb _ _ (c .before .before .before
-          .before .if2 .taken),
-    ) (p .ensures)
+    let t1 : tie.Else1 = search in
+    let t2 : tie.Then2 = search in
+    let put : tie.After-put-at-name = search in
+    rw (le-ltb _ _ (t1 .if1 .left), eq-eqb _ _ (t2 .if2 .taken)) (put .put-at-name .ensures)
 
 returns-3 : tie.Need-returns-3
 unfolding itemOf pick
 returns-3 c =
-    rw (le-ltb _ _ (c .before .before .if1 .left), ne-eqb _ _ (c .before .if2 .left), eq-eqb _ _ (c .if3 .taken))
-    (nothing (now (c .before .before .before .before .before .before .args .buf)) (c .before .before .before .before
-    .before .before .args .at) 69)
+    let s : tie.Start = search in
+    let t1 : tie.Else1 = search in
+    let t2 : tie.Else2 = search in
+    rw (le-ltb _ _ (t1 .if1 .left), ne-eqb _ _ (t2 .if2 .left), eq-eqb _ _ (c .if3 .taken))
+    (nothing (now (s .args .buf)) (s .args .at) 69)
 
 returns-4 : tie.Need-returns-4
 unfolding itemOf pick
 returns-4 c =
-    let a = c .before .before .before .before .before .before .before .before .before .before .before .args in
-    let p = c .before .before .put-at-name2 in
+    let t1 : tie.Else1 = search in
+    let t2 : tie.Else2 = search in
+    let t3 : tie.Else3 = search in
+    let t4 : tie.Then4 = search in
+    let put : tie.After-put-at-name2 = search in
     rw (
-      le-ltb _ _ (c .before .before .before .before .before .before .before .if1 .left),
-      ne-eqb _ _ (c .before
-          .before .before .before .before .before .if2 .left),
-      ne-eqb _ _ (c .before .before .before .before .before .if3
-          .left),
-      lt-ltb _ _ (c .before .before .before .before .if4 .taken),
-    ) (p .ensures)
+      le-ltb _ _ (t1 .if1 .left),
+      ne-eqb _ _ (t2 .if2 .left),
+      ne-eqb _ _ (t3 .if3 .left),
+      lt-ltb _ _ (t4 .if4 .taken),
+    )
+    (put .put-at-name2 .ensures)
 
 returns-5 : tie.Need-returns-5
 unfolding itemOf pick
 returns-5 c =
-    let a = c .before .before .before .before .before .before .before .before .before .before .before .before .args
-    in
-    let p = c .before .before .put-at-token2 in
+    let s : tie.Start = search in
+    let t1 : tie.Else1 = search in
+    let t2 : tie.Else2 = search in
+    let t3 : tie.Else3 = search in
+    let t4 : tie.Else4 = search in
+    let t5 : tie.Then5 = search in
+    let put : tie.After-put-at-token2 = search in
+    let a = s .args in
+    let t = a .t in
+    let p = put .put-at-token2 in
     rw (
-      le-ltb _ _ (c .before .before .before .before .before .before .before .before .if1 .left),
-      ne-eqb _ _ (c
-          .before .before .before .before .before .before .before .if2 .left),
-      ne-eqb _ _ (c .before .before .before
-          .before .before .before .if3 .left),
-      le-ltb _ _ (c .before .before .before .before .before .if4 .left),
-      lt-ltb _
-          _ (c .before .before .before .before .if5 .taken),
-    ) (wider (now (a .buf)) (a .at) (atToken (a .kind) (a .own) (a .integer))
-    (p .last .0) (p .result) 26 69 (omega arith) (p .ensures))
+      le-ltb _ _ (t1 .if1 .left),
+      ne-eqb _ _ (t2 .if2 .left),
+      ne-eqb _ _ (t3 .if3 .left),
+      le-ltb _ _ (t4 .if4 .left),
+      lt-ltb _ _ (t5 .if5 .taken),
+    )
+    (wider (now (a .buf)) (a .at) (atToken (t .kind) (t .name) (t .integer)) (p .last .0) (p .result) 26 69
+    (omega arith) (p .ensures))
 
 returns-6 : tie.Need-returns-6
 unfolding itemOf pick
 returns-6 c =
+    let s : tie.Start = search in
+    let t1 : tie.Else1 = search in
+    let t2 : tie.Else2 = search in
+    let t3 : tie.Else3 = search in
+    let t4 : tie.Else4 = search in
     rw (
-      le-ltb _ _ (c .before .before .before .before .if1 .left),
-      ne-eqb _ _ (c .before .before .before .if2
-          .left),
-      ne-eqb _ _ (c .before .before .if3 .left),
-      le-ltb _ _ (c .before .if4 .left),
+      le-ltb _ _ (t1 .if1 .left),
+      ne-eqb _ _ (t2 .if2 .left),
+      ne-eqb _ _ (t3 .if3 .left),
+      le-ltb _ _ (t4 .if4 .left),
       le-ltb _ _ (c .if5 .left),
     )
-    (nothing (now (c .before .before .before .before .before .before .before .before .args .buf)) (c .before .before
-    .before .before .before .before .before .before .args .at) 69)
+    (nothing (now (s .args .buf)) (s .args .at) 69)
 
 pub put-item-spec : {M : Type 1} → statement M
 put-item-spec =
