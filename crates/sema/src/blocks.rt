@@ -11,6 +11,7 @@ ghost use Rattle.sema.specs.Typing.{typePlainD, typeItemD};
 ghost use Rattle.sema.specs.Items.{operationOf, itemOf, itemAt};
 ghost use Rattle.sema.specs.Globals.{globalsIn};
 ghost use Rattle.sema.specs.Blocks.{itemsAt, typeEndD, typeBlockD};
+use crate::Arguments;
 use crate::Checked;
 use crate::calls;
 use crate::operations;
@@ -75,6 +76,7 @@ fn analyze_record(
         Last::Name(x, _) => analyze_plain(tokens, ret, table, r, x),
         Last::Labels { .. } => Checked::Fine,
         Last::Run { first, count } => {
+            let run = Arguments { first, count };
             if r.kind == kinds::CALL_INTO {
                 return calls::analyze_call_into(
                     table,
@@ -85,11 +87,10 @@ fn analyze_record(
                     ty,
                     callee,
                     arguments,
-                    first,
-                    count,
+                    run,
                 );
             }
-            calls::analyze_call(table, w, rows, n, callee, arguments, first, count)
+            calls::analyze_call(table, w, rows, n, callee, arguments, run)
         }
     }
 }

@@ -10,6 +10,7 @@ ghost use Rattle.sema.specs.Typing.{presentD, typesOf, sameAll, typeArgu
 ghost use Rattle.body.specs.Records.{named};
 ghost use Rattle.sema.specs.Items.{variablesAt};
 ghost use Rattle.sema.specs.Globals.{globalsIn};
+use crate::Arguments;
 use crate::Checked;
 use crate::symbols;
 use functions::FoundRow;
@@ -31,12 +32,12 @@ fn argument_at(arguments: &[u32], at: usize) -> Identifier
 }
 
 // 16 for the first argument that has no type.
-fn look_arguments(table: &[u32], token: usize, arguments: &[u32], first: u32, count: u32) -> Checked
+fn look_arguments(table: &[u32], token: usize, arguments: &[u32], run: Arguments) -> Checked
     ensures { λ r. ⌜ typed (now (table .entry)) r
-        ≡ presentD (now (table .entry)) token (variablesAt (now (arguments .entry)) first count) ⌝ }
+        ≡ presentD (now (table .entry)) token (variablesAt (now (arguments .entry)) (run .first) (run .count)) ⌝ }
 {
-    let mut at = first as usize;
-    let mut left = count;
+    let mut at = run.first as usize;
+    let mut left = run.count;
     while 0 < left {
         let name = argument_at(arguments, at);
         if symbols::get(table, name) == 0 {
@@ -54,20 +55,19 @@ fn compare_arguments(
     table: &[u32],
     token: usize,
     arguments: &[u32],
-    first: u32,
-    count: u32,
+    run: Arguments,
     rows: &[u32],
     formal: usize,
 ) -> Checked
-    requires { ⌜ formal + count * 2 ≤ length (now rows) ⌝ }
+    requires { ⌜ formal + run .count * 2 ≤ length (now rows) ⌝ }
     ensures { λ r. ⌜ typed (now (table .entry)) r
         ≡ sameAll (now (table .entry)) token
-        (typesOf (now (table .entry)) (variablesAt (now (arguments .entry)) first count))
-        (typesAt (now (rows .entry)) formal count) ⌝ }
+        (typesOf (now (table .entry)) (variablesAt (now (arguments .entry)) (run .first) (run .count)))
+        (typesAt (now (rows .entry)) formal (run .count)) ⌝ }
 {
-    let mut at = first as usize;
+    let mut at = run.first as usize;
     let mut wanted = formal;
-    let mut left = count;
+    let mut left = run.count;
     while 0 < left {
         let found = symbols::get(table, argument_at(arguments, at));
         match symbols::expect_type(token, found, rows[wanted + 1]) {
@@ -101,27 +101,26 @@ fn analyze_arguments(
     rows: &[u32],
     i: usize,
     arguments: &[u32],
-    first: u32,
-    count: u32,
+    run: Arguments,
 ) -> Checked
     requires { ⌜ IsRow (now rows) i ⌝ }
     ensures { λ r. ⌜ typed (now (table .entry)) r ≡ typeArgumentsD (now (table .entry)) token
         (typesAt (now (rows .entry)) (formalsAt i) (atMost16 (getD (now (rows .entry)) (countAt i) 0)))
-        (variablesAt (now (arguments .entry)) first count) ⌝ }
+        (variablesAt (now (arguments .entry)) (run .first) (run .count)) ⌝ }
 {
     let formals = at_most_16(rows[columns::COUNT + i * columns::ROW]);
+    let count = run.count;
     if formals != count {
         return symbols::refuse(numbers::OTHER_COUNT, token, formals, count, Identifier(0));
     }
-    match look_arguments(table, token, arguments, first, count) {
+    match look_arguments(table, token, arguments, run) {
         Checked::Refused(e) => Checked::Refused(e),
         Checked::Fine => {
             compare_arguments(
                 table,
                 token,
                 arguments,
-                first,
-                count,
+                run,
                 rows,
                 columns::FORMALS + i * columns::ROW,
             )
@@ -145,13 +144,12 @@ pub fn analyze_call(
     n: usize,
     callee: Identifier,
     arguments: &[u32],
-    first: u32,
-    count: u32,
+    run: Arguments,
 ) -> Checked
     requires { ⌜ HasRows (now rows) n ⌝ }
     ensures { λ r. ⌜ typed (now (table .entry)) r
         ≡ typeCallD (now (table .entry)) (globalsIn (now (rows .entry)) n (callee .0)) token callee
-        (variablesAt (now (arguments .entry)) first count) ⌝ }
+        (variablesAt (now (arguments .entry)) (run .first) (run .count)) ⌝ }
 {
     match known::find_function(rows, n, callee) {
         FoundRow::Absent => symbols::refuse(numbers::UNDEFINED, token, 0, 0, callee),
@@ -159,7 +157,7 @@ pub fn analyze_call(
             if result_type(rows, i) != types::VOID {
                 return symbols::refuse(numbers::NO_VALUE, token, 0, 0, Identifier(0));
             }
-            analyze_arguments(table, token, rows, i, arguments, first, count)
+            analyze_arguments(table, token, rows, i, arguments, run)
         }
     }
 }
@@ -173,18 +171,17 @@ fn enter_result(
     result: Identifier,
     ty: u32,
     arguments: &[u32],
-    first: u32,
-    count: u32,
+    run: Arguments,
 ) -> Checked
     requires { ⌜ IsRow (now rows) i ⌝ }
     ensures { λ r. ⌜ typed (now (table .exit)) r ≡ thenTyped (enterD (now (table .entry)) token result ty)
         (λ t. typeArgumentsD t token
         (typesAt (now (rows .entry)) (formalsAt i) (atMost16 (getD (now (rows .entry)) (countAt i) 0)))
-        (variablesAt (now (arguments .entry)) first count)) ⌝ }
+        (variablesAt (now (arguments .entry)) (run .first) (run .count))) ⌝ }
 {
     match symbols::insert(table, token, result, ty) {
         Checked::Refused(e) => Checked::Refused(e),
-        Checked::Fine => analyze_arguments(table, token, rows, i, arguments, first, count),
+        Checked::Fine => analyze_arguments(table, token, rows, i, arguments, run),
     }
 }
 
@@ -197,13 +194,12 @@ pub fn analyze_call_into(
     ty: u32,
     callee: Identifier,
     arguments: &[u32],
-    first: u32,
-    count: u32,
+    run: Arguments,
 ) -> Checked
     requires { ⌜ HasRows (now rows) n ⌝ }
     ensures { λ r. ⌜ typed (now (table .exit)) r
         ≡ typeCallIntoD (now (table .entry)) (globalsIn (now (rows .entry)) n (callee .0)) token result ty callee
-        (variablesAt (now (arguments .entry)) first count) ⌝ }
+        (variablesAt (now (arguments .entry)) (run .first) (run .count)) ⌝ }
 {
     match known::find_function(rows, n, callee) {
         FoundRow::Absent => symbols::refuse(numbers::UNDEFINED, token, 0, 0, callee),
@@ -214,9 +210,7 @@ pub fn analyze_call_into(
             }
             match symbols::expect_type(token, ty, ret) {
                 Checked::Refused(e) => Checked::Refused(e),
-                Checked::Fine => {
-                    enter_result(table, token, rows, i, result, ty, arguments, first, count)
-                }
+                Checked::Fine => enter_result(table, token, rows, i, result, ty, arguments, run),
             }
         }
     }

@@ -11,3 +11,9 @@ pub enum Checked {
     Fine,
     Refused(Refusal),
 }
+
+// A call's arguments: `count` of them, from the argument `first` of the slice of all calls' arguments on.
+pub struct Arguments {
+    pub first: u32,
+    pub count: u32,
+}

@@ -13,31 +13,36 @@ use Rattle.sema.proofs.calls.analyze_arguments.Tie as tie
 returns : tie.Need-returns
 unfolding typeArgumentsD pick
 returns c =
-    let at-most-16 = c .before .before .at-most-16 in
-    let if1 = c .before .if1 in
-    let refuse = c .refuse in
-    rw (← at-most-16 .ensures .0, length-types _ _ _, length-variables _ _ _, ne-eqb _ _ (if1 .taken), refuse .ensures)
+    let most : tie.After-at-most-16 = search in
+    let test : tie.Then1 = search in
+    rw (
+      ← most .at-most-16 .ensures .0,
+      length-types _ _ _,
+      length-variables _ _ _,
+      ne-eqb _ _ (test .if1 .taken),
+      c .refuse .ensures,
+    )
 
 returns-2 : tie.Need-returns-2
 unfolding typeArgumentsD pick
 returns-2 c =
-    let e = c .before .e in
-    let look-arguments = c .before .before .before .look-arguments in
-    let if1 = c .before .before .before .before .if1 in
-    let at-most-16 = c .before .before .before .before .before .at-most-16 in
-    rw (← at-most-16 .ensures .0, length-types _ _ _, length-variables _ _ _, eq-eqb _ _ (if1 .left))
-    (typed-refused _ _ _ (look-arguments .ensures) (e .given .1))
+    let most : tie.After-at-most-16 = search in
+    let test : tie.Else1 = search in
+    let look : tie.After-look-arguments = search in
+    let e : tie.After-e = search in
+    rw (← most .at-most-16 .ensures .0, length-types _ _ _, length-variables _ _ _, eq-eqb _ _ (test .if1 .left))
+    (typed-refused _ _ _ (look .look-arguments .ensures) (e .e .given .1))
 
 returns-3 : tie.Need-returns-3
 unfolding typeArgumentsD pick
 returns-3 c =
-    let compare-arguments = c .compare-arguments in
-    let enum-told = c .before .enum-told in
-    let look-arguments = c .before .before .before .look-arguments in
-    let if1 = c .before .before .before .before .if1 in
-    let at-most-16 = c .before .before .before .before .before .at-most-16 in
-    rw (← at-most-16 .ensures .0, length-types _ _ _, length-variables _ _ _, eq-eqb _ _ (if1 .left), if1 .left)
-    (compare-arguments .ensures ∙ typed-fine _ _ _ (look-arguments .ensures) (enum-told .given .1))
+    let most : tie.After-at-most-16 = search in
+    let test : tie.Else1 = search in
+    let look : tie.After-look-arguments = search in
+    let told : tie.After-enum-told = search in
+    let same = test .if1 .left in
+    rw (← most .at-most-16 .ensures .0, length-types _ _ _, length-variables _ _ _, eq-eqb _ _ same, same)
+    (c .compare-arguments .ensures ∙ typed-fine _ _ _ (look .look-arguments .ensures) (told .enum-told .given .1))
 
 pub analyze-arguments-spec : {M : Type 1} → statement M
 analyze-arguments-spec =

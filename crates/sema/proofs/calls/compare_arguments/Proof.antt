@@ -16,61 +16,62 @@ use Rattle.sema.proofs.calls.compare_arguments.Statement.{statement}
 use Rattle.sema.proofs.calls.compare_arguments.Tie as tie
 
 abbrev Inv-loop : tie.InvT-loop
-Inv-loop table token arguments first count rows formal at₀ wanted₀ left₀ at wanted left =
-    (at + left ≡ first + count) × (wanted + left * 2 ≡ formal + count * 2)
+Inv-loop table token arguments rows formal at₀ wanted₀ left₀ at wanted left =
+    (at + left ≡ at₀ + left₀) × (wanted + left * 2 ≡ formal + left₀ * 2)
     × (sameAll table token (typesOf table (variablesAt arguments at left)) (typesAt rows wanted left)
-    ≡ sameAll table token (typesOf table (variablesAt arguments first count)) (typesAt rows formal count))
+    ≡ sameAll table token (typesOf table (variablesAt arguments at₀ left₀)) (typesAt rows formal left₀))
 
 abbrev μ-loop : tie.MeasureT-loop
-μ-loop table token arguments first count rows formal at₀ wanted₀ left₀ at wanted left = left
+μ-loop table token arguments rows formal at₀ wanted₀ left₀ at wanted left = left
 
 returns : tie.Need-returns Inv-loop μ-loop
 unfolding typesOf sameAll
 returns c =
-    let a = c .before .before .before .before .before .before .before .before .before .before .before .before .args in
-    let loop = c .before .before .before .before .before .before .before .before .loop in
-    let loop-test = c .before .before .before .before .before .before .before .loop-test in
-    let argument-at = c .before .before .before .before .before .before .argument-at in
-    let get = c .before .before .before .before .before .get in
-    let expect-type = c .before .before .before .expect-type in
-    let e = c .before .e in
-    let t = now (a .table) in
-    let v = ap (λ (x : Identifier). getD t (x .0) 0) (sym (argument-at .ensures)) ∙ sym (get .ensures) in
-    let m = variables-more (now (a .arguments)) (loop .at) (loop .left) (loop-test .taken) in
-    let y = types-more (now (a .rows)) (loop .wanted) (loop .left) (loop-test .taken) in
-    rw (← loop .inv .2, m, y, v) (same-refused t _ _ _ _ (expect-type .ensures) (e .given .1))
+    let s : tie.Start Inv-loop μ-loop = search in
+    let head : tie.At-loop Inv-loop μ-loop = search in
+    let turn : tie.In-loop Inv-loop μ-loop = search in
+    let name : tie.After-argument-at Inv-loop μ-loop = search in
+    let got : tie.After-get Inv-loop μ-loop = search in
+    let same : tie.After-expect-type Inv-loop μ-loop = search in
+    let e : tie.After-e Inv-loop μ-loop = search in
+    let t = now (s .args .table) in
+    let h = turn .loop-test .taken in
+    let v = ap (λ (x : Identifier). getD t (x .0) 0) (sym (name .argument-at .ensures)) ∙ sym (got .get .ensures) in
+    let m = variables-more (now (s .args .arguments)) (head .loop .at) (head .loop .left) h in
+    let y = types-more (now (s .args .rows)) (head .loop .wanted) (head .loop .left) h in
+    rw (← head .loop .inv .2, m, y, v) (same-refused t _ _ _ _ (same .expect-type .ensures) (e .e .given .1))
 
 loop-again : tie.Need-loop-again Inv-loop μ-loop
 unfolding typesOf sameAll
 loop-again c =
-    let enum-told = c .enum-told in
-    let expect-type = c .before .before .expect-type in
-    let get = c .before .before .before .before .get in
-    let argument-at = c .before .before .before .before .before .argument-at in
-    let loop-test = c .before .before .before .before .before .before .loop-test in
-    let loop = c .before .before .before .before .before .before .before .loop in
-    let back8 = c .before .before .before .before .before .before .before .before in
-    let a = back8 .before .before .before .args in
-    let t = now (a .table) in
-    let v = ap (λ (x : Identifier). getD t (x .0) 0) (sym (argument-at .ensures)) ∙ sym (get .ensures) in
-    let m = variables-more (now (a .arguments)) (loop .at) (loop .left) (loop-test .taken) in
-    let y = types-more (now (a .rows)) (loop .wanted) (loop .left) (loop-test .taken) in (
+    let s : tie.Start Inv-loop μ-loop = search in
+    let head : tie.At-loop Inv-loop μ-loop = search in
+    let turn : tie.In-loop Inv-loop μ-loop = search in
+    let name : tie.After-argument-at Inv-loop μ-loop = search in
+    let got : tie.After-get Inv-loop μ-loop = search in
+    let same : tie.After-expect-type Inv-loop μ-loop = search in
+    let t = now (s .args .table) in
+    let h = turn .loop-test .taken in
+    let v = ap (λ (x : Identifier). getD t (x .0) 0) (sym (name .argument-at .ensures)) ∙ sym (got .get .ensures) in
+    let m = variables-more (now (s .args .arguments)) (head .loop .at) (head .loop .left) h in
+    let y = types-more (now (s .args .rows)) (head .loop .wanted) (head .loop .left) h in (
       omega arith,
       omega arith,
-      same-fine t _ _ _ _ (expect-type .ensures) (enum-told .given .1) ∙ rw (← loop .inv .2, m, y, v),
+      same-fine t _ _ _ _ (same .expect-type .ensures) (c .enum-told .given .1) ∙ rw (← head .loop .inv .2, m, y, v),
     )
 
 returns-2 : tie.Need-returns-2 Inv-loop μ-loop
 unfolding typesOf sameAll
 returns-2 c =
-    let a = c .before .before .before .before .before .args in
-    let loop = c .before .loop in
-    rw (← loop .inv .2, variables-none (now (a .arguments)) (loop .at) (loop .left) (omega arith))
+    let s : tie.Start Inv-loop μ-loop = search in
+    let head : tie.At-loop Inv-loop μ-loop = search in
+    let loop = head .loop in
+    rw (← loop .inv .2, variables-none (now (s .args .arguments)) (loop .at) (loop .left) (omega arith))
 
 pub compare-arguments-spec : {M : Type 1} → statement M
 compare-arguments-spec =
     tie.close
-    (tie.spec Inv-loop μ-loop (λ c. (refl, refl, refl)) (λ c κs. search needs) (λ c κs. search needs)
-    (λ c. search needs) (λ c. search needs) (λ c. search needs) (λ c κs. search needs) (λ c. search needs) returns
-    (λ c. search needs) (λ c. search needs) (λ c. search needs) (λ c. search needs) (λ c. search needs) loop-again
-    returns-2)
+    (tie.spec Inv-loop μ-loop (λ c. search needs) (λ c. (refl, refl, refl)) (λ c κs. search needs)
+    (λ c κs. search needs) (λ c. search needs) (λ c. search needs) (λ c. search needs) (λ c κs. search needs)
+    (λ c. search needs) returns (λ c. search needs) (λ c. search needs) (λ c. search needs) (λ c. search needs)
+    (λ c. search needs) loop-again returns-2)
