@@ -41,11 +41,11 @@ returns c =
 returns-2 : tie.Need-returns-2
 unfolding recheckDef
 returns-2 c =
+    let s : tie.Start = search in
     let if1 = c .before .if1 in
     let fits2 = c .before .before .fits2 in
     let fits-unit = c .before .before .before .fits-unit in
-    let back8 = c .before .before .before .before .before .before .before .before in
-    let a = back8 .before .before .before .before .before .before .before .args in
+    let a = s .args in
     shorts (recheckOf (now (a .old)) (now (a .table)) (a .number) (now (a .new))) (now (a .message)) (now (a .tokens))
     (now (a .names))
     (slices (now (a .functions)) (now (a .items)) (now (a .arguments)) (now (a .blocks)) (now (a .predecessors)))

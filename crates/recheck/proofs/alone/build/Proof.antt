@@ -43,17 +43,16 @@ to-start c = search
 
 keeps-requires : tie.Need-keeps-requires
 keeps-requires c κs =
-    let back8 = c .before .before .before .before .before .before .before .before in
-    let a = back8 .before .before .before .before .args in
-    let pre = back8 .before .before .before .before .pre in
+    let s : tie.Start = search in
+    let a = s .args in
+    let pre = s .pre in
     let t = table-in-range (now (a .old)) (now (a .rows)) (a .number) (pre .0) in
     (omega (arith, t .there, t .in-range .count), pre .5)
 
 returns : tie.Need-returns
 returns c =
-    let back8 = c .before .before .before .before .before .before .before .before in
-    let back16 = back8 .before .before .before .before .before .before .before .before in
-    let a = back16 .before .args in
+    let s : tie.Start = search in
+    let a = s .args in
     let keeps = c .before .before .before .before .keeps in
     let differs = c .before .if1 in
     let refuse = c .refuse in

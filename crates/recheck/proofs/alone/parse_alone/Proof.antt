@@ -26,8 +26,8 @@ to-start c = search
 
 parse-function-requires : tie.Need-parse-function-requires
 parse-function-requires c κs =
-    let back8 = c .before .before .before .before .before .before .before .before in
-    let pre = back8 .before .before .before .before .pre in (
+    let s : tie.Start = search in
+    let pre = s .pre in (
       record {
         within = pre .0;
         items-few = omega arith;

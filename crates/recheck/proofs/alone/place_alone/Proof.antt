@@ -17,8 +17,8 @@ slice-write-functions-2 c =
 
 copy-row-requires : tie.Need-copy-row-requires
 copy-row-requires c κs =
-    let back8 = c .before .before .before .before .before .before .before .before in
-    let entry = back8 .before .before .before .before .before in
+    let s : tie.Start = search in
+    let entry = s in
     let a = entry .args in
     let bring = c .before .before .before .before .bring in
     let up =
@@ -31,9 +31,10 @@ copy-row-requires c κs =
 
 returns : tie.Need-returns
 returns c =
-    let back8 = c .before .before .before .before .before .before .before .before in
-    let cell = back8 .before .cell-at in
-    let bring = c .before .before .before .before .before .before .before .bring in
+    let at-cell-at : tie.After-cell-at = search in
+    let at-bring : tie.After-bring = search in
+    let cell = at-cell-at .cell-at in
+    let bring = at-bring .bring in
     let copy = c .before .before .copy-row in
     record {
       row = rw (← cell .ensures);
