@@ -1,6 +1,11 @@
 -- Test by test, as `itemOf`.
 use borrow.Author.Tests.{lt-ltb, le-ltb, eq-eqb, ne-eqb}
 use native.Mathlib.Omega.{arith}
+use Prim.Native.Nat.{ℕ, _≤_}
+use mathlib.Core.List.{List, []}
+use mathlib.Core.Path.{_≡_}
+use lib.Dec.{ltb}
+use Rattle.pieces.specs.declared.Identifier.{Identifier}
 use denote.Ref.{now}
 use borrow.Author.Needs.{needs}
 use Rattle.messages.specs.Messages.{atToken, itemOf}
@@ -8,6 +13,18 @@ use Rattle.utils.specs.Bytes.{pick}
 use Rattle.messages.proofs.Puts.{nothing, wider}
 use Rattle.messages.proofs.items.put_item.Statement.{statement}
 use Rattle.messages.proofs.items.put_item.Tie as tie
+
+-- from 17 on one test is left
+item-from-17 : (text names : List ℕ) (kind : ℕ) (own : Identifier) (integer n : ℕ) (name : Identifier) → 17 ≤ n
+    → itemOf text names kind own integer n name ≡ pick (ltb n 22) (atToken kind own integer) []
+unfolding itemOf pick
+item-from-17 text names kind own integer n name h =
+    rw (
+      le-ltb n 13 (omega (arith, h)),
+      ne-eqb n 13 (λ e. omega (arith, h, e)),
+      ne-eqb n 14 (λ e. omega (arith, h, e)),
+      le-ltb n 17 h,
+    )
 
 returns : tie.Need-returns
 unfolding itemOf pick
@@ -55,43 +72,25 @@ returns-4 c =
     (put .put-at-name2 .ensures)
 
 returns-5 : tie.Need-returns-5
-unfolding itemOf pick
+unfolding pick
 returns-5 c =
     let s : tie.Start = search in
-    let t1 : tie.Else1 = search in
-    let t2 : tie.Else2 = search in
-    let t3 : tie.Else3 = search in
     let t4 : tie.Else4 = search in
     let t5 : tie.Then5 = search in
     let put : tie.After-put-at-token2 = search in
     let a = s .args in
     let t = a .t in
     let p = put .put-at-token2 in
-    rw (
-      le-ltb _ _ (t1 .if1 .left),
-      ne-eqb _ _ (t2 .if2 .left),
-      ne-eqb _ _ (t3 .if3 .left),
-      le-ltb _ _ (t4 .if4 .left),
-      lt-ltb _ _ (t5 .if5 .taken),
-    )
+    rw (item-from-17 _ _ _ _ _ _ _ (t4 .if4 .left), lt-ltb _ _ (t5 .if5 .taken))
     (wider (now (a .buf)) (a .at) (atToken (t .kind) (t .name) (t .integer)) (p .last .0) (p .result) 26 69
     (omega arith) (p .ensures))
 
 returns-6 : tie.Need-returns-6
-unfolding itemOf pick
+unfolding pick
 returns-6 c =
     let s : tie.Start = search in
-    let t1 : tie.Else1 = search in
-    let t2 : tie.Else2 = search in
-    let t3 : tie.Else3 = search in
     let t4 : tie.Else4 = search in
-    rw (
-      le-ltb _ _ (t1 .if1 .left),
-      ne-eqb _ _ (t2 .if2 .left),
-      ne-eqb _ _ (t3 .if3 .left),
-      le-ltb _ _ (t4 .if4 .left),
-      le-ltb _ _ (c .if5 .left),
-    )
+    rw (item-from-17 _ _ _ _ _ _ _ (t4 .if4 .left), le-ltb _ _ (c .if5 .left))
     (nothing (now (s .args .buf)) (s .args .at) 69)
 
 pub put-item-spec : {M : Type 1} → statement M
