@@ -1,10 +1,11 @@
 -- One turn of each loop: what is left to look at is the first of it and the rest, or nothing.
 use Prim.Native.Nat.{ℕ, zero, suc, _+_, _*_, _-_, _<_}
-use mathlib.Core.Path.{_≡_, refl, ap}
+use mathlib.Core.Path.{_≡_, refl, sym, ap, _∙_}
 use mathlib.Core.List.{List, [], _∷_}
 use native.Mathlib.Omega.{arith}
 use lib.ListN.{getD, length}
 use Rattle.functions.specs.Rows.{typesAt}
+use Rattle.pieces.specs.declared.Identifier.{Identifier}
 use Rattle.body.specs.Records.{named}
 use Rattle.sema.specs.Items.{typed, variablesAt}
 
@@ -18,6 +19,12 @@ variables-more cells at (suc n) h = let m : suc n - 1 ≡ n = omega arith in rw 
 pub variables-none : (cells : List ℕ) (at n : ℕ) → n ≡ 0 → variablesAt cells at n ≡ []
 unfolding variablesAt
 variables-none cells at n h = rw h
+
+-- the type that was found under an argument's name
+pub found-at : (t cells : List ℕ) (at : ℕ) {x : Identifier} {found : ℕ} → x ≡ named (getD cells (at * 2) 0)
+    → found ≡ getD t (x .0) 0
+    → getD t (named (getD cells (at * 2) 0) .0) 0 ≡ found
+found-at t cells at e h = ap (λ (x : Identifier). getD t (x .0) 0) (sym e) ∙ sym h
 
 pub types-more : (cells : List ℕ) (at n : ℕ) → 0 < n
     → typesAt cells at n ≡ getD cells (at + 1) 0 ∷ typesAt cells (at + 2) (n - 1)

@@ -2,14 +2,14 @@
 -- one argument and the two cells of its formal, so both runs stay in step.
 use Rattle.sema.proofs.Steps.{same-refused, same-fine}
 use Rattle.functions.specs.Rows.{typesAt}
-use Rattle.sema.proofs.Turns.{variables-more, variables-none, types-more}
+use Rattle.sema.proofs.Turns.{variables-more, variables-none, found-at, types-more}
 use Rattle.sema.specs.Items.{variablesAt}
 use Rattle.sema.specs.Typing.{typesOf, sameAll}
-use Rattle.pieces.specs.declared.Identifier.{Identifier}
+use Rattle.body.specs.Records.{named}
 use borrow.Author.Needs.{needs}
 use native.Mathlib.Omega.{arith}
 use Prim.Native.Nat.{_+_, _*_}
-use mathlib.Core.Path.{_≡_, refl, sym, ap, _∙_}
+use mathlib.Core.Path.{_≡_, refl, _∙_}
 use lib.ListN.{getD}
 use denote.Ref.{now}
 use Rattle.sema.proofs.calls.compare_arguments.Statement.{statement}
@@ -24,40 +24,45 @@ Inv-loop table token arguments rows formal at₀ wanted₀ left₀ at wanted lef
 abbrev μ-loop : tie.MeasureT-loop
 μ-loop table token arguments rows formal at₀ wanted₀ left₀ at wanted left = left
 
+abbrev start : tie.After-get Inv-loop μ-loop → tie.Start Inv-loop μ-loop
+start p = search
+
+abbrev head : tie.After-get Inv-loop μ-loop → tie.At-loop Inv-loop μ-loop
+head p = search
+
+found : (p : tie.After-get Inv-loop μ-loop)
+    → getD (now (start p .args .table)) (named (getD (now (start p .args .arguments)) (head p .loop .at * 2) 0) .0) 0
+    ≡ p .get .result
+found p =
+    let name : tie.After-argument-at Inv-loop μ-loop = search in
+    let a = start p .args in
+    found-at (now (a .table)) (now (a .arguments)) (head p .loop .at) (name .argument-at .ensures) (p .get .ensures)
+
 returns : tie.Need-returns Inv-loop μ-loop
 unfolding typesOf sameAll
 returns c =
-    let s : tie.Start Inv-loop μ-loop = search in
-    let head : tie.At-loop Inv-loop μ-loop = search in
+    let p : tie.After-get Inv-loop μ-loop = search in
     let turn : tie.In-loop Inv-loop μ-loop = search in
-    let name : tie.After-argument-at Inv-loop μ-loop = search in
-    let got : tie.After-get Inv-loop μ-loop = search in
     let same : tie.After-expect-type Inv-loop μ-loop = search in
     let e : tie.After-e Inv-loop μ-loop = search in
-    let t = now (s .args .table) in
     let h = turn .loop-test .taken in
-    let v = ap (λ (x : Identifier). getD t (x .0) 0) (sym (name .argument-at .ensures)) ∙ sym (got .get .ensures) in
-    let m = variables-more (now (s .args .arguments)) (head .loop .at) (head .loop .left) h in
-    let y = types-more (now (s .args .rows)) (head .loop .wanted) (head .loop .left) h in
-    rw (← head .loop .inv .2, m, y, v) (same-refused t _ _ _ _ (same .expect-type .ensures) (e .e .given .1))
+    rw (← head p .loop .inv .2, variables-more _ _ _ h, types-more _ _ _ h, found p)
+    (same-refused _ _ _ _ _ (same .expect-type .ensures) (e .e .given .1))
 
 loop-again : tie.Need-loop-again Inv-loop μ-loop
 unfolding typesOf sameAll
 loop-again c =
-    let s : tie.Start Inv-loop μ-loop = search in
-    let head : tie.At-loop Inv-loop μ-loop = search in
+    let p : tie.After-get Inv-loop μ-loop = search in
     let turn : tie.In-loop Inv-loop μ-loop = search in
-    let name : tie.After-argument-at Inv-loop μ-loop = search in
-    let got : tie.After-get Inv-loop μ-loop = search in
     let same : tie.After-expect-type Inv-loop μ-loop = search in
-    let t = now (s .args .table) in
-    let h = turn .loop-test .taken in
-    let v = ap (λ (x : Identifier). getD t (x .0) 0) (sym (name .argument-at .ensures)) ∙ sym (got .get .ensures) in
-    let m = variables-more (now (s .args .arguments)) (head .loop .at) (head .loop .left) h in
-    let y = types-more (now (s .args .rows)) (head .loop .wanted) (head .loop .left) h in (
+    let a = start p .args in
+    let l = head p .loop in
+    let m = variables-more (now (a .arguments)) (l .at) (l .left) (turn .loop-test .taken) in
+    let y = types-more (now (a .rows)) (l .wanted) (l .left) (turn .loop-test .taken) in (
       omega arith,
       omega arith,
-      same-fine t _ _ _ _ (same .expect-type .ensures) (c .enum-told .given .1) ∙ rw (← head .loop .inv .2, m, y, v),
+      same-fine (now (a .table)) _ _ _ _ (same .expect-type .ensures) (c .enum-told .given .1)
+          ∙ rw (← l .inv .2, m, y, found p),
     )
 
 returns-2 : tie.Need-returns-2 Inv-loop μ-loop

@@ -1,17 +1,15 @@
 -- Every argument passed by has a type, and `presentD` goes on behind such a one: so those that are left answer as all
 -- of them do (`variables-more`).
-use Rattle.sema.proofs.Turns.{variables-more, variables-none}
+use Rattle.sema.proofs.Turns.{variables-more, variables-none, found-at}
 use Rattle.sema.specs.Items.{variablesAt}
 use Rattle.sema.specs.Typing.{presentD}
 use Rattle.sema.specs.Symbols.{thenLook}
-use Rattle.pieces.specs.declared.Identifier.{Identifier}
 use Rattle.utils.specs.Bytes.{pick}
 use borrow.Author.Needs.{needs}
 use borrow.Author.Tests.{eq-eqb, ne-eqb}
 use native.Mathlib.Omega.{arith}
 use Prim.Native.Nat.{_+_}
-use mathlib.Core.Path.{_≡_, refl, sym, ap, _∙_}
-use lib.ListN.{getD}
+use mathlib.Core.Path.{_≡_, refl, _∙_}
 use denote.Ref.{now}
 use Rattle.sema.proofs.calls.look_arguments.Statement.{statement}
 use Rattle.sema.proofs.calls.look_arguments.Tie as tie
@@ -33,13 +31,11 @@ returns c =
     let name : tie.After-argument-at Inv-loop μ-loop = search in
     let got : tie.After-get Inv-loop μ-loop = search in
     let test : tie.Then1 Inv-loop μ-loop = search in
-    let t = now (s .args .table) in
-    let h = turn .loop-test .taken in
-    let v = ap (λ (x : Identifier). getD t (x .0) 0) (sym (name .argument-at .ensures)) ∙ sym (got .get .ensures) in
-    let m = variables-more (now (s .args .arguments)) (head .loop .at) (head .loop .left) h in
+    let v = found-at (now (s .args .table)) (now (s .args .arguments)) (head .loop .at) (name .argument-at .ensures)
+    (got .get .ensures) in
     rw (
       ← head .loop .inv .1,
-      m,
+      variables-more _ _ _ (turn .loop-test .taken),
       eq-eqb _ _ (v ∙ test .if1 .taken),
       c .refuse .ensures,
       name .argument-at .ensures,
@@ -50,13 +46,12 @@ unfolding presentD thenLook pick
 loop-again c =
     let s : tie.Start Inv-loop μ-loop = search in
     let head : tie.At-loop Inv-loop μ-loop = search in
-    let turn : tie.In-loop Inv-loop μ-loop = search in
-    let name : tie.After-argument-at Inv-loop μ-loop = search in
     let got : tie.After-get Inv-loop μ-loop = search in
-    let t = now (s .args .table) in
-    let h = turn .loop-test .taken in
-    let v = ap (λ (x : Identifier). getD t (x .0) 0) (sym (name .argument-at .ensures)) ∙ sym (got .get .ensures) in
-    let m = variables-more (now (s .args .arguments)) (head .loop .at) (head .loop .left) h in
+    let name : tie.After-argument-at Inv-loop μ-loop = search in
+    let v = found-at (now (s .args .table)) (now (s .args .arguments)) (head .loop .at) (name .argument-at .ensures)
+    (got .get .ensures) in
+    let turn : tie.In-loop Inv-loop μ-loop = search in
+    let m = variables-more (now (s .args .arguments)) (head .loop .at) (head .loop .left) (turn .loop-test .taken) in
     (omega arith, rw (← head .loop .inv .1, m, v, ne-eqb _ _ (c .if1 .left)))
 
 returns-2 : tie.Need-returns-2 Inv-loop μ-loop
