@@ -5,12 +5,13 @@ use Prim.Native.Nat.{ℕ, _≤_}
 use mathlib.Core.List.{List, []}
 use mathlib.Core.Path.{_≡_}
 use lib.Dec.{ltb}
+use Rattle.lexer.specs.declared.TokenAt.{TokenAt}
 use Rattle.pieces.specs.declared.Identifier.{Identifier}
 use denote.Ref.{now}
 use borrow.Author.Needs.{needs}
 use Rattle.messages.specs.Messages.{atToken, itemOf}
 use Rattle.utils.specs.Bytes.{pick}
-use Rattle.messages.proofs.Puts.{nothing, wider}
+use Rattle.messages.proofs.Puts.{Put, nothing, wider}
 use Rattle.messages.proofs.items.put_item.Statement.{statement}
 use Rattle.messages.proofs.items.put_item.Tie as tie
 
@@ -26,17 +27,20 @@ item-from-17 text names kind own integer n name h =
       le-ltb n 17 h,
     )
 
+-- a token is shorter than ITEM's room
+as-item : (b : List ℕ) (at : ℕ) (t : TokenAt) {b′ : List ℕ} {r : ℕ}
+    → Put b at (atToken (t .kind) (t .name) (t .integer)) b′ r 26
+    → Put b at (atToken (t .kind) (t .name) (t .integer)) b′ r 69
+as-item b at t {b′} {r} p = wider b at (atToken (t .kind) (t .name) (t .integer)) b′ r 26 69 (omega arith) p
+
 returns : tie.Need-returns
 unfolding itemOf pick
 returns c =
     let s : tie.Start = search in
     let t1 : tie.Then1 = search in
     let put : tie.After-put-at-token = search in
-    let a = s .args in
-    let t = a .t in
-    let p = put .put-at-token in
-    rw (lt-ltb _ _ (t1 .if1 .taken)) (wider (now (a .buf)) (a .at) (atToken (t .kind) (t .name) (t .integer))
-    (p .last .0) (p .result) 26 69 (omega arith) (p .ensures))
+    rw (lt-ltb _ _ (t1 .if1 .taken))
+    (as-item (now (s .args .buf)) (s .args .at) (s .args .t) (put .put-at-token .ensures))
 
 returns-2 : tie.Need-returns-2
 unfolding itemOf pick
@@ -78,12 +82,8 @@ returns-5 c =
     let t4 : tie.Else4 = search in
     let t5 : tie.Then5 = search in
     let put : tie.After-put-at-token2 = search in
-    let a = s .args in
-    let t = a .t in
-    let p = put .put-at-token2 in
     rw (item-from-17 _ _ _ _ _ _ _ (t4 .if4 .left), lt-ltb _ _ (t5 .if5 .taken))
-    (wider (now (a .buf)) (a .at) (atToken (t .kind) (t .name) (t .integer)) (p .last .0) (p .result) 26 69
-    (omega arith) (p .ensures))
+    (as-item (now (s .args .buf)) (s .args .at) (s .args .t) (put .put-at-token2 .ensures))
 
 returns-6 : tie.Need-returns-6
 unfolding pick
