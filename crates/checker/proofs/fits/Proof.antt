@@ -32,4 +32,5 @@ returns-4 c =
     )
 
 pub fits-spec : {M : Type 1} → statement M
-fits-spec = tie.close (tie.spec returns returns-2 returns-3 returns-4)
+fits-spec =
+    tie.close (tie.spec returns returns-2 returns-3 returns-4)

@@ -69,4 +69,5 @@ returns-6 c =
     )
 
 pub fits-unit-spec : {M : Type 1} → statement M
-fits-unit-spec = tie.close (tie.spec returns returns-2 returns-3 returns-4 returns-5 returns-6)
+fits-unit-spec =
+    tie.close (tie.spec returns returns-2 returns-3 returns-4 returns-5 returns-6)

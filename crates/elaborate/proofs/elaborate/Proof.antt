@@ -18,5 +18,4 @@ returns c =
 
 pub elaborate-spec : {M : Type 1} → statement M
 elaborate-spec =
-    tie.close
-    (tie.spec (λ c κs. search needs) (λ c κs. search needs) (λ c. search needs) (λ c. search needs) returns)
+    tie.close (tie.spec (λ c κs. search needs) (λ c κs. search needs) (λ c. search needs) (λ c. search needs) returns)

@@ -7,4 +7,5 @@ use Rattle.elaborate.proofs.is_call.Tie as tie
 
 pub is-call-spec : {M : Type 1} → statement M
 unfolding isCall pick
-is-call-spec = tie.close (tie.spec (λ c. rw (eq-eqb _ _ (c .if1 .taken))) (λ c. rw (ne-eqb _ _ (c .if1 .left))))
+is-call-spec =
+    tie.close (tie.spec (λ c. rw (eq-eqb _ _ (c .if1 .taken))) (λ c. rw (ne-eqb _ _ (c .if1 .left))))

@@ -14,5 +14,4 @@ returns-2 c =
 
 pub put-cell-spec : {M : Type 1} → statement M
 put-cell-spec =
-    tie.close
-    (tie.spec (λ c. search needs) (λ c. search needs) (λ c. search needs) (λ c. search needs) returns-2)
+    tie.close (tie.spec (λ c. search needs) (λ c. search needs) (λ c. search needs) (λ c. search needs) returns-2)

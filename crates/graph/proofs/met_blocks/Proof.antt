@@ -23,5 +23,4 @@ returns c =
 
 pub met-blocks-spec : {M : Type 1} → statement M
 met-blocks-spec =
-    tie.close
-    (tie.spec (λ c κs. search needs) (λ c κs. search needs) (λ c κs. search needs) returns)
+    tie.close (tie.spec (λ c κs. search needs) (λ c κs. search needs) (λ c κs. search needs) returns)

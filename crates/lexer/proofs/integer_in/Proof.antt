@@ -6,4 +6,5 @@ use Rattle.lexer.proofs.integer_in.Tie as tie
 
 pub integer-in-spec : {M : Type 1} → statement M
 unfolding integerIn
-integer-in-spec = tie.close (tie.spec (λ c. search tests) (λ c. search tests))
+integer-in-spec =
+    tie.close (tie.spec (λ c. search tests) (λ c. search tests))

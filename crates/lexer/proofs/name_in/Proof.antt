@@ -23,4 +23,5 @@ returns-3 c =
     rw (lt-leb kind 0 (omega arith), lt-leb kind 3 (omega arith))
 
 pub name-in-spec : {M : Type 1} → statement M
-name-in-spec = tie.close (tie.spec returns returns-2 returns-3)
+name-in-spec =
+    tie.close (tie.spec returns returns-2 returns-3)

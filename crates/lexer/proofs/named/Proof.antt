@@ -7,4 +7,5 @@ returns : tie.Need-returns
 returns c = rw (c .before .value-of .ensures)
 
 pub named-spec : {M : Type 1} → statement M
-named-spec = tie.close (tie.spec (λ c κs. search needs) returns)
+named-spec =
+    tie.close (tie.spec (λ c κs. search needs) returns)

@@ -21,4 +21,5 @@ returns-2 c =
     rw (le-ltb _ _ (if1 .left)) (refl, refl)
 
 pub push-token-spec : {M : Type 1} → statement M
-push-token-spec = tie.close (tie.spec (λ c κs. search needs) (λ c. search needs) returns returns-2)
+push-token-spec =
+    tie.close (tie.spec (λ c κs. search needs) (λ c. search needs) returns returns-2)

@@ -11,4 +11,5 @@ returns-2 c = search taken
 
 pub consume-spec : {M : Type 1} → statement M
 unfolding consumeD
-consume-spec = tie.close (tie.spec (λ c κs. search needs) (λ c. search taken) returns-2)
+consume-spec =
+    tie.close (tie.spec (λ c κs. search needs) (λ c. search taken) returns-2)

@@ -23,5 +23,4 @@ returns-2 c =
 
 pub consume-named-spec : {M : Type 1} → statement M
 consume-named-spec =
-    tie.close
-    (tie.spec (λ c κs. search needs) returns (λ c κs. search needs) returns-2)
+    tie.close (tie.spec (λ c κs. search needs) returns (λ c κs. search needs) returns-2)

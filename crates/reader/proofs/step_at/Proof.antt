@@ -9,4 +9,5 @@ unfolding steppedAt
 returns c = rw (c .behind .ensures, c .before .lex .ensures)
 
 pub step-at-spec : {M : Type 1} → statement M
-step-at-spec = tie.close (tie.spec (λ c κs. search needs) (λ c κs. search needs) returns)
+step-at-spec =
+    tie.close (tie.spec (λ c κs. search needs) (λ c κs. search needs) returns)

@@ -12,4 +12,5 @@ unfolding pick
 returns-2 c = rw (c .if1 .left)
 
 pub pick-spec : {M : Type 1} → statement M
-pick-spec = tie.close (tie.spec returns returns-2)
+pick-spec =
+    tie.close (tie.spec returns returns-2)

@@ -11,5 +11,4 @@ returns-2 c = sym (List·getD-eq-default (now (c .before .args .cells)) 0 (c .if
 
 pub cell-at-spec : {M : Type 1} → statement M
 cell-at-spec =
-    tie.close
-    (tie.spec (λ c. search needs) (λ c. search needs) (λ c. search needs) returns-2)
+    tie.close (tie.spec (λ c. search needs) (λ c. search needs) (λ c. search needs) returns-2)

@@ -14,5 +14,4 @@ returns-4 c =
 pub last-of-spec : {M : Type 1} → statement M
 unfolding lastOf pick
 last-of-spec =
-    tie.close
-    (tie.spec (λ c. rw (c .match .keys1)) (λ c. rw (c .match .keys2)) (λ c. rw (c .match .keys3)) returns-4)
+    tie.close (tie.spec (λ c. rw (c .match .keys1)) (λ c. rw (c .match .keys2)) (λ c. rw (c .match .keys3)) returns-4)

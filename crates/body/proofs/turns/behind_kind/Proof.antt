@@ -7,4 +7,5 @@ use Rattle.body.proofs.turns.behind_kind.Tie as tie
 
 pub behind-kind-spec : {M : Type 1} → statement M
 unfolding behindKind pick
-behind-kind-spec = tie.close (tie.spec (λ c. rw (le-leb _ _ (c .if1 .taken))) (λ c. rw (lt-leb _ _ (c .if1 .left))))
+behind-kind-spec =
+    tie.close (tie.spec (λ c. rw (le-leb _ _ (c .if1 .taken))) (λ c. rw (lt-leb _ _ (c .if1 .left))))

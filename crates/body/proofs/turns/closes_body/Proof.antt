@@ -7,4 +7,5 @@ use Rattle.body.proofs.turns.closes_body.Tie as tie
 
 pub closes-body-spec : {M : Type 1} → statement M
 unfolding closes pick
-closes-body-spec = tie.close (tie.spec (λ c. rw (eq-eqb _ _ (c .if1 .taken))) (λ c. rw (ne-eqb _ _ (c .if1 .left))))
+closes-body-spec =
+    tie.close (tie.spec (λ c. rw (eq-eqb _ _ (c .if1 .taken))) (λ c. rw (ne-eqb _ _ (c .if1 .left))))

@@ -6,4 +6,5 @@ use Rattle.body.proofs.turns.lacks_ret.Tie as tie
 
 pub lacks-ret-spec : {M : Type 1} → statement M
 unfolding lacksRet pick
-lacks-ret-spec = tie.close (tie.spec (λ c. rw (c .if1 .taken)) (λ c. rw (c .if1 .left)))
+lacks-ret-spec =
+    tie.close (tie.spec (λ c. rw (c .if1 .taken)) (λ c. rw (c .if1 .left)))

@@ -39,5 +39,4 @@ returns c =
 
 pub walk-spec : {M : Type 1} → statement M
 walk-spec =
-    tie.close
-    (tie.spec (λ c κs. search needs) (λ c κs. search needs) process-requires returns)
+    tie.close (tie.spec (λ c κs. search needs) (λ c κs. search needs) process-requires returns)

@@ -64,11 +64,5 @@ returns-4 c =
 pub is-whole-spec : {M : Type 1} → statement M
 is-whole-spec =
     tie.close
-    (tie.spec
-    (λ c κs. search needs)
-    returns
-    returns-2
-    (λ c κs. search needs) (λ c κs. search needs)
-    returns-3
-    (λ c. search needs) (λ c. search needs)
-    returns-4)
+    (tie.spec (λ c κs. search needs) returns returns-2 (λ c κs. search needs) (λ c κs. search needs) returns-3
+    (λ c. search needs) (λ c. search needs) returns-4)

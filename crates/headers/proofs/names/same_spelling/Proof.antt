@@ -28,4 +28,5 @@ returns-2 c =
     rw (← whole (now (a .a)) (now (a .b)) (c .before .if1 .left)) (c .same-bytes .ensures)
 
 pub same-spelling-spec : {M : Type 1} → statement M
-same-spelling-spec = tie.close (tie.spec returns (λ c κs. search needs) returns-2)
+same-spelling-spec =
+    tie.close (tie.spec returns (λ c κs. search needs) returns-2)

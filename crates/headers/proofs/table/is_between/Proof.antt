@@ -14,4 +14,5 @@ unfolding between pick
 returns-2 c = rw (le-ltb _ _ (c .if1 .left))
 
 pub is-between-spec : {M : Type 1} → statement M
-is-between-spec = tie.close (tie.spec returns returns-2)
+is-between-spec =
+    tie.close (tie.spec returns returns-2)

@@ -58,5 +58,4 @@ returns-5 c =
 
 pub is-table-spec : {M : Type 1} → statement M
 is-table-spec =
-    tie.close
-    (tie.spec returns returns-2 (λ c κs. search needs) returns-3 returns-4 (λ c κs. search needs) returns-5)
+    tie.close (tie.spec returns returns-2 (λ c κs. search needs) returns-3 returns-4 (λ c κs. search needs) returns-5)

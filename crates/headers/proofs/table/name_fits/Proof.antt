@@ -70,13 +70,7 @@ returns-4 c =
 pub name-fits-spec : {M : Type 1} → statement M
 name-fits-spec =
     tie.close
-    (tie.spec
-    (λ c. search needs) (λ c. search needs) (λ c κs. search needs)
-    (λ c. search needs) (λ c. search needs) (λ c κs. search needs)
-    returns
-    (λ c κs. search needs)
-    returns-2
-    (λ c. search needs) (λ c. search needs) (λ c. search needs)
-    returns-3
-    (λ c. search needs) (λ c. search needs) (λ c κs. search needs) (λ c κs. search needs)
-    returns-4)
+    (tie.spec (λ c. search needs) (λ c. search needs) (λ c κs. search needs) (λ c. search needs) (λ c. search needs)
+    (λ c κs. search needs) returns (λ c κs. search needs) returns-2 (λ c. search needs) (λ c. search needs)
+    (λ c. search needs) returns-3 (λ c. search needs) (λ c. search needs) (λ c κs. search needs)
+    (λ c κs. search needs) returns-4)

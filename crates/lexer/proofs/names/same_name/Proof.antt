@@ -8,4 +8,5 @@ returns-2 : tie.Need-returns-2
 returns-2 c = search same-part
 
 pub same-name-spec : {M : Type 1} → statement M
-same-name-spec = tie.close (tie.spec (λ c. search other-part) (λ c κs. search needs) returns-2)
+same-name-spec =
+    tie.close (tie.spec (λ c. search other-part) (λ c κs. search needs) returns-2)

@@ -13,4 +13,5 @@ returns-2 c =
 
 pub enters-spec : {M : Type 1} → statement M
 unfolding entersD pick
-enters-spec = tie.close (tie.spec (λ c. rw (le-ltb _ _ (c .if1 .taken))) returns-2)
+enters-spec =
+    tie.close (tie.spec (λ c. rw (le-ltb _ _ (c .if1 .taken))) returns-2)

@@ -20,5 +20,4 @@ returns c =
 
 pub put-at-name-spec : {M : Type 1} → statement M
 put-at-name-spec =
-    tie.close
-    (tie.spec (λ c. search needs) (λ c κs. search needs) (λ c κs. search needs) (λ c. search needs) returns)
+    tie.close (tie.spec (λ c. search needs) (λ c κs. search needs) (λ c κs. search needs) (λ c. search needs) returns)

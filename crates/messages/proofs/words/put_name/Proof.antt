@@ -27,5 +27,4 @@ returns c =
 
 pub put-name-spec : {M : Type 1} → statement M
 put-name-spec =
-    tie.close
-    (tie.spec (λ c κs. search needs) put-requires (λ c. search needs) returns)
+    tie.close (tie.spec (λ c κs. search needs) put-requires (λ c. search needs) returns)

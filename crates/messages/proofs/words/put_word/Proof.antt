@@ -14,5 +14,4 @@ returns c = rw (rows-are-words) at (c .before .before .put-row .ensures)
 
 pub put-word-spec : {M : Type 1} → statement M
 put-word-spec =
-    tie.close
-    (tie.spec (λ c. search needs) put-row-requires (λ c. search needs) returns)
+    tie.close (tie.spec (λ c. search needs) put-row-requires (λ c. search needs) returns)

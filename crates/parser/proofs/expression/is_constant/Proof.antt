@@ -6,4 +6,5 @@ use Rattle.parser.proofs.expression.is_constant.Tie as tie
 
 pub is-constant-spec : {M : Type 1} → statement M
 unfolding isConstant
-is-constant-spec = tie.close (tie.spec (λ c. search tests) (λ c. search tests) (λ c. search tests))
+is-constant-spec =
+    tie.close (tie.spec (λ c. search tests) (λ c. search tests) (λ c. search tests))

@@ -6,4 +6,5 @@ use Rattle.parser.proofs.expression.is_unary.Tie as tie
 
 pub is-unary-spec : {M : Type 1} → statement M
 unfolding isUnary
-is-unary-spec = tie.close (tie.spec (λ c. search tests) (λ c. search tests))
+is-unary-spec =
+    tie.close (tie.spec (λ c. search tests) (λ c. search tests))

@@ -9,7 +9,7 @@ pub parse-defined-spec : {M : Type 1} → statement M
 unfolding definedD
 parse-defined-spec =
     tie.close
-    (tie.spec (λ c κs. search needs) (λ c. search needs) (λ c. search needs) (λ c κs. search needs) (λ c. search needs)
-    (λ c. search needs) (λ c κs. search needs) (λ c. search needs) (λ c. search needs) (λ c κs. search needs)
-    (λ c. search needs) (λ c. search needs) (λ c. search taken) (λ c. search taken) (λ c. search taken)
-    (λ c. search taken) (λ c. search taken))
+    (tie.spec (λ c κs. search needs) (λ c. search needs) (λ c. search needs) (λ c κs. search needs)
+    (λ c. search needs) (λ c. search needs) (λ c κs. search needs) (λ c. search needs) (λ c. search needs)
+    (λ c κs. search needs) (λ c. search needs) (λ c. search needs) (λ c. search taken) (λ c. search taken)
+    (λ c. search taken) (λ c. search taken) (λ c. search taken))

@@ -26,7 +26,7 @@ returns-2 c =
 pub parse-call-spec : {M : Type 1} → statement M
 parse-call-spec =
     tie.close
-    (tie.spec (λ c κs. search needs) (λ c. search needs) (λ c. search needs) (λ c κs. search needs) (λ c. search needs)
-    (λ c. search needs) (λ c κs. search needs) (λ c. search needs) (λ c. search needs) returns returns-2
-    (λ c. search needs) (λ c. search (call-stopped, call-stored)) (λ c. search needs)
+    (tie.spec (λ c κs. search needs) (λ c. search needs) (λ c. search needs) (λ c κs. search needs)
+    (λ c. search needs) (λ c. search needs) (λ c κs. search needs) (λ c. search needs) (λ c. search needs) returns
+    returns-2 (λ c. search needs) (λ c. search (call-stopped, call-stored)) (λ c. search needs)
     (λ c. search (call-done, call-stored)))

@@ -9,6 +9,7 @@ pub parse-formal-spec : {M : Type 1} → statement M
 unfolding formalD
 parse-formal-spec =
     tie.close
-    (tie.spec (λ c κs. search needs) (λ c. search needs) (λ c. search needs) (λ c κs. search needs) (λ c. search taken)
-    (λ c κs. search needs) (λ c. search needs) (λ c. search needs) (λ c κs. search needs) (λ c. search needs)
-    (λ c. search needs) (λ c. search taken) (λ c. search taken) (λ c. search taken) (λ c. search taken))
+    (tie.spec (λ c κs. search needs) (λ c. search needs) (λ c. search needs) (λ c κs. search needs)
+    (λ c. search taken) (λ c κs. search needs) (λ c. search needs) (λ c. search needs) (λ c κs. search needs)
+    (λ c. search needs) (λ c. search needs) (λ c. search taken) (λ c. search taken) (λ c. search taken)
+    (λ c. search taken))

@@ -24,5 +24,4 @@ returns-2 c =
 
 pub parse-formals-spec : {M : Type 1} → statement M
 parse-formals-spec =
-    tie.close
-    (tie.spec (λ c κs. search needs) returns (λ c κs. search needs) (λ c. search needs) returns-2)
+    tie.close (tie.spec (λ c κs. search needs) returns (λ c κs. search needs) (λ c. search needs) returns-2)

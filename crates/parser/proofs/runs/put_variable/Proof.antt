@@ -11,5 +11,4 @@ returns c =
 
 pub put-variable-spec : {M : Type 1} → statement M
 put-variable-spec =
-    tie.close
-    (tie.spec (λ c κs. search needs) (λ c. search needs) (λ c κs. search needs) (λ c. search needs) returns)
+    tie.close (tie.spec (λ c κs. search needs) (λ c. search needs) (λ c κs. search needs) (λ c. search needs) returns)

@@ -9,5 +9,5 @@ pub parse-jump-spec : {M : Type 1} → statement M
 unfolding jumpD
 parse-jump-spec =
     tie.close
-    (tie.spec (λ c κs. search needs) (λ c. search needs) (λ c. search needs) (λ c κs. search needs) (λ c. search taken)
-    (λ c. search taken))
+    (tie.spec (λ c κs. search needs) (λ c. search needs) (λ c. search needs) (λ c κs. search needs)
+    (λ c. search taken) (λ c. search taken))

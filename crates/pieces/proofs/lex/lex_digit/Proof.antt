@@ -32,5 +32,4 @@ returns-2 c =
 
 pub lex-digit-spec : {M : Type 1} → statement M
 lex-digit-spec =
-    tie.close
-    (tie.spec (λ c κs. search needs) (λ c. search needs) returns returns-2)
+    tie.close (tie.spec (λ c κs. search needs) (λ c. search needs) returns returns-2)

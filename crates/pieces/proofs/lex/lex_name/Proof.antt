@@ -23,5 +23,4 @@ returns c =
 
 pub lex-name-spec : {M : Type 1} → statement M
 lex-name-spec =
-    tie.close
-    (tie.spec (λ c. search needs) (λ c κs. search needs) sub-t7 returns)
+    tie.close (tie.spec (λ c. search needs) (λ c κs. search needs) sub-t7 returns)

@@ -24,5 +24,4 @@ returns-2 c =
 
 pub grow-spec : {M : Type 1} → statement M
 grow-spec =
-    tie.close
-    (tie.spec (λ c. search needs) sub-grown (λ c. search needs) (λ c. search needs) returns returns-2)
+    tie.close (tie.spec (λ c. search needs) sub-grown (λ c. search needs) (λ c. search needs) returns returns-2)

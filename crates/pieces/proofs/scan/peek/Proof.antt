@@ -14,5 +14,4 @@ returns-2 c =
 
 pub peek-spec : {M : Type 1} → statement M
 peek-spec =
-    tie.close
-    (tie.spec (λ c. search needs) (λ c. search needs) returns-2)
+    tie.close (tie.spec (λ c. search needs) (λ c. search needs) returns-2)

@@ -19,5 +19,4 @@ returns c =
 
 pub get-keyword-spec : {M : Type 1} → statement M
 get-keyword-spec =
-    tie.close
-    (tie.spec (λ c. search needs) find-word-requires returns)
+    tie.close (tie.spec (λ c. search needs) find-word-requires returns)

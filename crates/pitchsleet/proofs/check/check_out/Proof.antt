@@ -45,5 +45,4 @@ returns c =
 
 pub check-out-spec : {M : Type 1} → statement M
 check-out-spec =
-    tie.close
-    (tie.spec (λ c κs. search needs) put-all-requires (λ c. search needs) (λ c. search needs) returns)
+    tie.close (tie.spec (λ c κs. search needs) put-all-requires (λ c. search needs) (λ c. search needs) returns)

@@ -149,5 +149,5 @@ returns c =
 pub put-all-spec : {M : Type 1} → statement M
 put-all-spec =
     tie.close
-    (tie.spec put-cells-requires put-cells-requires-2 put-cells-requires-3 put-cells-requires-4
-    put-cells-requires-5 put-cells-requires-6 put-cells-requires-7 clear-from-requires same-length returns)
+    (tie.spec put-cells-requires put-cells-requires-2 put-cells-requires-3 put-cells-requires-4 put-cells-requires-5
+    put-cells-requires-6 put-cells-requires-7 clear-from-requires same-length returns)

@@ -14,4 +14,5 @@ unfolding cellCount pick
 returns-2 c = rw (le-ltb _ _ (c .if1 .left))
 
 pub cell-count-spec : {M : Type 1} → statement M
-cell-count-spec = tie.close (tie.spec returns returns-2)
+cell-count-spec =
+    tie.close (tie.spec returns returns-2)

@@ -45,10 +45,4 @@ returns c =
 
 pub recheck-cells-spec : {M : Type 1} → statement M
 recheck-cells-spec =
-    tie.close
-    (tie.spec
-    (λ c κs. search needs)
-    put-all-requires
-    (λ c. search needs)
-    (λ c. search needs)
-    returns)
+    tie.close (tie.spec (λ c κs. search needs) put-all-requires (λ c. search needs) (λ c. search needs) returns)

@@ -42,14 +42,5 @@ returns c =
 pub recheck-out-spec : {M : Type 1} → statement M
 recheck-out-spec =
     tie.close
-    (tie.spec
-    (λ c κs. search needs)
-    (λ c. search needs)
-    get-cells-requires
-    (λ c. search needs)
-    (λ c. search needs)
-    part-recheck-cells-end
-    (λ c κs. search needs)
-    (λ c. search needs)
-    (λ c. search needs)
-    returns)
+    (tie.spec (λ c κs. search needs) (λ c. search needs) get-cells-requires (λ c. search needs) (λ c. search needs)
+    part-recheck-cells-end (λ c κs. search needs) (λ c. search needs) (λ c. search needs) returns)

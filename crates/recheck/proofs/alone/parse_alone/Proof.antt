@@ -101,13 +101,12 @@ parse-alone-spec =
     tie.close
     (tie.spec parse-function-requires (λ c. search needs) (λ c. search needs) (λ c κs. search needs)
     (λ c. search needs) (λ c. search needs) (λ c. search needs) (λ c. search needs) (λ c. search needs) returns
-    (λ c κs. search needs)
-    (λ c. to-parse (from-global c) .parse-function .kept .1 .1 .1 .1 .1 .0)
+    (λ c κs. search needs) (λ c. to-parse (from-global c) .parse-function .kept .1 .1 .1 .1 .1 .0)
     (λ c. to-parse (from-global c) .parse-function .kept .1 .1 .1 .1 .1 .1 .0)
-    (λ c. to-parse (from-global c) .parse-function .kept .1 .1 .1 .1 .1 .1 .1 .0)
-    (λ c. search needs) (λ c. search needs) returns-2 (λ c κs. search needs)
-    (λ c. search needs) (λ c. search needs) (λ c. search needs) (λ c. search needs) (λ c. search needs) returns-3
+    (λ c. to-parse (from-global c) .parse-function .kept .1 .1 .1 .1 .1 .1 .1 .0) (λ c. search needs)
+    (λ c. search needs) returns-2 (λ c κs. search needs) (λ c. search needs) (λ c. search needs) (λ c. search needs)
+    (λ c. search needs) (λ c. search needs) returns-3
     (λ c. to-parse (from-other c) .parse-function .kept .1 .1 .1 .1 .1 .0)
     (λ c. to-parse (from-other c) .parse-function .kept .1 .1 .1 .1 .1 .1 .0)
-    (λ c. to-parse (from-other c) .parse-function .kept .1 .1 .1 .1 .1 .1 .1 .0)
-    (λ c. search needs) (λ c. search needs) returns-4)
+    (λ c. to-parse (from-other c) .parse-function .kept .1 .1 .1 .1 .1 .1 .1 .0) (λ c. search needs)
+    (λ c. search needs) returns-4)

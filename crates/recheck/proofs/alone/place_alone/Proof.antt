@@ -47,10 +47,5 @@ returns c =
 pub place-alone-spec : {M : Type 1} → statement M
 place-alone-spec =
     tie.close
-    (tie.spec
-    (λ c. search needs) (λ c. search needs) (λ c. search needs) (λ c κs. search needs)
-    slice-write-functions-2
-    (λ c κs. search needs)
-    copy-row-requires
-    (λ c. search needs) (λ c. search needs)
-    returns)
+    (tie.spec (λ c. search needs) (λ c. search needs) (λ c. search needs) (λ c κs. search needs)
+    slice-write-functions-2 (λ c κs. search needs) copy-row-requires (λ c. search needs) (λ c. search needs) returns)

@@ -7,4 +7,5 @@ returns : tie.Need-returns
 returns c = rw (c .number-at .ensures)
 
 pub begin-spec : {M : Type 1} → statement M
-begin-spec = tie.close (tie.spec (λ c κs. search needs) returns)
+begin-spec =
+    tie.close (tie.spec (λ c κs. search needs) returns)

@@ -10,5 +10,4 @@ returns c =
 
 pub holds-bytes-spec : {M : Type 1} → statement M
 holds-bytes-spec =
-    tie.close
-    (tie.spec (λ c κs. search needs) (λ c. search needs) (λ c. search needs) (λ c κs. search needs) returns)
+    tie.close (tie.spec (λ c κs. search needs) (λ c. search needs) (λ c. search needs) (λ c κs. search needs) returns)

@@ -22,5 +22,4 @@ returns-2 c =
 
 pub is-at-spec : {M : Type 1} → statement M
 is-at-spec =
-    tie.close
-    (tie.spec (λ c. search needs) (λ c. search needs) returns returns-2)
+    tie.close (tie.spec (λ c. search needs) (λ c. search needs) returns returns-2)

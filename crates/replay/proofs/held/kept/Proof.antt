@@ -7,4 +7,5 @@ returns : tie.Need-returns
 returns c = rw (c .pick .ensures)
 
 pub kept-spec : {M : Type 1} → statement M
-kept-spec = tie.close (tie.spec (λ c κs. search needs) returns)
+kept-spec =
+    tie.close (tie.spec (λ c κs. search needs) returns)

@@ -20,5 +20,4 @@ add-result c =
 
 pub has-room-spec : {M : Type 1} → statement M
 has-room-spec =
-    tie.close
-    (tie.spec mul-result add-result (λ c. search needs))
+    tie.close (tie.spec mul-result add-result (λ c. search needs))

@@ -30,5 +30,4 @@ returns-2 c =
 
 pub hex-spec : {M : Type 1} → statement M
 hex-spec =
-    tie.close
-    (tie.spec (λ c κs. search needs) sub-result returns (λ c. search needs) returns-2)
+    tie.close (tie.spec (λ c κs. search needs) sub-result returns (λ c. search needs) returns-2)

@@ -15,5 +15,4 @@ returns-2 c = rw (c .before .if1 .left) (c .number-at .ensures)
 
 pub value-at-spec : {M : Type 1} → statement M
 value-at-spec =
-    tie.close
-    (tie.spec (λ c κs. search needs) returns (λ c κs. search needs) returns-2)
+    tie.close (tie.spec (λ c κs. search needs) returns (λ c κs. search needs) returns-2)

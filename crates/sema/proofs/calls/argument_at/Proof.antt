@@ -6,4 +6,5 @@ use Rattle.sema.proofs.calls.argument_at.Statement.{statement}
 use Rattle.sema.proofs.calls.argument_at.Tie as tie
 
 pub argument-at-spec : {M : Type 1} → statement M
-argument-at-spec = tie.close (tie.spec (λ c. search needs) (λ c κs. search needs) (λ c. ap named (c .cell-at .ensures)))
+argument-at-spec =
+    tie.close (tie.spec (λ c. search needs) (λ c κs. search needs) (λ c. ap named (c .cell-at .ensures)))

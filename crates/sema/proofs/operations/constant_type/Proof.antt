@@ -6,4 +6,5 @@ use Rattle.sema.proofs.operations.constant_type.Tie as tie
 
 pub constant-type-spec : {M : Type 1} → statement M
 unfolding pick
-constant-type-spec = tie.close (tie.spec (λ c. rw (eq-eqb _ _ (c .if1 .taken))) (λ c. rw (ne-eqb _ _ (c .if1 .left))))
+constant-type-spec =
+    tie.close (tie.spec (λ c. rw (eq-eqb _ _ (c .if1 .taken))) (λ c. rw (ne-eqb _ _ (c .if1 .left))))

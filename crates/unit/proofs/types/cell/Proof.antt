@@ -9,5 +9,4 @@ cast-result c = omega (arith, c .shared-slice-known .given (c .before .args .at)
 
 pub cell-spec : {M : Type 1} → statement M
 cell-spec =
-    tie.close
-    (tie.spec (λ c. search needs) (λ c. search needs) cast-result (λ c. search needs))
+    tie.close (tie.spec (λ c. search needs) (λ c. search needs) cast-result (λ c. search needs))
