@@ -9,5 +9,5 @@ pub at-most-16-spec : {M : Type 1} → statement M
 unfolding pick
 at-most-16-spec =
     tie.close
-    (tie.spec λ c. (rw (le-leb _ 16 (c .if1 .taken)), c .if1 .taken) λ c.
-    (rw (lt-leb _ 16 (c .if1 .left)), omega arith))
+    (tie.spec (λ c. (rw (le-leb _ 16 (c .if1 .taken)), c .if1 .taken))
+    (λ c. (rw (lt-leb _ 16 (c .if1 .left)), omega arith)))
