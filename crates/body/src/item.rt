@@ -85,19 +85,17 @@ pub(crate) fn parse_item(
                 next,
             }
         }
-        Parsed::Call(word) => {
-            parse_call_item(
-                tokens,
-                word,
-                kinds::CALL,
-                Identifier(0),
-                0,
-                items,
-                n,
-                arguments,
-                used,
-            )
-        }
+        Parsed::Call(word) => parse_call_item(
+            tokens,
+            word,
+            kinds::CALL,
+            Identifier(0),
+            0,
+            items,
+            n,
+            arguments,
+            used,
+        ),
         Parsed::CallInto(v, word) => {
             let ty = v.ty;
             let dest = v.id;
