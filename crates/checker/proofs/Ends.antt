@@ -7,25 +7,26 @@ use native.Mathlib.Omega.{arith}
 use borrow.Author.Tests.{eq-eqb, ne-eqb}
 use lib.ListN.{length, take}
 use Rattle.utils.specs.Bytes.{pick, padTo}
-use Rattle.lexer.specs.Read.{Reading, reading, readFrom, readOf}
-use Rattle.lexer.specs.Read as lexed
-use Rattle.lexer.specs.Numbered as lexes
+use Rattle.lexer.specs.Read.{Reading, readFrom, readOf, ReadsInto}
 use Rattle.lexer.specs.Decoded.{tokensOf, tokenAt}
 use Rattle.lexer.specs.declared.TokenAt.{TokenAt}
 use Rattle.messages.specs.Messages.{messageOf}
+use Rattle.lexer.proofs.Promise.{message-finished}
+use Rattle.body.specs.Room.{Within}
 use Rattle.lexer.specs.declared.ReadAnswer.{ReadAnswer}
 use Rattle.parser.specs.declared.Refusal.{Refusal}
-use Rattle.functions.specs.Answer.{Slices, countsFrom}
+use Rattle.functions.specs.Answer.{Slices, slices, countsFrom}
 use Rattle.functions.specs.declared.Counts.{Counts}
 use Rattle.functions.specs.declared.ProgramRead.the-variants as U
-use Rattle.unit.specs.Outcome.{UnitOutcome, checked, refused, unitD, unitRead, unitSlices, asLong, cleared, none}
+use Rattle.unit.specs.Outcome.{UnitOutcome, checked, refused, unitD, unitRead, unitSlices, asLong, fronts, none}
 use Rattle.unit.specs.Outcome.{UnitHeld}
 use Rattle.checker.specs.Check.{Checking, accepted, checkRefusal, refusing, refusedAt, checkedOr, checkOf}
 use Rattle.checker.specs.Promise.{checking, padded, sized, sizedUnit, allSized, checkDef, Lexed, Sizes}
-use Rattle.checker.specs.Promise.{IfSized, IfSizedUnit, gated, Gives, Checks}
+use Rattle.checker.specs.Promise.{IfSized, IfSizedUnit, gated, Gives, Checks, ChecksInto, Finishes}
 use Rattle.checker.specs.declared.CheckAnswer.{CheckAnswer}
-use Rattle.unit.proofs.Building.{as-cleared}
-use Rattle.checker.proofs.Lexed.{no-message, first-tokens, first-names}
+use Rattle.checker.specs.Numbers.{Listed}
+use Rattle.checker.proofs.Lexed.{within}
+use Rattle.checker.proofs.Numbers.{IfRefused, unit-listed, listed-above}
 
 -- answers and slices that are equal part by part
 pub same-checking : {r r′ : CheckAnswer} {m m′ t t′ n n′ : List ℕ} {u u′ : Slices}
@@ -33,141 +34,154 @@ pub same-checking : {r r′ : CheckAnswer} {m m′ t t′ n n′ : List ℕ} {u 
     → checking r m t n u ≡ checking r′ m′ t′ n′ u′
 same-checking e₁ e₂ e₃ e₄ e₅ = rw (e₁, e₂, e₃, e₄, e₅)
 
+pub same-slices : {f i a b p f′ i′ a′ b′ p′ : List ℕ} → f ≡ f′ → i ≡ i′ → a ≡ a′ → b ≡ b′ → p ≡ p′
+    → slices f i a b p ≡ slices f′ i′ a′ b′ p′
+same-slices e₁ e₂ e₃ e₄ e₅ = rw (e₁, e₂, e₃, e₄, e₅)
+
 -- A text that is read; its first line has any number. ---------------------------------------------------------------
 
-module _ {line : ℕ} {text m t n : List ℕ} {r : ReadAnswer} (v : Lexed line text r m t n) (u : Slices) where
+module _ {line : ℕ} {text t n : List ℕ} {r : ReadAnswer} (v : Lexed line text r t n) (m₀ m : List ℕ) where
   abbrev read : Reading
   read = readFrom line text
 
   -- an acceptance, with so many records and these slices
-  pub accepted-as : (k k′ : Counts) (u′ w : Slices) → k ≡ k′ → u′ ≡ asLong u w
-      → checking (accepted (r .tokens) (r .names) k) m t n u′
-      ≡ padded m t n u
-      (checking (accepted (read .answer .tokens) (read .answer .names) k′) [] (read .tokens) (read .names) w)
-  accepted-as k k′ u′ w e q =
-      same-checking (rw (v .answer, e)) (v .message ∙ ap (padTo (length m)) (no-message v)) (v .tokens) (v .names) q
+  pub accepted-as : (k k′ : Counts) (u w : Slices) → k ≡ k′ → fronts k′ u ≡ w
+      → ChecksInto (checking (accepted (read .answer .tokens) (read .answer .names) k′) [] (read .tokens) (read .names) w)
+      m₀ (accepted (r .tokens) (r .names) k) m t n u
+  unfolding pick
+  accepted-as k k′ u w e q =
+      rw e (record {
+        answer = rw (v .answer);
+        message = λ f. absurd (f refl);
+        tokens = v .tokens;
+        names = v .names;
+        unit = q;
+      })
 
-  -- a refusal at the cells in use is one at the reading's tokens and names
-  pub refused-as : (e : Refusal) (u₁ : Slices) (d : Checking) → cleared u₁ ≡ cleared u
-      → d ≡ padded m t n u₁ (refusedAt text (take (r .names * 2) n) (tokensOf (take (r .tokens * 4) t)) e)
-      → d ≡ padded m t n u (refusedAt text (read .names) (tokensOf (read .tokens)) e)
-  refused-as e u₁ d k g = (rw (first-tokens v, first-names v) at g) ∙ rw k
+-- a refusal: its answer and its message, whatever the slices hold
+pub refused-into : (o : Checking) (m₀ m t n : List ℕ) (u : Slices) (number line place : ℕ) (message : List ℕ)
+    → o ≡ refusing number line place message → (number ≡ 0 → ⊥) → m ≡ padTo (length m₀) message
+    → ChecksInto o m₀ (checkRefusal number line place) m t n u
+unfolding pick
+refused-into o m₀ m t n u number line place message e some h =
+    rw e (record {
+      answer = refl;
+      message = λ _. h;
+      tokens = refl;
+      names = refl;
+      unit = rw (ne-eqb number 0 some);
+    })
+
+-- a refusal by parts of the slices, tk and nm, that are the cells in use
+pub refuses-by-cells : (text m₀ : List ℕ) (e : Refusal) (tk nm tk′ nm′ : List ℕ) → tk ≡ tk′ → nm ≡ nm′
+    → (x : TokenAt) → x ≡ tokenAt (tokensOf tk) (e .token)
+    → (res : CheckAnswer) (m : List ℕ) → res ≡ checkRefusal (e .number) (x .line .0) (x .place)
+    → m ≡ padTo (length m₀) (messageOf text (tokensOf tk) nm e)
+    → (res ≡ refusedAt text nm′ (tokensOf tk′) e .answer)
+    × (m ≡ padTo (length m₀) (refusedAt text nm′ (tokensOf tk′) e .message))
+refuses-by-cells text m₀ e tk nm tk′ nm′ p q x w res m a b =
+    rw (← p, ← q) (a ∙ ap (λ (y : TokenAt). checkRefusal (e .number) (y .line .0) (y .place)) w, b)
 
 -- its functions, by the cells in use
-module _ {text m t n : List ℕ} {r : ReadAnswer} (v : Lexed 1 text r m t n) (u : Slices) (tk nm : List ℕ)
+module _ {text t n : List ℕ} {r : ReadAnswer} (v : Lexed 1 text r t n) (m₀ m : List ℕ) (tk nm : List ℕ)
     (tk-is : tk ≡ readFrom 1 text .tokens) (nm-is : nm ≡ readFrom 1 text .names) where
   goes-on : checkOf text ≡ checkedOr text (readFrom 1 text) (tokensOf tk) (unitD (tokensOf tk))
   unfolding checkOf readOf pick
   goes-on = rw (eq-eqb _ _ (sym (ap (λ (a : ReadAnswer). a .number) (v .answer)) ∙ v .fine), tk-is)
 
-  accepts-by : (k : Counts) (u′ : Slices) (o : UnitOutcome) → U.Done k ≡ unitRead o
-      → UnitHeld (tokensOf tk) nm u u′ o
-      → checking (accepted (r .tokens) (r .names) k) m t n u′
-      ≡ padded m t n u (checkedOr text (readFrom 1 text) (tokensOf tk) o)
-  accepts-by k u′ (checked fs) h e =
+  accepts-by : (k : Counts) (u : Slices) (o : UnitOutcome) → U.Done k ≡ unitRead o → UnitHeld (tokensOf tk) nm u o
+      → ChecksInto (checkedOr text (readFrom 1 text) (tokensOf tk) o) m₀ (accepted (r .tokens) (r .names) k) m t n u
+  accepts-by k u (checked fs) h e =
       let counts-are : k ≡ countsFrom none fs = cc in
-      accepted-as v u k (countsFrom none fs) u′ (unitSlices (tokensOf tk) (readFrom 1 text .names) (checked fs))
-      counts-are
-      (e ∙ ap (λ (x : List ℕ). asLong u (unitSlices (tokensOf tk) x (checked fs))) nm-is)
-  accepts-by k u′ (refused e′) h e = absurd (let z : _≡_ {A = ℕ} 0 1 = cc in omega arith)
+      accepted-as v m₀ m k (countsFrom none fs) u (unitSlices (tokensOf tk) (readFrom 1 text .names) (checked fs))
+      counts-are (e ∙ ap (λ (x : List ℕ). unitSlices (tokensOf tk) x (checked fs)) nm-is)
+  accepts-by k u (refused e′) h e = absurd (let z : _≡_ {A = ℕ} 0 1 = cc in omega arith)
 
-  pub ends-accepted : (k : Counts) (u′ : Slices) → U.Done k ≡ unitRead (unitD (tokensOf tk))
-      → UnitHeld (tokensOf tk) nm u u′ (unitD (tokensOf tk))
-      → checking (accepted (r .tokens) (r .names) k) m t n u′ ≡ padded m t n u (checkOf text)
-  ends-accepted k u′ h e = accepts-by k u′ (unitD (tokensOf tk)) h e ∙ ap (padded m t n u) (sym goes-on)
+  pub ends-accepted : (k : Counts) (u : Slices) → U.Done k ≡ unitRead (unitD (tokensOf tk))
+      → UnitHeld (tokensOf tk) nm u (unitD (tokensOf tk))
+      → ChecksInto (checkOf text) m₀ (accepted (r .tokens) (r .names) k) m t n u
+  ends-accepted k u h e = rw goes-on (accepts-by k u (unitD (tokensOf tk)) h e)
 
-  refuses-by : (e : Refusal) (o : UnitOutcome) → U.Refused e ≡ unitRead o
-      → refusedAt text (readFrom 1 text .names) (tokensOf tk) e ≡ checkedOr text (readFrom 1 text) (tokensOf tk) o
-  refuses-by e (checked fs) h = absurd (let z : _≡_ {A = ℕ} 0 1 = cc in omega arith)
-  refuses-by e (refused e′) h =
+  refuses-by : (e : Refusal) (o : UnitOutcome) → U.Refused e ≡ unitRead o → IfRefused o
+      → (checkedOr text (readFrom 1 text) (tokensOf tk) o ≡ refusedAt text (readFrom 1 text .names) (tokensOf tk) e)
+      × Listed (e .number)
+  refuses-by e (checked fs) h g = absurd (let z : _≡_ {A = ℕ} 0 1 = cc in omega arith)
+  refuses-by e (refused e′) h g =
       let same : e ≡ e′ = cc in
-      ap (refusedAt text (readFrom 1 text .names) (tokensOf tk)) same
+      rw same (refl, g)
 
-  pub ends-refused : (e : Refusal) (u₁ : Slices) (d : Checking) → U.Refused e ≡ unitRead (unitD (tokensOf tk))
-      → cleared u₁ ≡ cleared u
-      → d ≡ padded m t n u₁ (refusedAt text (take (r .names * 2) n) (tokensOf (take (r .tokens * 4) t)) e)
-      → d ≡ padded m t n u (checkOf text)
-  ends-refused e u₁ d h k g =
-      refused-as v u e u₁ d k g
-      ∙ ap (λ (x : List ℕ). padded m t n u (refusedAt text (readFrom 1 text .names) (tokensOf x) e)) (sym tk-is)
-      ∙ ap (padded m t n u) (refuses-by e (unitD (tokensOf tk)) h ∙ sym goes-on)
+  pub ends-refused : (e : Refusal) (res : CheckAnswer) (u : Slices) → U.Refused e ≡ unitRead (unitD (tokensOf tk))
+      → res ≡ refusedAt text (take (r .names * 2) n) (tokensOf (take (r .tokens * 4) t)) e .answer
+      → m ≡ padTo (length m₀) (refusedAt text (take (r .names * 2) n) (tokensOf (take (r .tokens * 4) t)) e .message)
+      → ChecksInto (checkOf text) m₀ res m t n u
+  ends-refused e res u h a b =
+      let k = refuses-by e (unitD (tokensOf tk)) h
+      (unit-listed (tokensOf tk) (subst (λ (x : List ℕ). Within (tokensOf x) 0) (sym tk-is) (within v))) in
+      rw (a, v .tokens)
+      (refused-into (checkOf text) m₀ m t n u _ _ _ _
+      (goes-on ∙ k .0 ∙ ap (λ (x : List ℕ). refusedAt text (readFrom 1 text .names) (tokensOf x) e) tk-is)
+      (λ z. omega (arith, z, listed-above _ (k .1))) (rw (v .tokens, v .names) at b))
 
--- the refusal by parts of the slices, tk and nm, that are the cells in use
-pub refuses-by-cells : (text m t n : List ℕ) (u : Slices) (e : Refusal) (tk nm tk′ nm′ : List ℕ) → tk ≡ tk′ → nm ≡ nm′
-    → (x : TokenAt) → x ≡ tokenAt (tokensOf tk) (e .token)
-    → (res : CheckAnswer) (m′ t′ n′ : List ℕ) (u′ : Slices) → res ≡ checkRefusal (e .number) (x .line .0) (x .place)
-    → m′ ≡ padTo (length m) (messageOf text (tokensOf tk) nm e) → t′ ≡ padTo (length t) [] → n′ ≡ padTo (length n) []
-    → u′ ≡ cleared u
-    → checking res m′ t′ n′ u′ ≡ padded m t n u (refusedAt text nm′ (tokensOf tk′) e)
-refuses-by-cells text m t n u e tk nm tk′ nm′ p q x w res m′ t′ n′ u′ a b d f g =
-    rw (← p, ← q)
-    (same-checking (a ∙ ap (λ (y : TokenAt). checkRefusal (e .number) (y .line .0) (y .place)) w) b d f g)
+-- Once `read_into` is done. -----------------------------------------------------------------------------------------
 
--- Once `read_from` is done. -----------------------------------------------------------------------------------------
-
--- a text that doesn't read has no tokens and no names
-unread : (line : ℕ) (text : List ℕ) → (readFrom line text .answer .number ≡ 0 → ⊥)
-    → (readFrom line text .tokens ≡ []) × (readFrom line text .names ≡ [])
-unread line text h = from (lexed.lexedFrom line text) h
-  where
-    from : (o : lexes.Outcome) → (lexed.readingOf o .answer .number ≡ 0 → ⊥)
-        → (lexed.readingOf o .tokens ≡ []) × (lexed.readingOf o .names ≡ [])
-    from (lexes.Outcome.done toks ns) g = absurd (g refl)
-    from (lexes.Outcome.refused e) g = (refl, refl)
-    from lexes.Outcome.cut g = absurd (g refl)
-
-module _ (line : ℕ) (text t₀ n₀ m₀ : List ℕ) (r : ReadAnswer) (t n m : List ℕ)
-    (reads : reading r t n m ≡ lexed.padded t₀ n₀ m₀ (readFrom line text)) where
-  answer-is : r ≡ readFrom line text .answer
-  answer-is = ap (λ (x : Reading). x .answer) reads
-
-  tokens-are : t ≡ padTo (length t₀) (readFrom line text .tokens)
-  tokens-are = ap (λ (x : Reading). x .tokens) reads
-
-  names-are : n ≡ padTo (length n₀) (readFrom line text .names)
-  names-are = ap (λ (x : Reading). x .names) reads
-
-  message-is : m ≡ padTo (length m₀) (readFrom line text .message)
-  message-is = ap (λ (x : Reading). x .message) reads
-
-  module _ (lt : length t ≡ length t₀) (ln : length n ≡ length n₀) (lm : length m ≡ length m₀) where
-    pub is-lexed : r .number ≡ 0 → Lexed line text r m t n
-    is-lexed z =
-        record {
-          answer = answer-is;
-          fine = z;
-          message = message-is ∙ ap (λ (k : ℕ). padTo k (readFrom line text .message)) (sym lm);
-          tokens = tokens-are ∙ ap (λ (k : ℕ). padTo k (readFrom line text .tokens)) (sym lt);
-          names = names-are ∙ ap (λ (k : ℕ). padTo k (readFrom line text .names)) (sym ln);
-        }
-
-    -- slices that are cleared since are as long as at entry
-    pub as-at-entry : (u u₁ : Slices) (o : Checking) → u₁ ≡ cleared u → padded m t n u₁ o ≡ padded m₀ t₀ n₀ u o
-    as-at-entry u u₁ o e = rw (lt, ln, lm, as-cleared u u₁ e (o .unit))
+module _ (line : ℕ) (text m₀ : List ℕ) (r : ReadAnswer) (t n m : List ℕ)
+    (reads : ReadsInto (readFrom line text) m₀ r t n m) where
+  pub is-lexed : r .number ≡ 0 → Lexed line text r t n
+  is-lexed z = record { answer = reads .answer; fine = z; tokens = reads .tokens; names = reads .names }
 
   abbrev unread-as : Checking
   unread-as =
       refusing (readFrom line text .answer .number) (readFrom line text .answer .line)
       (readFrom line text .answer .place) (readFrom line text .message)
 
-  pub not-read : (r .number ≡ 0 → ⊥) → (u u′ : Slices) → u′ ≡ cleared u
-      → (readFrom line text .answer .number ≡ 0 → ⊥)
-      × (checking (checkRefusal (r .number) (r .line) (r .place)) m t n u′ ≡ padded m₀ t₀ n₀ u unread-as)
-  not-read z u u′ e =
-      let z′ : readFrom line text .answer .number ≡ 0 → ⊥ = λ q. z (ap (λ (a : ReadAnswer). a .number) answer-is ∙ q) in
-      let k = unread line text z′ in (
-        z′,
-        same-checking (rw answer-is) message-is (tokens-are ∙ ap (padTo (length t₀)) (k .0))
-            (names-are ∙ ap (padTo (length n₀)) (k .1)) e,
-      )
+  pub not-read : (r .number ≡ 0 → ⊥) → readFrom line text .answer .number ≡ 0 → ⊥
+  not-read z q = z (ap (λ (a : ReadAnswer). a .number) (reads .answer) ∙ q)
 
-pub not-lexed : (text t₀ n₀ m₀ : List ℕ) (r : ReadAnswer) (t n m : List ℕ)
-    → reading r t n m ≡ lexed.padded t₀ n₀ m₀ (readFrom 1 text) → (r .number ≡ 0 → ⊥) → (u u′ : Slices) → u′ ≡ cleared u
-    → checking (checkRefusal (r .number) (r .line) (r .place)) m t n u′ ≡ padded m₀ t₀ n₀ u (checkOf text)
+  pub unread-into : (o : Checking) → o ≡ unread-as → (r .number ≡ 0 → ⊥) → (u : Slices)
+      → ChecksInto o m₀ (checkRefusal (r .number) (r .line) (r .place)) m t n u
+  unread-into o e z u =
+      refused-into o m₀ m t n u (r .number) (r .line) (r .place) (readFrom line text .message)
+      (e ∙ rw (reads .answer)) z (reads .message z)
+
+pub not-lexed : (text m₀ : List ℕ) (r : ReadAnswer) (t n m : List ℕ) → ReadsInto (readFrom 1 text) m₀ r t n m
+    → (r .number ≡ 0 → ⊥) → (u : Slices)
+    → ChecksInto (checkOf text) m₀ (checkRefusal (r .number) (r .line) (r .place)) m t n u
 unfolding checkOf readOf pick
-not-lexed text t₀ n₀ m₀ r t n m reads z u u′ e =
-    let k = not-read 1 text t₀ n₀ m₀ r t n m reads z u u′ e in
-    k .1 ∙ rw (ne-eqb _ _ (k .0))
+not-lexed text m₀ r t n m reads z u =
+    unread-into 1 text m₀ r t n m reads (checkOf text) (rw (ne-eqb _ _ (not-read 1 text m₀ r t n m reads z))) z u
+
+-- a message's slice that was as long before
+pub as-long-before : (o : Checking) (m₀ m₁ : List ℕ) (r : CheckAnswer) (m t n : List ℕ) (u : Slices)
+    → length m₁ ≡ length m₀ → ChecksInto o m₁ r m t n u → ChecksInto o m₀ r m t n u
+as-long-before o m₀ m₁ r m t n u l h =
+    record {
+      answer = h .answer;
+      message = λ z. h .message z ∙ ap (λ (k : ℕ). padTo k (o .message)) l;
+      tokens = h .tokens;
+      names = h .names;
+      unit = h .unit;
+    }
+
+-- What is left is to clear what stands behind. ----------------------------------------------------------------------
+
+-- slices of the same lengths
+pub same-long : (s₁ s : Slices) → length (s₁ .functions) ≡ length (s .functions)
+    → length (s₁ .items) ≡ length (s .items) → length (s₁ .arguments) ≡ length (s .arguments)
+    → length (s₁ .blocks) ≡ length (s .blocks) → length (s₁ .predecessors) ≡ length (s .predecessors)
+    → (x : Slices) → asLong s₁ x ≡ asLong s x
+same-long s₁ s k₁ k₂ k₃ k₄ k₅ x = rw (k₁, k₂, k₃, k₄, k₅)
+
+pub finished : (o : Checking) (m₀ t₀ n₀ : List ℕ) (u₀ : Slices) (r : CheckAnswer) (m t n : List ℕ) (u : Slices)
+    (m′ t′ n′ : List ℕ) (u′ : Slices) → (o .answer .number ≡ 0 → o .message ≡ []) → ChecksInto o m₀ r m t n u
+    → length m ≡ length m₀ → length t ≡ length t₀ → length n ≡ length n₀
+    → ((x : Slices) → asLong u x ≡ asLong u₀ x) → Finishes r m t n u m′ t′ n′ u′
+    → checking r m′ t′ n′ u′ ≡ padded m₀ t₀ n₀ u₀ o
+finished o m₀ t₀ n₀ u₀ r m t n u m′ t′ n′ u′ silent h lm lt ln lu f =
+    let number = ap (λ (a : CheckAnswer). a .number) (h .answer) in
+    let message =
+    message-finished (r .number) (o .message) m₀ m m′ (λ z. silent (sym number ∙ z)) (h .message) lm (f .message) in
+    same-checking (h .answer) message (f .tokens ∙ rw (lt, h .tokens)) (f .names ∙ rw (ln, h .names))
+    (f .unit ∙ ap (asLong u) (h .unit) ∙ lu (o .unit))
 
 -- The gate. ---------------------------------------------------------------------------------------------------------
 

@@ -556,7 +556,7 @@ none-in text m =
     record { count = omega (arith, z); each = λ i h. absurd (omega (arith, z, h)) }
 
 module _ (text : List ℕ) (m : ℕ)
-    (v : Lexed 1 text (readFrom 1 text .answer) (readFrom 1 text .message) (readFrom 1 text .tokens)
+    (v : Lexed 1 text (readFrom 1 text .answer) (readFrom 1 text .tokens)
     (readFrom 1 text .names))
   where
     read-in : (i : ℕ) → tokenAt (tokensOf (readFrom 1 text .tokens)) i .kind ≡ 2

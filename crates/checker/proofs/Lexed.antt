@@ -1,15 +1,15 @@
 -- What is left of a text that is read and accepted, as the functions of the checker take it. Its first line has any
 -- number.
 use Prim.Native.Nat.{ℕ, _*_, _-_, _≤_}
-use mathlib.Core.Path.{_≡_, refl, sym, ap, subst, _∙_}
+use mathlib.Core.Path.{_≡_, refl, sym, ap, _∙_}
 use mathlib.Core.List.{List, [], _++_, append-nil}
 use native.Mathlib.Nat.{sub-zero}
 use native.Mathlib.Omega.{arith}
 use lib.ListN.{length, take, drop, replicate}
-use lib.Seq.{take-at}
+use lib.Seq.{take-all}
 use Rattle.utils.specs.Bytes.{padTo}
 use Rattle.lexer.specs.Numbered.{Outcome, tokensCells, namesCells}
-use Rattle.lexer.specs.Read.{Reading, reading, accepted, lexedFrom, readFrom}
+use Rattle.lexer.specs.Read.{Reading, reading, accepted, lexedFrom, readingOf, readFrom}
 use Rattle.lexer.specs.Decoded.{tokensOf}
 use Rattle.lexer.specs.declared.ReadAnswer.{ReadAnswer}
 use Rattle.lexer.specs.declared.TokenAt.{TokenAt}
@@ -27,22 +27,11 @@ unpadded l =
     let m : 0 - length l ≡ 0 = omega arith in
     ap (λ (k : ℕ). l ++ replicate k 0) m ∙ append-nil l
 
-pub padded-itself : (l : List ℕ) → padTo (length l) l ≡ l
-padded-itself l =
-    let m : length l - length l ≡ 0 = omega arith in
-    ap (λ (k : ℕ). l ++ replicate k 0) m ∙ append-nil l
-
 -- the part that the code lends
 pub from-start : (k : ℕ) (s : List ℕ) → take (k - 0) (drop 0 s) ≡ take k s
 from-start k s = rw sub-zero
 
--- the first cells of a padded list are the list
-pub front : (n k : ℕ) (l s : List ℕ) → s ≡ padTo n l → length l ≡ k → take (k - 0) (drop 0 s) ≡ l
-front n k l s e h =
-    let m : k - 0 ≡ k = omega arith in
-    rw m (ap (take k) e ∙ take-at l (replicate (n - length l) 0) k h)
-
-module _ {line : ℕ} {text m t n : List ℕ} {r : ReadAnswer} (v : Lexed line text r m t n) where
+module _ {line : ℕ} {text t n : List ℕ} {r : ReadAnswer} (v : Lexed line text r t n) where
   pub is-done : Done text line (r .tokens) (r .names)
   is-done = from (lexedFrom line text) refl
     where
@@ -71,9 +60,6 @@ module _ {line : ℕ} {text m t n : List ℕ} {r : ReadAnswer} (v : Lexed line t
   pub read-names : readFrom line text .names ≡ namesCells (is-done .ns)
   read-names = ap (λ (x : Reading). x .names) read-as
 
-  pub no-message : readFrom line text .message ≡ []
-  no-message = ap (λ (x : Reading). x .message) read-as
-
   pub tokens-few : r .tokens ≤ 4096
   tokens-few = omega (arith, is-done .counted, is-done .sound .few)
 
@@ -82,21 +68,10 @@ module _ {line : ℕ} {text m t n : List ℕ} {r : ReadAnswer} (v : Lexed line t
 
   -- the cells in use, as the code lends them
   pub used-tokens : take (r .tokens * 4 - 0) (drop 0 t) ≡ readFrom line text .tokens
-  used-tokens =
-      front (length t) (r .tokens * 4) (readFrom line text .tokens) t (v .tokens)
-      (ap length read-tokens ∙ length-tokens-cells (is-done .ts) ∙ ap (λ (k : ℕ). k * 4) (sym (is-done .counted)))
+  used-tokens = from-start (r .tokens * 4) t ∙ v .tokens
 
   pub used-names : take (r .names * 2 - 0) (drop 0 n) ≡ readFrom line text .names
-  used-names =
-      front (length n) (r .names * 2) (readFrom line text .names) n (v .names)
-      (ap length read-names ∙ length-names-cells (is-done .ns) ∙ ap (λ (k : ℕ). k * 2) (sym (is-done .counted-names)))
-
-  -- .. and as contracts say it
-  pub first-tokens : take (r .tokens * 4) t ≡ readFrom line text .tokens
-  first-tokens = sym (from-start (r .tokens * 4) t) ∙ used-tokens
-
-  pub first-names : take (r .names * 2) n ≡ readFrom line text .names
-  first-names = sym (from-start (r .names * 2) n) ∙ used-names
+  used-names = from-start (r .names * 2) n ∙ v .names
 
   pub tokens-unpadded : readFrom line text .tokens ≡ padTo 0 (tokensCells (is-done .ts))
   tokens-unpadded = read-tokens ∙ sym (unpadded (tokensCells (is-done .ts)))
@@ -116,18 +91,19 @@ module _ {line : ℕ} {text m t n : List ℕ} {r : ReadAnswer} (v : Lexed line t
       rw (read-names ∙ sym (unpadded (namesCells (is-done .ns))))
       (short-names text line 0 (is-done .ts) (is-done .ns) (is-done .sound))
 
-  pub short-first : ShortNames text (take (r .names * 2) n)
-  short-first = subst (ShortNames text) (sym first-names) short
-
 -- a reading as it is
 pub lexed-itself : (line : ℕ) (text : List ℕ) → readFrom line text .answer .number ≡ 0
-    → Lexed line text (readFrom line text .answer) (readFrom line text .message) (readFrom line text .tokens)
-    (readFrom line text .names)
-lexed-itself line text z =
-    record {
-      answer = refl;
-      fine = z;
-      message = sym (padded-itself (readFrom line text .message));
-      tokens = sym (padded-itself (readFrom line text .tokens));
-      names = sym (padded-itself (readFrom line text .names));
-    }
+    → Lexed line text (readFrom line text .answer) (readFrom line text .tokens) (readFrom line text .names)
+lexed-itself line text z = from (lexedFrom line text) refl z
+  where
+    from : (o : Outcome) → lexedFrom line text ≡ o → readingOf o .answer .number ≡ 0
+        → Lexed line text (readFrom line text .answer) (readFrom line text .tokens) (readFrom line text .names)
+    from (Outcome.done ts ns) p h =
+        rw p (record {
+          answer = rw p;
+          fine = refl;
+          tokens = rw p (take-all (length ts * 4) (tokensCells ts) (omega (arith, length-tokens-cells ts)));
+          names = rw p (take-all (length ns * 2) (namesCells ns) (omega (arith, length-names-cells ns)));
+        })
+    from (Outcome.refused e) p h = absurd (refusal-number e h)
+    from Outcome.cut p h = absurd (never-cut line text p)

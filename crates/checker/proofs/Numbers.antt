@@ -48,7 +48,7 @@ lexing-listed (R.NameTooLong c) = inr (omega arith, omega arith)
 
 -- What parsing and typing make of the tokens. -----------------------------------------------------------------------
 
-abbrev IfRefused : UnitOutcome → Type 0
+abbrev pub IfRefused : UnitOutcome → Type 0
 IfRefused (checked fs) = Unit
 IfRefused (refused e) = Listed (e .number)
 
@@ -61,7 +61,7 @@ parsing-listed ts fs (FineEnd.found i) = typing-listed fs (typed-fine ts fs fs u
 parsing-listed ts fs (FineEnd.refused e h) = fine-listed h
 parsing-listed ts fs (FineEnd.many e h) = inr (omega (arith, h), omega (arith, h))
 
-unit-listed : (ts : List Tok) → Within ts 0 → IfRefused (unitD ts)
+pub unit-listed : (ts : List Tok) → Within ts 0 → IfRefused (unitD ts)
 unfolding unitD
 unit-listed ts w = parsing-listed ts _ (functions-fine ts (w .last) (w .ends) (w .few) 64 [] 0 0 (w .reached))
 
@@ -71,7 +71,11 @@ accepted-zero : (text : List ℕ) → Accepts text → checkOf text .answer .num
 unfolding checkOf readOf pick
 accepted-zero text a = rw (a .lexed, a .typed)
 
-listed-above : (n : ℕ) → Listed n → 1 ≤ n
+accepted-silent : (text : List ℕ) → Accepts text → checkOf text .message ≡ []
+unfolding checkOf readOf pick
+accepted-silent text a = rw (a .lexed, a .typed)
+
+pub listed-above : (n : ℕ) → Listed n → 1 ≤ n
 listed-above n (inl h) = h .0
 listed-above n (inr h) = omega (arith, h .0)
 
@@ -97,6 +101,14 @@ every-number text = by-lexing (lexedFrom 1 text) refl
     by-lexing (lexes.Outcome.refused r) p =
         refused-numbered text (rw (p, ne-eqb _ _ (refusal-number r)) (lexing-listed r))
     by-lexing lexes.Outcome.cut p = absurd (never-cut 1 text p)
+
+-- an accepted text has no message
+pub silent : (text : List ℕ) → checkOf text .answer .number ≡ 0 → checkOf text .message ≡ []
+silent text z = by (checkOf text .answer .number) z (every-number text)
+  where
+    by : (n : ℕ) → n ≡ 0 → Numbered text n → checkOf text .message ≡ []
+    by n h (inl a) = accepted-silent text (a .0)
+    by n h (inr l) = absurd (omega (arith, h, listed-above n (l .1)))
 
 never-thirty : (text : List ℕ) (n : ℕ) → Numbered text n → n ≡ 30 → ⊥
 never-thirty text n (inl h) z = omega (arith, h .1)

@@ -2,24 +2,27 @@
 ghost use mathlib.Core.Path.{_≡_};
 ghost use Prim.Native.Nat.{_*_, _≤_};
 ghost use lib.ListN.{length, take};
+ghost use Rattle.utils.specs.Bytes.{padTo};
 ghost use Rattle.lexer.specs.Decoded.{tokensOf};
 ghost use Rattle.functions.specs.Answer.{slices};
 ghost use Rattle.messages.specs.Messages.{ShortNames};
-ghost use Rattle.unit.specs.Outcome.{cleared};
 ghost use Rattle.utils.specs.Limits.{messageSize};
 ghost use Rattle.checker.specs.Check.{accepted, checkRefusal, refusedAt, checkOf};
-ghost use Rattle.checker.specs.Promise.{checking, padded, Lexed, Sizes};
+ghost use Rattle.checker.specs.Promise.{Lexed, Sizes, ChecksInto, rowsUsed, Finishes};
 ghost use Rattle.checker.specs.Promise.{sized, sizedUnit, IfSized, IfSizedUnit, Checks};
+use body::ITEM_CELLS;
 use functions::Counts;
 use functions::ProgramRead;
 use functions::columns;
 use functions::sizes;
+use graph::BLOCK_CELLS;
 use lexer::ReadAnswer;
 use lexer::sizes::NAME_CELLS;
 use lexer::sizes::TOKEN_CELLS;
 use parser::Refusal;
+use parser::VARIABLE_CELLS;
 use pieces::Location;
-use unit::clear;
+use utils::clear_from;
 use utils::limits;
 use utils::numbers;
 
@@ -76,48 +79,37 @@ pub fn counted(tokens: u32, names: u32, n: Counts) -> CheckAnswer
     }
 }
 
-// A refusal at a token: its message, and every other slice zero.
+// A refusal at a token of a text that is read: its message and its answer.
 pub fn refuse(
     text: &[u8],
     r: ReadAnswer,
-    tokens: &mut [u32],
-    names: &mut [u32],
-    functions: &mut [u32],
-    items: &mut [u32],
-    arguments: &mut [u32],
-    blocks: &mut [u32],
-    predecessors: &mut [u32],
+    tokens: &[u32],
+    names: &[u32],
     message: &mut [u8],
     e: Refusal,
 ) -> CheckAnswer
     requires { ⌜ (r .tokens * 4 ≤ length (now tokens)) × (r .names * 2 ≤ length (now names))
         × (messageSize ≤ length (now message)) × ShortNames (now text) (take (r .names * 2) (now names)) ⌝ }
-    ensures { λ res. ⌜ checking res (now (message .exit)) (now (tokens .exit)) (now (names .exit))
-        (slices (now (functions .exit)) (now (items .exit)) (now (arguments .exit)) (now (blocks .exit))
-        (now (predecessors .exit)))
-        ≡ padded (now (message .entry)) (now (tokens .entry)) (now (names .entry))
-        (slices (now (functions .entry)) (now (items .entry)) (now (arguments .entry)) (now (blocks .entry))
-        (now (predecessors .entry)))
+    ensures { λ res. ⌜ (res ≡ refusedAt (now (text .entry)) (take (r .names * 2) (now (names .entry)))
+        (tokensOf (take (r .tokens * 4) (now (tokens .entry)))) e .answer)
+        × (now (message .exit) ≡ padTo (length (now (message .entry)))
         (refusedAt (now (text .entry)) (take (r .names * 2) (now (names .entry)))
-        (tokensOf (take (r .tokens * 4) (now (tokens .entry)))) e) ⌝ }
+        (tokensOf (take (r .tokens * 4) (now (tokens .entry)))) e .message)) ⌝ }
 {
     let last = r.tokens as usize * TOKEN_CELLS;
     let end = r.names as usize * NAME_CELLS;
     messages::put_message(text, &tokens[0..last], &names[0..end], e, message);
     let t = lexer::token_at(&tokens[0..last], e.token);
-    utils::clear(tokens);
-    utils::clear(names);
-    clear::clear_five(functions, items, arguments, blocks, predecessors);
     let line = t.line;
     refused(e.number, line, t.place)
 }
 
-// The functions of a text that is read, into cleared slices.
+// The functions of a text that is read, into the front of slices that have their sizes.
 fn check_lexed(
     text: &[u8],
     r: ReadAnswer,
-    tokens: &mut [u32],
-    names: &mut [u32],
+    tokens: &[u32],
+    names: &[u32],
     functions: &mut [u32],
     items: &mut [u32],
     arguments: &mut [u32],
@@ -125,17 +117,13 @@ fn check_lexed(
     predecessors: &mut [u32],
     message: &mut [u8],
 ) -> CheckAnswer
-    requires { ⌜ Lexed 1 (now text) r (now message) (now tokens) (now names)
+    requires { ⌜ Lexed 1 (now text) r (now tokens) (now names)
         × Sizes (now message) (now tokens) (now names)
-        (slices (now functions) (now items) (now arguments) (now blocks) (now predecessors))
-        × (slices (now functions) (now items) (now arguments) (now blocks) (now predecessors)
-        ≡ cleared (slices (now functions) (now items) (now arguments) (now blocks) (now predecessors))) ⌝ }
-    ensures { λ res. ⌜ checking res (now (message .exit)) (now (tokens .exit)) (now (names .exit))
+        (slices (now functions) (now items) (now arguments) (now blocks) (now predecessors)) ⌝ }
+    ensures { λ res. ⌜ ChecksInto (checkOf (now (text .entry))) (now (message .entry)) res (now (message .exit))
+        (now (tokens .entry)) (now (names .entry))
         (slices (now (functions .exit)) (now (items .exit)) (now (arguments .exit)) (now (blocks .exit))
-        (now (predecessors .exit)))
-        ≡ padded (now (message .entry)) (now (tokens .entry)) (now (names .entry))
-        (slices (now (functions .entry)) (now (items .entry)) (now (arguments .entry)) (now (blocks .entry))
-        (now (predecessors .entry))) (checkOf (now (text .entry))) ⌝ }
+        (now (predecessors .exit))) ⌝ }
 {
     let last = r.tokens as usize * TOKEN_CELLS;
     let end = r.names as usize * NAME_CELLS;
@@ -148,19 +136,7 @@ fn check_lexed(
         blocks,
         predecessors,
     ) {
-        ProgramRead::Refused(e) => refuse(
-            text,
-            r,
-            tokens,
-            names,
-            functions,
-            items,
-            arguments,
-            blocks,
-            predecessors,
-            message,
-            e,
-        ),
+        ProgramRead::Refused(e) => refuse(text, r, tokens, names, message, e),
         ProgramRead::Done(n) => counted(r.tokens, r.names, n),
     }
 }
@@ -168,8 +144,8 @@ fn check_lexed(
 // The number of a text's first line.
 const FIRST_LINE: u32 = 1;
 
-// Slices that have their sizes.
-fn check_sized(
+// The check of a text, into the front of slices that have their sizes. Nothing is cleared yet.
+pub fn check_into(
     text: &[u8],
     tokens: &mut [u32],
     names: &mut [u32],
@@ -182,15 +158,12 @@ fn check_sized(
 ) -> CheckAnswer
     requires { ⌜ Sizes (now message) (now tokens) (now names)
         (slices (now functions) (now items) (now arguments) (now blocks) (now predecessors)) ⌝ }
-    ensures { λ res. ⌜ checking res (now (message .exit)) (now (tokens .exit)) (now (names .exit))
+    ensures { λ res. ⌜ ChecksInto (checkOf (now (text .entry))) (now (message .entry)) res (now (message .exit))
+        (now (tokens .exit)) (now (names .exit))
         (slices (now (functions .exit)) (now (items .exit)) (now (arguments .exit)) (now (blocks .exit))
-        (now (predecessors .exit)))
-        ≡ padded (now (message .entry)) (now (tokens .entry)) (now (names .entry))
-        (slices (now (functions .entry)) (now (items .entry)) (now (arguments .entry)) (now (blocks .entry))
-        (now (predecessors .entry))) (checkOf (now (text .entry))) ⌝ }
+        (now (predecessors .exit))) ⌝ }
 {
-    let r = lexer::read_from(text, FIRST_LINE, tokens, names, message);
-    clear::clear_five(functions, items, arguments, blocks, predecessors);
+    let r = lexer::read_into(text, FIRST_LINE, tokens, names, message);
     if r.number == numbers::ACCEPTED {
         return check_lexed(
             text,
@@ -206,6 +179,45 @@ fn check_sized(
         );
     }
     refused(r.number, Location(r.line), r.place)
+}
+
+// How many cells of the header table an answer counts.
+pub fn rows_used(r: CheckAnswer) -> usize
+    ensures { λ n. ⌜ n ≡ rowsUsed r ⌝ }
+{
+    if r.number == numbers::ACCEPTED {
+        return columns::TOKEN + r.functions as usize * columns::ROW;
+    }
+    0
+}
+
+// Clears what stands behind the cells that an answer counts: after a refusal, which counts none, all of them.
+pub fn finish(
+    r: CheckAnswer,
+    tokens: &mut [u32],
+    names: &mut [u32],
+    functions: &mut [u32],
+    items: &mut [u32],
+    arguments: &mut [u32],
+    blocks: &mut [u32],
+    predecessors: &mut [u32],
+    message: &mut [u8],
+)
+    ensures { λ _. ⌜ Finishes r (now (message .entry)) (now (tokens .entry)) (now (names .entry))
+        (slices (now (functions .entry)) (now (items .entry)) (now (arguments .entry)) (now (blocks .entry))
+        (now (predecessors .entry)))
+        (now (message .exit)) (now (tokens .exit)) (now (names .exit))
+        (slices (now (functions .exit)) (now (items .exit)) (now (arguments .exit)) (now (blocks .exit))
+        (now (predecessors .exit))) ⌝ }
+{
+    clear_from(tokens, r.tokens as usize * TOKEN_CELLS);
+    clear_from(names, r.names as usize * NAME_CELLS);
+    clear_from(functions, rows_used(r));
+    clear_from(items, r.items as usize * ITEM_CELLS);
+    clear_from(arguments, r.arguments as usize * VARIABLE_CELLS);
+    clear_from(blocks, r.blocks as usize * BLOCK_CELLS);
+    clear_from(predecessors, r.predecessors as usize);
+    lexer::finish_message(r.number, message);
 }
 
 // Whether slices of these lengths, for functions, items, arguments, blocks and predecessors, have their sizes.
@@ -273,7 +285,7 @@ pub fn check(
         predecessors.len(),
     );
     if fits(message.len(), tokens.len(), names.len(), unit) {
-        return check_sized(
+        let r = check_into(
             text,
             tokens,
             names,
@@ -284,6 +296,18 @@ pub fn check(
             predecessors,
             message,
         );
+        finish(
+            r,
+            tokens,
+            names,
+            functions,
+            items,
+            arguments,
+            blocks,
+            predecessors,
+            message,
+        );
+        return r;
     }
     refused(numbers::SHORT_BUFFER, Location(0), 0)
 }

@@ -1,13 +1,14 @@
--- What is stored one function behind the other on cleared slices is the list form (crates/functions/specs/Laid.antt).
-use Prim.Native.Nat.{ℕ, zero, suc, _+_, _*_, _-_, _≤_}
+-- What is stored one function behind the other is the list form (crates/functions/specs/Laid.antt), over what the slices
+-- held before.
+use Prim.Native.Nat.{ℕ, _+_, _*_, _-_, _≤_}
 use mathlib.Core.Path.{_≡_, refl, sym, ap, _∙_}
 use mathlib.Core.List.{List, [], _∷_, _++_, append-assoc, append-nil}
 use native.Mathlib.Omega.{arith}
 use native.Mathlib.Nat.{add-zero}
-use lib.ListN.{length, length-append, replicate, length-replicate, replicate-append-replicate}
-use lib.Seq.{sets}
-use Rattle.utils.specs.Bytes.{padTo}
-use Rattle.utils.proofs.Runs.{sets-pad}
+use lib.ListN.{length, getD, length-append, replicate, length-replicate}
+use lib.Seq.{sets, drop-cons}
+use Rattle.utils.specs.Bytes.{padTo, over}
+use Rattle.utils.proofs.Runs.{sets-over}
 use Rattle.lexer.specs.Decoded.{Tok}
 use Rattle.parser.specs.Runs.{variablesCells}
 use Rattle.body.specs.Body.{Item}
@@ -184,27 +185,6 @@ laid-fits ts names fs h =
 
 -- Stores. -------------------------------------------------------------------------------------------------------------
 
--- zeros behind a part of a padded list belong to the padding
-pad-pad : (n k : ℕ) (l vs : List ℕ) → length vs ≤ k → length l + k ≤ n → padTo n (l ++ vs) ≡ padTo n (l ++ padTo k vs)
-pad-pad n k l vs h g =
-    let a : ℕ = k - length vs in
-    let b : ℕ = n - length (l ++ padTo k vs) in
-    let s : List ℕ = replicate a 0 in
-    let t : List ℕ = replicate b 0 in
-    let sum : n - length (l ++ vs) ≡ a + b =
-    omega (
-      arith,
-      length-append l vs,
-      length-append l (padTo k vs),
-      length-append vs s,
-      length-replicate {A = ℕ} a 0,
-    ) in
-    ap (λ (m : ℕ). (l ++ vs) ++ replicate m 0) sum
-    ∙ ap (λ (r : List ℕ). (l ++ vs) ++ r) (sym (replicate-append-replicate a b 0))
-    ∙ append-assoc l vs (s ++ t)
-    ∙ ap (λ (r : List ℕ). l ++ r) (sym (append-assoc vs s t))
-    ∙ sym (append-assoc l (vs ++ s) t)
-
 same-slices : {f i a b p f′ i′ a′ b′ p′ : List ℕ} → f ≡ f′ → i ≡ i′ → a ≡ a′ → b ≡ b′ → p ≡ p′
     → slices f i a b p ≡ slices f′ i′ a′ b′ p′
 same-slices e₁ e₂ e₃ e₄ e₅ = rw (e₁, e₂, e₃, e₄, e₅)
@@ -217,8 +197,8 @@ record Before (n : Counts) (lf li la lb lp : List ℕ) : Type 0 where
   blocks : length lb ≡ n .blocks * 8
   preds : length lp ≡ n .predecessors
 
-module _ (ts : List Tok) (names : List ℕ) (F I A B P : ℕ) (long-f : 2881 ≤ F) (long-i : 24576 ≤ I) (long-a : 6928 ≤ A)
-    (long-b : 8192 ≤ B) (long-p : 2048 ≤ P) where
+module _ (ts : List Tok) (names F I A B P : List ℕ) (long-f : 2881 ≤ length F) (long-i : 24576 ≤ length I)
+    (long-a : 6928 ≤ length A) (long-b : 8192 ≤ length B) (long-p : 2048 ≤ length P) where
   module _ (n : Counts) (f : Function) (fits : Fits n f) (lf li la lb lp : List ℕ) (h : Before n lf li la lb lp) where
     row : List ℕ
     row = rowCells ts names f (n .items) (n .blocks)
@@ -226,27 +206,25 @@ module _ (ts : List Tok) (names : List ℕ) (F I A B P : ℕ) (long-f : 2881 ≤
     is : List Item
     is = f .items
 
-    row-stored : sets (padTo F lf) (rowAt (n .functions)) row ≡ padTo F (lf ++ padTo 45 row)
+    row-stored : sets (over F lf) (rowAt (n .functions)) (padTo 45 row) ≡ over F (lf ++ padTo 45 row)
     unfolding row
     row-stored =
-        let short : length row ≤ 45 = row-long ts names f (n .items) (n .blocks) (fits .formals-few) in
-        let few = fits .functions-few in
-        sets-pad F (rowAt (n .functions)) lf row (h .rows) (omega (arith, short, few))
-        ∙ pad-pad F 45 lf row short (omega (arith, h .rows, few))
+        let long = length-pad 45 row (row-long ts names f (n .items) (n .blocks) (fits .formals-few)) in
+        sets-over F lf (padTo 45 row) (rowAt (n .functions)) (h .rows) (omega (arith, long, fits .functions-few))
 
-    one : storedFunction ts names n (slices (padTo F lf) (padTo I li) (padTo A la) (padTo B lb) (padTo P lp)) f
-        ≡ slices (padTo F (lf ++ padTo 45 row)) (padTo I (li ++ itemsCells (n .arguments) is))
-        (padTo A (la ++ argumentsCells is)) (padTo B (lb ++ cellsOfBlocks n is)) (padTo P (lp ++ predecessorsIn is))
+    one : storedFunction ts names n (slices (over F lf) (over I li) (over A la) (over B lb) (over P lp)) f
+        ≡ slices (over F (lf ++ padTo 45 row)) (over I (li ++ itemsCells (n .arguments) is))
+        (over A (la ++ argumentsCells is)) (over B (lb ++ cellsOfBlocks n is)) (over P (lp ++ predecessorsIn is))
     unfolding row is
     one =
         same-slices row-stored
-        (sets-pad I (n .items * 8) li (itemsCells (n .arguments) is) (h .items)
+        (sets-over I li (itemsCells (n .arguments) is) (n .items * 8) (h .items)
         (omega (arith, length-items-cells (n .arguments) is, fits .items-few)))
-        (sets-pad A (n .arguments * 2) la (argumentsCells is) (h .arguments)
+        (sets-over A la (argumentsCells is) (n .arguments * 2) (h .arguments)
         (omega (arith, length-arguments-cells is, fits .arguments-few)))
-        (sets-pad B (n .blocks * 8) lb (cellsOfBlocks n is) (h .blocks)
+        (sets-over B lb (cellsOfBlocks n is) (n .blocks * 8) (h .blocks)
         (omega (arith, length-blocks n is, fits .blocks-few)))
-        (sets-pad P (n .predecessors) lp (predecessorsIn is) (h .preds) (omega (arith, fits .predecessors-few)))
+        (sets-over P lp (predecessorsIn is) (n .predecessors) (h .preds) (omega (arith, fits .predecessors-few)))
 
     next : Before (countsWith n f) (lf ++ padTo 45 row) (li ++ itemsCells (n .arguments) is) (la ++ argumentsCells is)
         (lb ++ cellsOfBlocks n is) (lp ++ predecessorsIn is)
@@ -270,14 +248,14 @@ module _ (ts : List Tok) (names : List ℕ) (F I A B P : ℕ) (long-f : 2881 ≤
     }
 
   stored-behind : (fs : List Function) (n : Counts) (lf li la lb lp : List ℕ) → Before n lf li la lb lp → FitsFrom n fs
-      → storedFrom ts names n (slices (padTo F lf) (padTo I li) (padTo A la) (padTo B lb) (padTo P lp)) fs
-      ≡ slices (padTo F (lf ++ rowsCells ts names n fs)) (padTo I (li ++ untypedItems n fs))
-      (padTo A (la ++ untypedArguments fs)) (padTo B (lb ++ allBlocks n fs)) (padTo P (lp ++ allPredecessors fs))
+      → storedFrom ts names n (slices (over F lf) (over I li) (over A la) (over B lb) (over P lp)) fs
+      ≡ slices (over F (lf ++ rowsCells ts names n fs)) (over I (li ++ untypedItems n fs))
+      (over A (la ++ untypedArguments fs)) (over B (lb ++ allBlocks n fs)) (over P (lp ++ allPredecessors fs))
   unfolding storedFrom rowsCells untypedItems untypedArguments allBlocks allPredecessors FitsFrom row is
   stored-behind [] n lf li la lb lp h g =
       same-slices (behind F lf) (behind I li) (behind A la) (behind B lb) (behind P lp)
     where
-      behind : (m : ℕ) (l : List ℕ) → padTo m l ≡ padTo m (l ++ [])
+      behind : (m l : List ℕ) → over m l ≡ over m (l ++ [])
       behind m l = rw (append-nil l)
   stored-behind (f ∷ fs) n lf li la lb lp h g =
       ap (λ (s : Slices). storedFrom ts names (countsWith n f) s fs) (one n f (g .0) lf li la lb lp h)
@@ -289,36 +267,26 @@ module _ (ts : List Tok) (names : List ℕ) (F I A B P : ℕ) (long-f : 2881 ≤
       (lp ++ predecessorsIn (f .items))
       (next n f (g .0) lf li la lb lp h) (g .1)
       ∙ same-slices
-      (ap (padTo F) (append-assoc lf (padTo 45 (rowCells ts names f (n .items) (n .blocks)))
+      (ap (over F) (append-assoc lf (padTo 45 (rowCells ts names f (n .items) (n .blocks)))
       (rowsCells ts names (countsWith n f) fs)))
-      (ap (padTo I) (append-assoc li (itemsCells (n .arguments) (f .items)) (untypedItems (countsWith n f) fs)))
-      (ap (padTo A) (append-assoc la (argumentsCells (f .items)) (untypedArguments fs)))
-      (ap (padTo B) (append-assoc lb (cellsOfBlocks n (f .items)) (allBlocks (countsWith n f) fs)))
-      (ap (padTo P) (append-assoc lp (predecessorsIn (f .items)) (allPredecessors fs)))
+      (ap (over I) (append-assoc li (itemsCells (n .arguments) (f .items)) (untypedItems (countsWith n f) fs)))
+      (ap (over A) (append-assoc la (argumentsCells (f .items)) (untypedArguments fs)))
+      (ap (over B) (append-assoc lb (cellsOfBlocks n (f .items)) (allBlocks (countsWith n f) fs)))
+      (ap (over P) (append-assoc lp (predecessorsIn (f .items)) (allPredecessors fs)))
 
   -- THE SLICES after parsing
   pub stored-laid : (fs : List Function) → FitsFrom (counts 0 0 0 0 0) fs
-      → withCount (length fs)
-      (storedFrom ts names (counts 0 0 0 0 0)
-      (slices (padTo F []) (padTo I []) (padTo A []) (padTo B []) (padTo P [])) fs)
+      → withCount (length fs) (storedFrom ts names (counts 0 0 0 0 0) (slices F I A B P) fs)
       ≡ slices
-      (padTo F (length fs ∷ rowsCells ts names (counts 0 0 0 0 0) fs))
-      (padTo I (untypedItems (counts 0 0 0 0 0) fs))
-      (padTo A (untypedArguments fs))
-      (padTo B (allBlocks (counts 0 0 0 0 0) fs))
-      (padTo P (allPredecessors fs))
+      (over F (length fs ∷ rowsCells ts names (counts 0 0 0 0 0) fs))
+      (over I (untypedItems (counts 0 0 0 0 0) fs))
+      (over A (untypedArguments fs))
+      (over B (allBlocks (counts 0 0 0 0 0) fs))
+      (over P (allPredecessors fs))
   stored-laid fs h =
       let n : Counts = counts 0 0 0 0 0 in
-      let cell : padTo F [] ≡ padTo F (0 ∷ []) = first-zero F (omega arith) in
-      let before : Before n (0 ∷ []) [] [] [] [] =
+      let before : Before n (getD F 0 0 ∷ []) [] [] [] [] =
       record { rows = refl; items = refl; arguments = refl; blocks = refl; preds = refl } in
-      ap (λ (l : List ℕ). withCount (length fs)
-      (storedFrom ts names n (slices l (padTo I []) (padTo A []) (padTo B []) (padTo P [])) fs)) cell
-      ∙ ap (withCount (length fs)) (stored-behind fs n (0 ∷ []) [] [] [] [] before h)
-    where
-      first-zero : (m : ℕ) → 1 ≤ m → padTo m [] ≡ padTo m (0 ∷ [])
-      first-zero zero g = absurd (omega arith)
-      first-zero (suc m) g =
-          let e : suc m - 0 ≡ suc m = omega arith in
-          let d : suc m - 1 ≡ m = omega arith in
-          rw (e, d)
+      let cell : F ≡ over F (getD F 0 0 ∷ []) = drop-cons F 0 0 (omega arith) in
+      ap (λ (l : List ℕ). withCount (length fs) (storedFrom ts names n (slices l I A B P) fs)) cell
+      ∙ ap (withCount (length fs)) (stored-behind fs n (getD F 0 0 ∷ []) [] [] [] [] before h)

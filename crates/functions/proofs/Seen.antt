@@ -1,12 +1,12 @@
 -- A function's row is seen by later headers as its header.
-use Prim.Native.Nat.{ℕ, zero, suc, _+_, _*_, _≤_, _<_}
+use Prim.Native.Nat.{ℕ, zero, suc, _+_, _*_, _-_, _≤_, _<_}
 use mathlib.Core.Path.{_≡_, refl, ap, _∙_}
 use mathlib.Core.List.{List, [], _∷_, _++_}
 use native.Mathlib.Omega.{arith}
 use borrow.Author.Tests.{le-leb}
-use lib.ListN.{length, getD, set, length-set, length-append}
+use lib.ListN.{length, getD, set, replicate, length-set, length-append}
 use lib.Seq.{sets, length-sets, getD-set-same}
-use Rattle.utils.specs.Bytes.{pick}
+use Rattle.utils.specs.Bytes.{pick, padTo}
 use Rattle.utils.proofs.Runs.{sets-append}
 use Rattle.lexer.specs.Decoded.{Tok}
 use Rattle.parser.specs.Runs.{variablesCells}
@@ -15,7 +15,7 @@ use Rattle.functions.specs.Known.{Known, formalTypes}
 use Rattle.functions.specs.Functions.{Function, knownOf}
 use Rattle.functions.specs.Columns.{rowAt, formalsAt}
 use Rattle.functions.specs.Rows.{headCells, rowCells, typesAt, knownAt, knownFrom}
-use Rattle.functions.proofs.Stores.{getD-sets-below, known-below, types-there}
+use Rattle.functions.proofs.Stores.{getD-sets-below, known-below, types-below, types-there}
 
 pub getD-sets-at : (vs l : List ℕ) (at k : ℕ) → k < length vs → at + length vs ≤ length l
     → getD (sets l at vs) (at + k) 0 ≡ getD vs k 0
@@ -90,14 +90,33 @@ module _ (ts : List Tok) (names : List ℕ) (f : Function) (first base n : ℕ) 
   unfolding cells vs
   at-count = let e : 13 + n * 45 ≡ 1 + n * 45 + 12 = omega arith in rw e (cell 12 (omega arith))
 
-  row-known : knownAt rows′ n ≡ knownOf (f .head)
+  -- whatever stands behind its formals
+  row-known : (zs : List ℕ) → knownAt (sets rows′ (rowAt n + length cells) zs) n ≡ knownOf (f .head)
   unfolding vs cells pick
-  row-known = rw (at-name, at-type, at-ret, at-count, le-leb (length vs) 16 formals-few, types)
+  row-known zs =
+      let at = rowAt n + length cells in
+      rw (
+        getD-sets-below zs rows′ at (2 + n * 45) (omega (arith, cells-long)),
+        getD-sets-below zs rows′ at (8 + n * 45) (omega (arith, cells-long)),
+        getD-sets-below zs rows′ at (7 + n * 45) (omega (arith, cells-long)),
+        getD-sets-below zs rows′ at (13 + n * 45) (omega (arith, cells-long)),
+        at-name,
+        at-type,
+        at-ret,
+        at-count,
+        le-leb (length vs) 16 formals-few,
+        types-below (length vs) zs rows′ at (14 + n * 45) (omega (arith, cells-long)),
+        types,
+      )
 
-  pub seen : knownFrom (sets rows (rowAt n) (rowCells ts names f first base)) 0 (n + 1)
+  pub seen : knownFrom (sets rows (rowAt n) (padTo 45 (rowCells ts names f first base))) 0 (n + 1)
       ≡ knownFrom rows 0 n ++ (knownOf (f .head) ∷ [])
   unfolding rows′ cells
   seen =
-      known-snoc n rows′ 0
-      ∙ rw (known-below n cells rows (rowAt n) 0 (omega arith))
-      (ap (λ (k : Known). knownFrom rows 0 n ++ (k ∷ [])) (ap (λ (i : ℕ). knownAt rows′ i) (omega arith) ∙ row-known))
+      let zs : List ℕ = replicate (45 - length cells) 0 in
+      let whole : List ℕ = sets rows (rowAt n) (padTo 45 cells) in
+      known-snoc n whole 0
+      ∙ rw (known-below n (padTo 45 cells) rows (rowAt n) 0 (omega arith))
+      (ap (λ (k : Known). knownFrom rows 0 n ++ (k ∷ []))
+      (ap (λ (i : ℕ). knownAt whole i) (omega arith)
+      ∙ ap (λ (l : List ℕ). knownAt l n) (sets-append cells zs rows (rowAt n)) ∙ row-known zs))

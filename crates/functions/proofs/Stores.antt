@@ -21,7 +21,7 @@ getD-sets-below [] l at i h = refl
 getD-sets-below (v ∷ vs) l at i h =
     getD-sets-below vs (set l at v) (suc at) i (omega arith) ∙ getD-set-other l at i v 0 (λ e. omega (arith, e))
 
-types-below : (n : ℕ) (vs l : List ℕ) (at from : ℕ) → from + n * 2 ≤ at → typesAt (sets l at vs) from n ≡ typesAt l
+pub types-below : (n : ℕ) (vs l : List ℕ) (at from : ℕ) → from + n * 2 ≤ at → typesAt (sets l at vs) from n ≡ typesAt l
     from n
 unfolding typesAt
 types-below zero vs l at from h = refl

@@ -4,8 +4,10 @@ use mathlib.Core.Path.{_≡_, refl, sym, ap, subst, _∙_}
 use mathlib.Core.List.{List, [], _∷_}
 use native.Mathlib.Omega.{arith}
 use lib.Dec.{leb, eqb}
-use lib.ListN.{length, getD}
+use lib.ListN.{length, getD, replicate, length-append}
 use lib.Seq.{sets}
+use Rattle.utils.specs.Bytes.{padTo}
+use Rattle.utils.proofs.Runs.{sets-append}
 use Rattle.lexer.specs.Decoded.{Tok, tokenAt}
 use Rattle.pieces.specs.declared.Identifier.{Identifier}
 use Rattle.body.specs.Body.{Item}
@@ -29,7 +31,7 @@ use Rattle.functions.specs.declared.HeaderRead.the-variants as H
 use Rattle.functions.specs.declared.Building.the-variants as G
 use Rattle.functions.specs.declared.FunctionRead.the-variants as F
 use Rattle.functions.proofs.Stores.{row-stored}
-use Rattle.functions.proofs.Seen.{seen}
+use Rattle.functions.proofs.Seen.{seen, length-variables}
 use Rattle.functions.proofs.HeaderOn.{HeaderIn, header-in}
 
 -- the header behind an answer
@@ -198,23 +200,37 @@ module _ (ts : List Tok) (names : List ℕ) (at types : ℕ) (n : Counts) (rows�
             omega (arith, bd .predecessors-is, r .predecessors-few, r .blocks-few, r .within .reached, r .within .few),
           )
 
-      module _ (rows₂ : List ℕ) (put : rows₂ ≡ sets rows₁ (rowAt (n .functions))
+      module _ (rows₂ : List ℕ) (put : rows₂ ≡ sets (sets rows₁ (rowAt (n .functions))
           (at ∷ h .name .0 ∷ (b .next - 1) ∷ tokenAt ts at .place ∷ getD names (h .name .0 * 2 + 1) 0 ∷ tokenAt ts
           at .line .0
-          ∷ h .ret ∷ h .ty ∷ n .items ∷ b .items ∷ n .blocks ∷ b .blocks ∷ h .formals ∷ [])) where
-        head-put : rows₂ ≡ sets rows₁ (rowAt (n .functions)) (headCells ts names f (n .items) (n .blocks))
+          ∷ h .ret ∷ h .ty ∷ n .items ∷ b .items ∷ n .blocks ∷ b .blocks ∷ h .formals ∷ []))
+          (formalsAt (n .functions) + h .formals * 2) (replicate (32 - h .formals * 2) 0)) where
+        head-put : sets rows₁ (rowAt (n .functions))
+            (at ∷ h .name .0 ∷ (b .next - 1) ∷ tokenAt ts at .place ∷ getD names (h .name .0 * 2 + 1) 0 ∷ tokenAt ts
+            at .line .0
+            ∷ h .ret ∷ h .ty ∷ n .items ∷ b .items ∷ n .blocks ∷ b .blocks ∷ h .formals ∷ [])
+            ≡ sets rows₁ (rowAt (n .functions)) (headCells ts names f (n .items) (n .blocks))
         unfolding f
         head-put =
-            put ∙ ap (sets rows₁ (rowAt (n .functions)))
+            ap (sets rows₁ (rowAt (n .functions)))
             (cells-same ts names f (h .name) (h .ret) (h .ty) (n .items) (b .items) (n .blocks) (b .blocks) (h .formals)
             (hd .name-is) (hd .ret-is) (hd .type-is) (bd .items-is) (bd .blocks-is) (hd .formals-is))
 
-        row-put : rows₂ ≡ sets rows₀ (rowAt (n .functions)) (rowCells ts names f (n .items) (n .blocks))
+        row-put : rows₂ ≡ sets rows₀ (rowAt (n .functions)) (padTo 45 (rowCells ts names f (n .items) (n .blocks)))
         unfolding f
         row-put =
-            row-stored rows₀ rows₁ rows₂ (headCells ts names f (n .items) (n .blocks))
-            (variablesCells (hd .head .formals))
-            (n .functions) refl (header-kept .0) head-put
+            let row : List ℕ = rowCells ts names f (n .items) (n .blocks) in
+            let vs = hd .head .formals in
+            let long : length row ≡ 13 + h .formals * 2 =
+            length-append (headCells ts names f (n .items) (n .blocks)) (variablesCells vs)
+            ∙ omega (arith, length-variables vs, hd .formals-is) in
+            let end : formalsAt (n .functions) + h .formals * 2 ≡ rowAt (n .functions) + length row =
+            omega (arith, long) in
+            let left : 32 - h .formals * 2 ≡ 45 - length row = omega (arith, long) in
+            let stored = row-stored rows₀ rows₁ _ (headCells ts names f (n .items) (n .blocks)) (variablesCells vs)
+            (n .functions) refl (header-kept .0) head-put in
+            put ∙ rw (stored, end, left)
+            (sym (sets-append row (replicate (45 - length row) 0) rows₀ (rowAt (n .functions))))
 
         is-taken : Taken ts names n f (slices rows₀ items₀ arguments₀ blocks₀ preds₀)
             (slices rows₂ items arguments blocks preds)

@@ -4,6 +4,7 @@ use mathlib.Core.Path.{_≡_}
 use mathlib.Core.List.{List, [], _∷_, _++_}
 use lib.ListN.{length, set}
 use lib.Seq.{sets}
+use Rattle.utils.specs.Bytes.{padTo}
 use Rattle.lexer.specs.Decoded.{Tok}
 use Rattle.parser.specs.Step.{thenAt}
 use Rattle.body.specs.Body.{Item}
@@ -18,7 +19,7 @@ use Rattle.link.specs.Cells.{blockCells, predecessorCells}
 use Rattle.functions.specs.Known.{typesAfter}
 use Rattle.functions.specs.Functions.{Function, Program, blocksIn, BuiltAt, built, notBuilt, knownOf}
 use Rattle.functions.specs.Functions.{FunctionAt, function, noFunction}
-use Rattle.functions.specs.Columns.{rowAt}
+use Rattle.functions.specs.Columns.{rowWidth, rowAt}
 use Rattle.functions.specs.Rows.{rowCells, knownFrom}
 use Rattle.functions.specs.declared.FunctionRead.{FunctionRead}
 use Rattle.functions.specs.declared.FunctionRead.the-variants as F
@@ -116,7 +117,7 @@ abbrev pub storedFunction : List Tok → List ℕ → Counts → Slices → Func
 storedFunction ts names n s f =
     let is = f .items in
     slices
-    (sets (s .functions) (rowAt (n .functions)) (rowCells ts names f (n .items) (n .blocks)))
+    (sets (s .functions) (rowAt (n .functions)) (padTo rowWidth (rowCells ts names f (n .items) (n .blocks))))
     (sets (s .items) (n .items * 8) (itemsCells (n .arguments) is))
     (sets (s .arguments) (n .arguments * 2) (argumentsCells is))
     (sets (s .blocks) (n .blocks * 8)

@@ -1,20 +1,24 @@
-// A function's row in the header table: 45 cells, of which the formals are stored as they are read.
+// A function's row in the header table: 45 cells, of which the formals are stored as they are read, and zeros fill the
+// room of those that there are not.
 ghost use mathlib.Core.Path.{_≡_};
 ghost use mathlib.Core.List.{[], _∷_};
 ghost use Prim.Native.Nat.{_+_, _*_, _-_, _≤_, _<_};
-ghost use lib.ListN.{length, getD};
+ghost use lib.ListN.{length, getD, replicate};
 ghost use lib.Seq.{sets};
 ghost use Rattle.lexer.specs.Decoded.{tokensOf, tokenAt};
 ghost use Rattle.utils.specs.Limits.{mostFunctions, mostFormals};
-ghost use Rattle.functions.specs.Columns.{rowAt, retAt, tableSize};
+ghost use Rattle.functions.specs.Columns.{rowAt, retAt, formalsAt, tableSize};
 ghost use Rattle.functions.specs.Answer.{counts};
 use crate::Body;
 use crate::Counts;
 use crate::Head;
 use crate::columns;
 use lexer::sizes::NAME_CELLS;
+use parser::VARIABLE_CELLS;
 use pieces::Identifier;
 use utils::cell_at;
+use utils::clear_part;
+use utils::limits;
 use utils::put_cells;
 
 // A name's length, by its record.
@@ -76,7 +80,7 @@ pub fn put_counts(
     put_cells(rows, columns::RESULT + i * columns::ROW, &cells);
 }
 
-// The cells before the formals, which stand there already.
+// The cells before the formals, which stand there already, and zeros behind them.
 pub fn put_row(
     rows: &mut [u32],
     tokens: &[u32],
@@ -89,10 +93,11 @@ pub fn put_row(
     requires { ⌜ (n .functions < mostFunctions) × (token ≤ 4095) × (1 ≤ b .next) × (b .next ≤ 4096) × (n .items ≤ 4096)
         × (b .items ≤ 4096) × (n .blocks ≤ 4096) × (b .blocks ≤ 4096) × (h .formals ≤ mostFormals)
         × (tableSize ≤ length (now rows)) ⌝ }
-    ensures { λ _. ⌜ now (rows .exit) ≡ sets (now (rows .entry)) (rowAt (n .functions))
+    ensures { λ _. ⌜ now (rows .exit) ≡ sets (sets (now (rows .entry)) (rowAt (n .functions))
         (token ∷ h .name .0 ∷ (b .next - 1) ∷ tokenAt (tokensOf (now (tokens .entry))) token .place
         ∷ getD (now (names .entry)) (h .name .0 * 2 + 1) 0 ∷ tokenAt (tokensOf (now (tokens .entry))) token .line .0
-        ∷ h .ret ∷ h .ty ∷ n .items ∷ b .items ∷ n .blocks ∷ b .blocks ∷ h .formals ∷ []) ⌝ }
+        ∷ h .ret ∷ h .ty ∷ n .items ∷ b .items ∷ n .blocks ∷ b .blocks ∷ h .formals ∷ []))
+        (formalsAt (n .functions) + h .formals * 2) (replicate (32 - h .formals * 2) 0) ⌝ }
 {
     let i = n.functions;
     put_name(rows, i, tokens, names, token, h.name, b.next - 1);
@@ -106,6 +111,12 @@ pub fn put_row(
         n.blocks,
         b.blocks,
         h.formals,
+    );
+    let from = columns::FORMALS + i * columns::ROW;
+    clear_part(
+        rows,
+        from + h.formals * VARIABLE_CELLS,
+        from + limits::FORMALS * VARIABLE_CELLS,
     );
 }
 

@@ -6,9 +6,9 @@ use mathlib.Core.List.{List, [], _∷_, _++_}
 use native.Mathlib.Omega.{arith}
 use borrow.Author.Tests.{lt-ltb, le-leb, ne-eqb}
 use lib.Dec.{eqb}
-use lib.ListN.{length, getD, take, replicate, length-append, List·getD-append}
+use lib.ListN.{length, getD, take, replicate, length-append, List·getD-append, drop}
 use lib.Seq.{take-at}
-use Rattle.utils.specs.Bytes.{pick, padTo}
+use Rattle.utils.specs.Bytes.{pick, padTo, over}
 use Rattle.pieces.specs.Tokens.{kindOf, carried}
 use Rattle.lexer.specs.Numbered.{Part, tokensCells, namesCells}
 use Rattle.lexer.specs.Steps.{partsOf}
@@ -95,9 +95,9 @@ unfolding partsOf namesCells
 cells-parts [] = refl
 cells-parts (p ∷ ps) = ap (λ (l : List Part). p ∷ l) (cells-parts ps)
 
-pub cells-parts-padded : (n : ℕ) (ns : List Part) → partsOf (take (length ns * 2) (padTo n (namesCells ns))) ≡ ns
-cells-parts-padded n ns =
-    let r : List ℕ = replicate (n - length (namesCells ns)) 0 in
+pub cells-parts-over : (s : List ℕ) (ns : List Part) → partsOf (take (length ns * 2) (over s (namesCells ns))) ≡ ns
+cells-parts-over s ns =
+    let r : List ℕ = drop (length (namesCells ns)) s in
     rw (take-at (namesCells ns) r (length ns * 2) (length-names-cells ns)) (cells-parts ns)
 
 -- a name's place and its length

@@ -3,17 +3,21 @@
 use Prim.Native.Nat.{ℕ}
 use mathlib.Core.Path.{_≡_, refl, sym, ap, _∙_}
 use mathlib.Core.List.{List, []}
-use mathlib.Core.Bool.{true}
+use mathlib.Core.Bool.{Bool, true, false}
 use native.Mathlib.Omega.{arith}
+use lib.Dec.{eqb}
 use lib.ListN.{length}
+use lib.Seq.{take-at}
+use borrow.Author.Tests.{eqb-true, eqb-false}
 use Rattle.utils.specs.Bytes.{pick, padTo}
 use Rattle.lexer.specs.Numbered.{Outcome, tokensCells, namesCells}
-use Rattle.lexer.specs.Read.{Reading, reading, accepted, answered, resultOf, tokensIn, namesIn, readingOf}
-use Rattle.lexer.specs.Read.{readFrom}
-use Rattle.lexer.specs.Read.{Held, sized, readDef, Reads}
-use Rattle.lexer.specs.declared.LexResult.the-variants as X
+use Rattle.lexer.specs.Read.{Reading, reading, accepted, answerOf, answered, resultOf, readingOf, lexedFrom}
+use Rattle.lexer.specs.Read.{readFrom, padded, Held, ReadsInto, Finishes, sized, readDef, Reads}
 use Rattle.lexer.specs.declared.ReadAnswer.{ReadAnswer}
-use Rattle.lexer.proofs.Accepted.{Done}
+use Rattle.pieces.specs.Refusals.{messageOf}
+use Rattle.pieces.specs.declared.Refusal.{Refusal}
+use Rattle.lexer.proofs.Cells.{length-tokens-cells, length-names-cells}
+use Rattle.lexer.proofs.Accepted.{Done, refusal-number}
 
 -- the parts from the whole
 pub by-parts : {text t₀ n₀ m₀ : List ℕ} {r : ReadAnswer} {t n m : List ℕ}
@@ -51,15 +55,56 @@ answered-result (Outcome.done ts ns) = refl
 answered-result (Outcome.refused r) = refl
 answered-result Outcome.cut = refl
 
--- what lex_text holds of the slices of an accepted text
-pub held-done : (o : Outcome) (count known : ℕ) (t₀ n₀ t n : List ℕ) → (o ≡ Outcome.cut → ⊥)
-    → X.Done count known ≡ resultOf o → Held o t₀ n₀ t n
-    → (t ≡ padTo (length t₀) (tokensIn o)) × (n ≡ padTo (length n₀) (namesIn o))
-held-done (Outcome.done ts ns) count known t₀ n₀ t n never e h = h
-held-done (Outcome.refused r) count known t₀ n₀ t n never e h = absurd (let z : _≡_ {A = ℕ} 0 1 = cc in omega arith)
-held-done Outcome.cut count known t₀ n₀ t n never e h = absurd (never refl)
-
 -- what an accepted text reads as, by the counts that were answered
 pub done-reading : {s : List ℕ} {line count known : ℕ} (d : Done s line count known)
     → readFrom line s ≡ reading (accepted count known) (tokensCells (d .ts)) (namesCells (d .ns)) []
 done-reading d = rw (d .lexed, d .counted, d .counted-names)
+
+-- Before the rest is cleared. ---------------------------------------------------------------------------------------
+
+pub into-done : {s : List ℕ} {line count known : ℕ} (d : Done s line count known) (t₀ n₀ t n m₀ m : List ℕ)
+    → Held (lexedFrom line s) t₀ n₀ t n
+    → ReadsInto (readFrom line s) m₀ (accepted count known) t n m
+into-done d t₀ n₀ t n m₀ m h =
+    let held = rw (d .lexed) at h in
+    rw (done-reading d) (record {
+      answer = refl;
+      tokens = rw (held .0, d .counted) (take-at (tokensCells (d .ts)) _ _ (length-tokens-cells (d .ts)));
+      names = rw (held .1, d .counted-names) (take-at (namesCells (d .ns)) _ _ (length-names-cells (d .ns)));
+      message = λ f. absurd (f refl);
+    })
+
+pub into-refused : (line : ℕ) (s : List ℕ) (q : Refusal) → lexedFrom line s ≡ Outcome.refused q
+    → (t n m₀ m : List ℕ) → m ≡ padTo (length m₀) (messageOf q) → ReadsInto (readFrom line s) m₀ (answerOf q) t n m
+into-refused line s q e t n m₀ m h = rw e (record { answer = refl; tokens = refl; names = refl; message = λ _. h })
+
+-- an accepted text has no message
+pub no-message : (line : ℕ) (s : List ℕ) → readFrom line s .answer .number ≡ 0 → readFrom line s .message ≡ []
+no-message line s z = from (lexedFrom line s) z
+  where
+    from : (o : Outcome) → readingOf o .answer .number ≡ 0 → readingOf o .message ≡ []
+    from (Outcome.done ts ns) h = refl
+    from (Outcome.refused q) h = absurd (refusal-number q h)
+    from Outcome.cut h = refl
+
+-- the message's slice, once it is cleared where there is no message
+pub message-finished : (k : ℕ) (o m₀ m m′ : List ℕ) → (k ≡ 0 → o ≡ []) → ((k ≡ 0 → ⊥) → m ≡ padTo (length m₀) o)
+    → length m ≡ length m₀ → m′ ≡ pick (eqb k 0) (padTo (length m) []) m → m′ ≡ padTo (length m₀) o
+unfolding pick
+message-finished k o m₀ m m′ none some l e = from (eqb k 0) refl
+  where
+    from : (b : Bool) → eqb k 0 ≡ b → m′ ≡ padTo (length m₀) o
+    from true q = e ∙ rw (q, l, none (eqb-true k 0 q))
+    from false q = e ∙ rw q (some (eqb-false k 0 q))
+
+-- then it is the whole reading
+pub finished : (line : ℕ) (s t₀ n₀ m₀ t n m : List ℕ) (r : ReadAnswer) (t′ n′ m′ : List ℕ)
+    → ReadsInto (readFrom line s) m₀ r t n m
+    → length t ≡ length t₀ → length n ≡ length n₀ → length m ≡ length m₀ → Finishes r t n m t′ n′ m′
+    → reading r t′ n′ m′ ≡ padded t₀ n₀ m₀ (readFrom line s)
+finished line s t₀ n₀ m₀ t n m r t′ n′ m′ h lt ln lm f =
+    let number = ap (λ (a : ReadAnswer). a .number) (h .answer) in
+    let message =
+    message-finished (r .number) (readFrom line s .message) m₀ m m′ (λ z. no-message line s (sym number ∙ z))
+    (h .message) lm (f .message) in
+    rw (f .tokens, f .names, h .tokens, h .names, lt, ln, message, h .answer)

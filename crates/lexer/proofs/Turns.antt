@@ -9,10 +9,10 @@ use borrow.Author.Tests.{lt-ltb, le-ltb, ltb-true, ltb-false, not-true, not-fals
 use mir.Syntax.{w32}
 use mir.Val.{Fits}
 use lib.Dec.{ltb}
-use lib.ListN.{length, take, replicate, length-append, length-replicate}
+use lib.ListN.{length, take, length-append}
 use lib.Seq.{sets, length-sets}
-use Rattle.utils.specs.Bytes.{pick, padTo}
-use Rattle.utils.proofs.Runs.{sets-pad}
+use Rattle.utils.specs.Bytes.{pick, over}
+use Rattle.utils.proofs.Runs.{sets-over}
 use Rattle.pieces.specs.Tokens.{tokenCells}
 use Rattle.pieces.specs.Refusals.{factsOf}
 use Rattle.pieces.specs.Pieces.{Pieces, token, pieceAt, onPiece, piecesFrom}
@@ -22,7 +22,7 @@ use Rattle.lexer.specs.Numbered.{namesCells}
 use Rattle.lexer.specs.Read.{resultOf, Held}
 use Rattle.lexer.specs.Steps.{partsOf, Within, Table, newCells, nextName, nextOf, addedBy, pushed}
 use Rattle.lexer.proofs.Parts.{tokens-cells-snoc, names-cells-snoc, within-snoc}
-use Rattle.lexer.proofs.Cells.{length-tokens-cells, length-names-cells, cells-parts-padded}
+use Rattle.lexer.proofs.Cells.{length-tokens-cells, length-names-cells, cells-parts-over}
 use Rattle.pieces.proofs.Progress.{Past, piece-past, pick-either}
 use Rattle.pieces.specs.declared.Cursor.{Cursor}
 use Rattle.pieces.specs.declared.Name.{Name}
@@ -57,7 +57,7 @@ identified-room s ps n =
     pick-either (Room (length ps) n) (ltb 64 (n .len)) _ _ (λ e. refl) (λ e. room-found (length ps) n
     (indexOf (spellingOf s n) (spellings s ps) 0))
 
--- the loop's state; t₀ and n₀ are the cleared slices
+-- the loop's state; t₀ and n₀ are the slices before it
 pub record Lexing (s : List ℕ) (first : ℕ) (t₀ n₀ t n : List ℕ) (count known : ℕ) (at : Cursor) : Type 0 where
   pub small : length s ≤ 16384
   pub early : first ≤ 2147483648
@@ -72,25 +72,19 @@ pub record Lexing (s : List ℕ) (first : ℕ) (t₀ n₀ t n : List ℕ) (count
   pub found : List Token
   pub counted : length found ≡ count
   pub room : count ≤ 4096
-  pub held : t ≡ padTo (length t₀) (tokensCells found)
+  pub held : t ≡ over t₀ (tokensCells found)
   pub parts : List Part
   pub parts-counted : length parts ≡ known
   pub parts-room : known ≤ 1024
-  pub parts-held : n ≡ padTo (length n₀) (namesCells parts)
+  pub parts-held : n ≡ over n₀ (namesCells parts)
   pub parts-within : Within (length s) parts
   pub same : numberedFrom s found parts (piecesFrom (suc turns) s (at .place) (at .line)) ≡ numbered s first
 
-pad-none : (t : List ℕ) (n : ℕ) → t ≡ padTo n [] → t ≡ padTo (length t) []
-pad-none t n e =
-    let l : length t ≡ n - 0 = ap length e ∙ length-replicate (n - 0) 0 in
-    let q : n - 0 ≡ length t - 0 = omega arith in
-    e ∙ ap (λ (m : ℕ). replicate m 0) q
-
-pub start : (s : List ℕ) (first : ℕ) (t n : List ℕ) (i j : ℕ) → t ≡ padTo i [] → n ≡ padTo j []
+pub start : (s : List ℕ) (first : ℕ) (t n : List ℕ)
     → length s ≤ 16384 → first ≤ 2147483648 → 16384 ≤ length t → 2048 ≤ length n
     → Lexing s first t n t n 0 0 (record { place = 0; line = first })
 unfolding numbered tokensCells namesCells
-start s first t n i j e f small early sized sized-names =
+start s first t n small early sized sized-names =
     record {
       small = small;
       early = early;
@@ -105,11 +99,11 @@ start s first t n i j e f small early sized sized-names =
       found = [];
       counted = refl;
       room = omega arith;
-      held = pad-none t i e;
+      held = refl;
       parts = [];
       parts-counted = refl;
       parts-room = omega arith;
-      parts-held = pad-none n j f;
+      parts-held = refl;
       parts-within = tt;
       same = refl;
     }
@@ -131,8 +125,8 @@ pub record Ended (s : List ℕ) (first : ℕ) (t₀ n₀ t n : List ℕ) (count 
   pub whole : numbered s first ≡ Outcome.done tokens names
   pub counted : length tokens ≡ count
   pub names-counted : length names ≡ known
-  pub held : t ≡ padTo (length t₀) (tokensCells tokens)
-  pub names-held : n ≡ padTo (length n₀) (namesCells names)
+  pub held : t ≡ over t₀ (tokensCells tokens)
+  pub names-held : n ≡ over n₀ (namesCells names)
 
 -- the end token made
 pub record Closed (s : List ℕ) (first : ℕ) (t₀ n₀ t n : List ℕ) (count known : ℕ) (u : Token) : Type 0 where
@@ -152,16 +146,16 @@ After s first t₀ n₀ t n count known at (N.Refused r) =
 module _ {s : List ℕ} {first : ℕ} {t₀ n₀ t n : List ℕ} {count known : ℕ} {at : Cursor}
     (v : Lexing s first t₀ n₀ t n count known at) where
   pub taken : partsOf (take (known * 2) n) ≡ v .parts
-  taken = rw (v .parts-held, ← v .parts-counted) (cells-parts-padded (length n₀) (v .parts))
+  taken = rw (v .parts-held, ← v .parts-counted) (cells-parts-over n₀ (v .parts))
 
   -- one token more in the cells
   stored : (u : Token) (t′ : List ℕ) → count < 4096 → t′ ≡ sets t (count * 4) (tokenCells u)
-      → t′ ≡ padTo (length t₀) (tokensCells (v .found ++ (u ∷ [])))
+      → t′ ≡ over t₀ (tokensCells (v .found ++ (u ∷ [])))
   stored u t′ f e =
       let l : length (tokensCells (v .found)) ≡ count * 4 =
       omega (arith, length-tokens-cells (v .found), v .counted) in
       e ∙ rw (v .held, tokens-cells-snoc)
-      (sets-pad (length t₀) (count * 4) (tokensCells (v .found)) (tokenCells u) l (omega (arith, v .sized)))
+      (sets-over t₀ (tokensCells (v .found)) (tokenCells u) (count * 4) l (omega (arith, v .sized)))
 
   -- the pieces from a later place on, with one turn less
   fewer : (c : Cursor) → at .place < c .place → c .place ≤ length s
@@ -173,7 +167,7 @@ module _ {s : List ℕ} {first : ℕ} {t₀ n₀ t n : List ℕ} {count known : 
   -- a token, of a name or not, with the names as they are then
   made : (u : Token) (c : Cursor) (ps : List Part) (k : ℕ) (n′ : List ℕ)
       → at .place < c .place → c .place ≤ length s → c .line ≡ at .line → u .place ≡ at .place
-      → length ps ≡ k → k ≤ 1024 → length n′ ≡ length n₀ → n′ ≡ padTo (length n₀) (namesCells ps) → Within (length s) ps
+      → length ps ≡ k → k ≤ 1024 → length n′ ≡ length n₀ → n′ ≡ over n₀ (namesCells ps) → Within (length s) ps
       → numbered s first
       ≡ thenRoom (v .found) u (numberedFrom s (v .found ++ (u ∷ [])) ps (piecesFrom (v .turns) s (c .place) (c .line)))
       → Made s first t₀ n₀ t n′ count k at c u
@@ -210,7 +204,7 @@ module _ {s : List ℕ} {first : ℕ} {t₀ n₀ t n : List ℕ} {count known : 
       }
 
   -- where no name is new, the names' cells stay
-  kept : (n′ : List ℕ) → n′ ≡ sets n (known * 2) [] → n′ ≡ padTo (length n₀) (namesCells (v .parts))
+  kept : (n′ : List ℕ) → n′ ≡ sets n (known * 2) [] → n′ ≡ over n₀ (namesCells (v .parts))
   kept n′ e = e ∙ v .parts-held
 
   -- what the numbers of the whole say of one piece
@@ -239,9 +233,9 @@ module _ {s : List ℕ} {first : ℕ} {t₀ n₀ t n : List ℕ} {count known : 
       length-append (v .parts) (p ∷ []) ∙ omega (arith, v .parts-counted) in
       let room : known < 1024 = omega (arith, r, v .parts-counted) in
       let cells : List ℕ = m .place ∷ m .len ∷ [] in
-      let held : n′ ≡ padTo (length n₀) (namesCells (v .parts ++ (p ∷ []))) =
+      let held : n′ ≡ over n₀ (namesCells (v .parts ++ (p ∷ []))) =
       d ∙ rw (v .parts-held, names-cells-snoc)
-      (sets-pad (length n₀) (known * 2) (namesCells (v .parts)) cells l (omega (arith, v .sized-names))) in
+      (sets-over n₀ (namesCells (v .parts)) cells (known * 2) l (omega (arith, v .sized-names))) in
       made (named m i) c (v .parts ++ (p ∷ [])) (known + 1) n′ (past .on) (past .within) (past .same-line)
       (past .name-place) q (omega arith) (rw d (length-sets n _ cells ∙ v .long-names)) held
       (within-snoc (length s) (v .parts) p (v .parts-within) (omega (arith, past .name-end, past .within)))
@@ -418,5 +412,5 @@ module _ {s : List ℕ} {first : ℕ} {t₀ n₀ t n : List ℕ} {count known : 
       pub end-done : X.Done (count + 1) known ≡ resultOf (numbered s first)
       end-done = rw (ended .whole, ended .counted, ended .names-counted)
 
-      pub end-held : (a b : List ℕ) → length t₀ ≡ length a → length n₀ ≡ length b → Held (numbered s first) a b t′ n′
-      end-held a b p w = rw (ended .whole, ← p, ← w) (ended .held, ended .names-held)
+      pub end-held : Held (numbered s first) t₀ n₀ t′ n′
+      end-held = rw (ended .whole) (ended .held, ended .names-held)

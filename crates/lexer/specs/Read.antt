@@ -1,15 +1,15 @@
 -- The whole answer of `read`: number, line, place, counts, and what every lent slice holds at exit.
-use Prim.Native.Nat.{ℕ, _≤_}
+use Prim.Native.Nat.{ℕ, _*_, _≤_}
 use mathlib.Core.Path.{_≡_}
 use mathlib.Core.List.{List, []}
 use mathlib.Core.Bool.{Bool, true, false}
-use lib.Dec.{ltb}
-use lib.ListN.{length}
-use Rattle.utils.specs.Bytes.{pick, padTo}
+use lib.Dec.{eqb, ltb}
+use lib.ListN.{length, take}
+use Rattle.utils.specs.Bytes.{pick, padTo, over}
 use Rattle.pieces.specs.Classes.{isAscii}
 use Rattle.pieces.specs.Refusals.{factsOf, messageOf}
 use Rattle.utils.specs.Limits.{mostBytes, messageSize}
-use Rattle.lexer.specs.Sizes.{tokensSize, namesSize}
+use Rattle.lexer.specs.Sizes.{tokensSize, namesSize, tokenWidth, nameWidth}
 use Rattle.lexer.specs.Numbered.{Outcome, numbered, tokensCells, namesCells}
 use Rattle.pieces.specs.declared.Refusal.{Refusal}
 use Rattle.pieces.specs.declared.Refusal.the-variants as R
@@ -80,27 +80,31 @@ abbrev pub answered : LexResult → ReadAnswer
 answered (LexResult.Done tokens names) = accepted tokens names
 answered (LexResult.Refused r) = answerOf r
 
--- What the inner functions say: the counts; the cells; the slices where a text is accepted; the sizes that the gate
--- has seen.
+-- What the inner functions say: the counts; the slices where a text is accepted, over what they held before; the sizes
+-- that the gate has seen.
 abbrev pub resultOf : Outcome → LexResult
 resultOf (Outcome.done ts ns) = LexResult.Done (length ts) (length ns)
 resultOf (Outcome.refused r) = LexResult.Refused r
 resultOf Outcome.cut = LexResult.Done 0 0
 
-abbrev pub tokensIn : Outcome → List ℕ
-tokensIn (Outcome.done ts ns) = tokensCells ts
-tokensIn (Outcome.refused r) = []
-tokensIn Outcome.cut = []
-
-abbrev pub namesIn : Outcome → List ℕ
-namesIn (Outcome.done ts ns) = namesCells ns
-namesIn (Outcome.refused r) = []
-namesIn Outcome.cut = []
-
 abbrev pub Held : Outcome → List ℕ → List ℕ → List ℕ → List ℕ → Type 0
-Held (Outcome.done ts ns) t₀ n₀ t n = (t ≡ padTo (length t₀) (tokensCells ts)) × (n ≡ padTo (length n₀) (namesCells ns))
+Held (Outcome.done ts ns) t₀ n₀ t n = (t ≡ over t₀ (tokensCells ts)) × (n ≡ over n₀ (namesCells ns))
 Held (Outcome.refused r) t₀ n₀ t n = Unit
 Held Outcome.cut t₀ n₀ t n = Unit
+
+-- A reading before the rest of each slice is cleared: the cells that the answer counts stand in front. A refusal has its
+-- message; an acceptance has none, and the message's slice is not yet cleared.
+pub record ReadsInto (o : Reading) (m₀ : List ℕ) (r : ReadAnswer) (t n m : List ℕ) : Type 0 where
+  pub answer : r ≡ o .answer
+  pub tokens : take (r .tokens * tokenWidth) t ≡ o .tokens
+  pub names : take (r .names * nameWidth) n ≡ o .names
+  pub message : (r .number ≡ 0 → ⊥) → m ≡ padTo (length m₀) (o .message)
+
+-- Then what stands behind is cleared, and after an acceptance the message.
+pub record Finishes (r : ReadAnswer) (t₀ n₀ m₀ t n m : List ℕ) : Type 0 where
+  pub tokens : t ≡ padTo (length t₀) (take (r .tokens * tokenWidth) t₀)
+  pub names : n ≡ padTo (length n₀) (take (r .names * nameWidth) n₀)
+  pub message : m ≡ pick (eqb (r .number) 0) (padTo (length m₀) []) m₀
 
 abbrev pub IfSized : Bool → ℕ → ℕ → ℕ → Type 0
 IfSized true t n m = (tokensSize ≤ t) × (namesSize ≤ n) × (messageSize ≤ m)

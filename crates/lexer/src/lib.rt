@@ -5,10 +5,11 @@ pub mod sizes;
 
 ghost use mathlib.Core.Path.{_≡_};
 ghost use Prim.Native.Nat.{_+_, _-_, _*_, _≤_, _<_};
-ghost use lib.Dec.{ltb};
+ghost use lib.Dec.{eqb, ltb};
+ghost use mathlib.Core.List.{[]};
 ghost use lib.ListN.{length};
 ghost use lib.Seq.{sets};
-ghost use Rattle.utils.specs.Bytes.{padTo};
+ghost use Rattle.utils.specs.Bytes.{pick, padTo};
 ghost use Rattle.pieces.specs.Pieces.{pieceAt};
 ghost use Rattle.pieces.specs.Tokens.{tokenCells};
 ghost use Rattle.utils.specs.Limits.{mostBytes, mostTokens, messageSize};
@@ -16,7 +17,7 @@ ghost use Rattle.lexer.specs.Sizes.{tokenWidth, tokensSize, namesSize};
 ghost use Rattle.lexer.specs.Numbered.{atToken, identified, named, numbered};
 ghost use Rattle.lexer.specs.Steps.{firstNames, Table, newCells};
 ghost use Rattle.lexer.specs.Steps.{nextName, nextOf, addedBy, pushed};
-ghost use Rattle.lexer.specs.Read.{lexedFrom, resultOf, tokensIn, namesIn, Held, reading, padded, readFrom};
+ghost use Rattle.lexer.specs.Read.{lexedFrom, resultOf, Held, readFrom, ReadsInto, Finishes};
 ghost use Rattle.lexer.specs.Read.{sized, IfSized, Reads};
 ghost use Rattle.lexer.specs.Decoded.{tokensOf, nameIn, integerIn, indexBehind, tokenAt, nameOf};
 use crate::sizes::NAME_CELLS;
@@ -159,7 +160,7 @@ fn push_token(cells: &mut [u32], count: usize, token: Token) -> bool
     false
 }
 
-// The cells of tokens and names, from cleared slices. On a refusal the caller clears them again.
+// The cells of tokens and names, stored over what the slices hold.
 fn lex_all(text: &[u8], line: u32, tokens: &mut [u32], names: &mut [u32]) -> LexResult
     requires { ⌜ (length (now text) ≤ mostBytes) × (line ≤ 2147483648)
         × (tokensSize ≤ length (now tokens)) × (namesSize ≤ length (now names)) ⌝ }
@@ -167,8 +168,6 @@ fn lex_all(text: &[u8], line: u32, tokens: &mut [u32], names: &mut [u32]) -> Lex
     ensures { λ r. ⌜ Held (numbered (now (text .entry)) line)
         (now (tokens .entry)) (now (names .entry)) (now (tokens .exit)) (now (names .exit)) ⌝ }
 {
-    utils::clear(tokens);
-    utils::clear(names);
     let mut count: usize = 0;
     let mut known: usize = 0;
     let mut at = Cursor { place: 0, line };
@@ -226,31 +225,6 @@ fn lex_text(text: &[u8], line: u32, tokens: &mut [u32], names: &mut [u32]) -> Le
     lex_all(text, line, tokens, names)
 }
 
-// The tokens and names of a text whose first line has this number. A refusal leaves both slices zero.
-pub fn lex_from(text: &[u8], line: u32, tokens: &mut [u32], names: &mut [u32]) -> LexResult
-    requires { ⌜ (line ≤ 2147483648) × (tokensSize ≤ length (now tokens)) × (namesSize ≤ length (now names)) ⌝ }
-    ensures { λ r. ⌜ r ≡ resultOf (lexedFrom line (now (text .entry))) ⌝ }
-    ensures { λ r. ⌜ now (tokens .exit)
-        ≡ padTo (length (now (tokens .entry))) (tokensIn (lexedFrom line (now (text .entry)))) ⌝ }
-    ensures { λ r. ⌜ now (names .exit)
-        ≡ padTo (length (now (names .entry))) (namesIn (lexedFrom line (now (text .entry)))) ⌝ }
-{
-    match lex_text(text, line, tokens, names) {
-        LexResult::Done {
-            tokens: count,
-            names: known,
-        } => LexResult::Done {
-            tokens: count,
-            names: known,
-        },
-        LexResult::Refused(refusal) => {
-            utils::clear(tokens);
-            utils::clear(names);
-            LexResult::Refused(refusal)
-        }
-    }
-}
-
 // Whether slices of these lengths have their sizes.
 fn fits(tokens: usize, names: usize, message: usize) -> bool
     ensures { λ r. ⌜ (r ≡ sized tokens names message) × (IfSized r tokens names message) ⌝ }
@@ -267,8 +241,9 @@ fn fits(tokens: usize, names: usize, message: usize) -> bool
     true
 }
 
-// The reading of a text whose first line has this number, into slices that have their sizes.
-pub fn read_from(
+// The reading of a text whose first line has this number, into the front of slices that have their sizes. Nothing is
+// cleared yet.
+pub fn read_into(
     text: &[u8],
     line: u32,
     tokens: &mut [u32],
@@ -277,11 +252,10 @@ pub fn read_from(
 ) -> ReadAnswer
     requires { ⌜ (line ≤ 2147483648) × (tokensSize ≤ length (now tokens)) × (namesSize ≤ length (now names))
         × (messageSize ≤ length (now message)) ⌝ }
-    ensures { λ r. ⌜ reading r (now (tokens .exit)) (now (names .exit)) (now (message .exit))
-        ≡ padded (now (tokens .entry)) (now (names .entry)) (now (message .entry))
-        (readFrom line (now (text .entry))) ⌝ }
+    ensures { λ r. ⌜ ReadsInto (readFrom line (now (text .entry))) (now (message .entry))
+        r (now (tokens .exit)) (now (names .exit)) (now (message .exit)) ⌝ }
 {
-    match lex_from(text, line, tokens, names) {
+    match lex_text(text, line, tokens, names) {
         LexResult::Refused(refusal) => {
             report::report(message, refusal);
             report::answer_of(refusal)
@@ -289,17 +263,34 @@ pub fn read_from(
         LexResult::Done {
             tokens: count,
             names: known,
-        } => {
-            utils::clear_bytes(message);
-            ReadAnswer {
-                number: numbers::ACCEPTED,
-                line: 0,
-                place: 0,
-                tokens: count,
-                names: known,
-            }
-        }
+        } => ReadAnswer {
+            number: numbers::ACCEPTED,
+            line: 0,
+            place: 0,
+            tokens: count,
+            names: known,
+        },
     }
+}
+
+// After an acceptance the message is zero; a refusal has written it.
+pub fn finish_message(number: u32, message: &mut [u8])
+    ensures { λ _. ⌜ now (message .exit)
+        ≡ pick (eqb number 0) (padTo (length (now (message .entry))) []) (now (message .entry)) ⌝ }
+{
+    if number == numbers::ACCEPTED {
+        utils::clear_bytes(message);
+    }
+}
+
+// Clears what stands behind the cells that an answer counts: after a refusal, which counts none, all of them.
+fn finish(r: ReadAnswer, tokens: &mut [u32], names: &mut [u32], message: &mut [u8])
+    ensures { λ _. ⌜ Finishes r (now (tokens .entry)) (now (names .entry)) (now (message .entry))
+        (now (tokens .exit)) (now (names .exit)) (now (message .exit)) ⌝ }
+{
+    utils::clear_from(tokens, r.tokens as usize * TOKEN_CELLS);
+    utils::clear_from(names, r.names as usize * NAME_CELLS);
+    finish_message(r.number, message);
 }
 
 // Document 01's reading of any text: tokens and names as cells, or a refusal and its message.
@@ -308,7 +299,9 @@ pub fn read(text: &[u8], tokens: &mut [u32], names: &mut [u32], message: &mut [u
         r (now (tokens .exit)) (now (names .exit)) (now (message .exit)) ⌝ }
 {
     if fits(tokens.len(), names.len(), message.len()) {
-        return read_from(text, 1, tokens, names, message);
+        let r = read_into(text, 1, tokens, names, message);
+        finish(r, tokens, names, message);
+        return r;
     }
     report::refuse_at(numbers::SHORT_BUFFER, Location(0), 0)
 }

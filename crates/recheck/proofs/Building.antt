@@ -4,9 +4,9 @@ use mathlib.Core.Path.{_≡_, refl, sym, ap, subst, fun-ext, _∙_}
 use mathlib.Core.List.{List, [], _∷_, _++_, append-assoc}
 use mathlib.Core.Bool.{Bool, true, false}
 use native.Mathlib.Omega.{arith}
-use lib.ListN.{length, getD, set, drop, replicate, length-append}
+use lib.ListN.{length, getD, set, drop, length-append}
 use lib.Seq.{sets, length-sets}
-use Rattle.utils.specs.Bytes.{pick, padTo, sameBytes}
+use Rattle.utils.specs.Bytes.{pick, padTo, over, sameBytes}
 use Rattle.lexer.specs.Decoded.{Tok}
 use Rattle.parser.specs.Step.{refusal}
 use Rattle.body.specs.Body.{Item}
@@ -34,7 +34,8 @@ use Rattle.sema.specs.declared.Checked.the-variants as K
 use Rattle.sema.proofs.Stored.{row-typed}
 use Rattle.elaborate.specs.Types.{calleeOf, typedItems, typedCalls, typedItemsCells, typedArgumentsCells}
 use Rattle.elaborate.proofs.Lists.{items-typed, calls-typed, length-typed-items, length-typed-arguments}
-use Rattle.unit.specs.Outcome.{untyped, none, allItems, allArguments, asLong, cleared, Counted}
+use Rattle.unit.specs.Outcome.{untyped, none, allItems, allArguments, fronts, Counted}
+use Rattle.unit.proofs.Building.{front-slices}
 use Rattle.unit.specs.Rows.{Done, done, thenRow, typedRows, RowsFit, HeldBy, RowsHeld}
 use Rattle.headers.specs.Table.{isTable}
 use Rattle.headers.specs.Spelled.{rowName, globalsSpelled, calleesSpelled, Named}
@@ -57,29 +58,29 @@ module _ (ts : List Tok) (names rows : List ℕ) (count place : ℕ) (g : Functi
     (globals-are : (name : ℕ) → globalsIn rows count name ≡ globals name)
     (callees-are : (name : ℕ) → calleeOf rows count name ≡ callees name) (more : List ℕ)
     (stands : drop (rowAt place) rows ≡ rowCells ts names g 0 0 ++ more) (fits : Fits (counts place 0 0 0 0) g)
-    (I A B : ℕ)
+    (I A B : List ℕ)
   where
     abbrev is : List Item
     is = g .items
 
     abbrev items : List ℕ
-    items = padTo I (untypedItems none (g ∷ []))
+    items = over I (untypedItems none (g ∷ []))
 
     abbrev args : List ℕ
-    args = padTo A (untypedArguments (g ∷ []))
+    args = over A (untypedArguments (g ∷ []))
 
     abbrev blocks : List ℕ
-    blocks = padTo B (allBlocks none (g ∷ []))
+    blocks = over B (allBlocks none (g ∷ []))
 
-    -- the zeros behind its cells
+    -- what stands behind its cells
     abbrev zi : List ℕ
-    zi = replicate (I - length (untypedItems none (g ∷ []))) 0
+    zi = drop (length (untypedItems none (g ∷ []))) I
 
     abbrev za : List ℕ
-    za = replicate (A - length (untypedArguments (g ∷ []))) 0
+    za = drop (length (untypedArguments (g ∷ []))) A
 
     abbrev zb : List ℕ
-    zb = replicate (B - length (allBlocks none (g ∷ []))) 0
+    zb = drop (length (allBlocks none (g ∷ []))) B
 
     items-stand : items ≡ itemsCells 0 is ++ zi
     unfolding untypedItems
@@ -150,7 +151,7 @@ module _ (ts : List Tok) (names rows : List ℕ) (count place : ℕ) (g : Functi
     fine-done : one .end ≡ K.Fine → d ≡ done K.Fine items′ args′
     fine-done h = turned ∙ fine-end (one .end) (done K.Fine items′ args′) (done K.Fine items args) h
 
-    items-even : length (untypedItems none (g ∷ [])) ≡ length (allItems callees none (g ∷ []) (one .table ∷ []))
+    pub items-even : length (untypedItems none (g ∷ [])) ≡ length (allItems callees none (g ∷ []) (one .table ∷ []))
     unfolding allItems countsFrom
     items-even =
         omega (
@@ -160,7 +161,7 @@ module _ (ts : List Tok) (names rows : List ℕ) (count place : ℕ) (g : Functi
           length-typed-items (one .table) callees 0 (g .items),
         )
 
-    args-even : length (untypedArguments (g ∷ [])) ≡ length (allArguments (g ∷ []) (one .table ∷ []))
+    pub args-even : length (untypedArguments (g ∷ [])) ≡ length (allArguments (g ∷ []) (one .table ∷ []))
     unfolding allArguments countsFrom
     args-even =
         omega (
@@ -170,23 +171,23 @@ module _ (ts : List Tok) (names rows : List ℕ) (count place : ℕ) (g : Functi
           length-typed-arguments (one .table) (g .items),
         )
 
-    items-pad : items′ ≡ padTo I (allItems callees none (g ∷ []) (one .table ∷ []))
+    items-over : items′ ≡ over I (allItems callees none (g ∷ []) (one .table ∷ []))
     unfolding allItems
-    items-pad =
-        ap (λ (k : ℕ). typedItemsCells (one .table) callees 0 (g .items) ++ replicate (I - k) 0) items-even
+    items-over =
+        ap (λ (k : ℕ). typedItemsCells (one .table) callees 0 (g .items) ++ drop k I) items-even
         ∙ sym (append-assoc (typedItemsCells (one .table) callees 0 (g .items)) [] _)
 
-    args-pad : args′ ≡ padTo A (allArguments (g ∷ []) (one .table ∷ []))
+    args-over : args′ ≡ over A (allArguments (g ∷ []) (one .table ∷ []))
     unfolding allArguments
-    args-pad =
-        ap (λ (k : ℕ). typedArgumentsCells (one .table) (g .items) ++ replicate (A - k) 0) args-even
+    args-over =
+        ap (λ (k : ℕ). typedArgumentsCells (one .table) (g .items) ++ drop k A) args-even
         ∙ sym (append-assoc (typedArgumentsCells (one .table) (g .items)) [] _)
 
-    pub items-typed-are : one .end ≡ K.Fine → d .items ≡ padTo I (allItems callees none (g ∷ []) (one .table ∷ []))
-    items-typed-are h = ap (λ (x : Done). x .items) (fine-done h) ∙ items-pad
+    pub items-typed-are : one .end ≡ K.Fine → d .items ≡ over I (allItems callees none (g ∷ []) (one .table ∷ []))
+    items-typed-are h = ap (λ (x : Done). x .items) (fine-done h) ∙ items-over
 
-    pub args-typed-are : one .end ≡ K.Fine → d .arguments ≡ padTo A (allArguments (g ∷ []) (one .table ∷ []))
-    args-typed-are h = ap (λ (x : Done). x .arguments) (fine-done h) ∙ args-pad
+    pub args-typed-are : one .end ≡ K.Fine → d .arguments ≡ over A (allArguments (g ∷ []) (one .table ∷ []))
+    args-typed-are h = ap (λ (x : Done). x .arguments) (fine-done h) ∙ args-over
 
 -- What parsing gave. -------------------------------------------------------------------------------------------------
 
@@ -237,7 +238,7 @@ module _ (old rows : List ℕ) (number : ℕ) (new : List ℕ) (ts : List Tok) (
 
   -- what is said of an answer and of the slices that it leaves
   abbrev Whole : ProgramRead → Slices → Type 0
-  Whole r s = (r ≡ verdictRead verdict) × (VerdictHeld ts names callees type s₀ s verdict × Counted r)
+  Whole r s = (r ≡ verdictRead verdict) × (VerdictHeld ts names callees type s verdict × Counted r)
 
   refused-whole : {e : Refusal} → verdict ≡ refuses e → (s : Slices) → Whole (U.Refused e) s
   refused-whole h s = rw h (refl, (tt, tt))
@@ -265,7 +266,7 @@ module _ (old rows : List ℕ) (number : ℕ) (new : List ℕ) (ts : List Tok) (
 
     module _ (table : isTable old rows number ≡ true) (known : ℕ) (v : Named new names known)
         (rows-long : 2881 ≤ length f)
-        (long : Long i a b p) (zero-now : s₀ ≡ cleared s₀) (n : Counts) (f₁ i₁ a₁ b₁ p₁ : List ℕ)
+        (long : Long i a b p) (n : Counts) (f₁ i₁ a₁ b₁ p₁ : List ℕ)
         (w : Parsed ts names n s₀ (slices f₁ i₁ a₁ b₁ p₁)) (out₀ out f₂ : List ℕ) (r : Placed)
         (room : 2881 ≤ length out₀)
         (q : Places old rows new names known number out₀ f₁ r out f₂)
@@ -292,7 +293,7 @@ module _ (old rows : List ℕ) (number : ℕ) (new : List ℕ) (ts : List Tok) (
             }
 
         -- its row is that of the function with the replaced one's type number
-        row-is : f₂ ≡ set (sets f (rowAt 0) (rowCells ts names g 0 0)) 0 1
+        row-is : f₂ ≡ set (sets f (rowAt 0) (padTo 45 (rowCells ts names g 0 0))) 0 1
         row-is =
             q .row
             ∙ ap (λ (s : Slices). set (set (s .functions) 0 1) (typeAt 0) (getD rows (typeAt number) 0))
@@ -307,35 +308,34 @@ module _ (old rows : List ℕ) (number : ℕ) (new : List ℕ) (ts : List Tok) (
 
         laid-are : slices f₂ i₁ a₁ b₁ p₁
             ≡ slices
-            (padTo (length f) (1 ∷ rowsCells ts names none (g ∷ [])))
-            (padTo (length i) (untypedItems none (g ∷ [])))
-            (padTo (length a) (untypedArguments (g ∷ [])))
-            (padTo (length b) (allBlocks none (g ∷ [])))
-            (padTo (length p) (allPredecessors (g ∷ [])))
+            (over f (1 ∷ rowsCells ts names none (g ∷ [])))
+            (over i (untypedItems none (g ∷ [])))
+            (over a (untypedArguments (g ∷ [])))
+            (over b (allBlocks none (g ∷ [])))
+            (over p (allPredecessors (g ∷ [])))
         unfolding storedFrom FitsFrom
         laid-are =
             stored-are
-            ∙ ap (λ (s : Slices). withCount 1 (storedFunction ts names none s g)) zero-now
-            ∙ stored-laid ts names (length f) (length i) (length a) (length b) (length p) rows-long (long .items-long)
+            ∙ stored-laid ts names f i a b p rows-long (long .items-long)
             (long .arguments-long) (long .blocks-long) (long .predecessors-long) (g ∷ []) (fits, tt)
 
-        f-is : f₂ ≡ padTo (length f) (1 ∷ rowsCells ts names none (g ∷ []))
+        f-is : f₂ ≡ over f (1 ∷ rowsCells ts names none (g ∷ []))
         f-is = ap (λ (s : Slices). s .functions) laid-are
 
-        i-is : i₁ ≡ padTo (length i) (untypedItems none (g ∷ []))
+        i-is : i₁ ≡ over i (untypedItems none (g ∷ []))
         i-is = ap (λ (s : Slices). s .items) laid-are
 
-        a-is : a₁ ≡ padTo (length a) (untypedArguments (g ∷ []))
+        a-is : a₁ ≡ over a (untypedArguments (g ∷ []))
         a-is = ap (λ (s : Slices). s .arguments) laid-are
 
-        b-is : b₁ ≡ padTo (length b) (allBlocks none (g ∷ []))
+        b-is : b₁ ≡ over b (allBlocks none (g ∷ []))
         b-is = ap (λ (s : Slices). s .blocks) laid-are
 
-        p-is : p₁ ≡ padTo (length p) (allPredecessors (g ∷ []))
+        p-is : p₁ ≡ over p (allPredecessors (g ∷ []))
         p-is = ap (λ (s : Slices). s .predecessors) laid-are
 
         abbrev rest : List ℕ
-        rest = replicate (length f - length (1 ∷ rowsCells ts names none (g ∷ []))) 0
+        rest = drop (length (1 ∷ rowsCells ts names none (g ∷ []))) f
 
         own : drop 1 f₂ ≡ padTo 45 (rowCells ts names g 0 0) ++ rest
         unfolding rowsCells
@@ -413,8 +413,8 @@ module _ (old rows : List ℕ) (number : ℕ) (new : List ℕ) (ts : List Tok) (
 
         abbrev laid-done : Done
         laid-done =
-            typedRows ts out (r .count) (padTo (length b) (allBlocks none (g ∷ []))) untyped (r .place) 1
-            (padTo (length i) (untypedItems none (g ∷ []))) (padTo (length a) (untypedArguments (g ∷ [])))
+            typedRows ts out (r .count) (over b (allBlocks none (g ∷ []))) untyped (r .place) 1
+            (over i (untypedItems none (g ∷ []))) (over a (untypedArguments (g ∷ [])))
 
         done-is : cells-done ≡ laid-done
         done-is = rw (b-is, i-is, a-is)
@@ -423,8 +423,7 @@ module _ (old rows : List ℕ) (number : ℕ) (new : List ℕ) (ts : List Tok) (
         ends-is =
             ap (λ (d : Done). d .end) done-is
             ∙ ends ts names out (r .count) (r .place) g globals callees globals-are callees-are _ stand placed-fits
-            (length i)
-            (length a) (length b)
+            i a b
 
         -- the verdict, by how typing ends
         verdict-typed : verdict ≡ afterTyping (w .read) (typing .table) (typing .end)
@@ -447,21 +446,28 @@ module _ (old rows : List ℕ) (number : ℕ) (new : List ℕ) (ts : List Tok) (
           accepted-typing h = verdict-typed ∙ ap (afterTyping (w .read) (typing .table)) (fine-end-is h)
 
           written-are : c ≡ K.Fine
-              → slices f₂ i₂ a₂ b₁ p₁
-              ≡ asLong s₀ (verdictSlices ts names callees type (accepts (w .read) (typing .table)))
+              → fronts (countsFrom none (w .read ∷ [])) (slices f₂ i₂ a₂ b₁ p₁)
+              ≡ verdictSlices ts names callees type (accepts (w .read) (typing .table))
+          unfolding countsFrom FitsFrom
           written-are h =
               let k = subst (λ (x : Checked). HeldBy x i₂ a₂ cells-done) h (typed-rows .held) in
               let z = fine-end-is h in
-              same-slices f-is
+              ap (fronts (countsFrom none (g ∷ [])))
+              (same-slices f-is
               (k .0 ∙ ap (λ (d : Done). d .items) done-is
               ∙ items-typed-are ts names out (r .count) (r .place) g globals callees globals-are callees-are _ stand
               placed-fits
-              (length i) (length a) (length b) z)
+              i a b z)
               (k .1 ∙ ap (λ (d : Done). d .arguments) done-is
               ∙ args-typed-are ts names out (r .count) (r .place) g globals callees globals-are callees-are _ stand
               placed-fits
-              (length i) (length a) (length b) z)
-              b-is p-is
+              i a b z)
+              b-is p-is)
+              ∙ front-slices ts names (g ∷ []) (fits, tt) callees (typing .table ∷ []) f i a b p
+              (sym (items-even ts names out (r .count) (r .place) g globals callees globals-are callees-are _ stand
+              placed-fits i a b))
+              (sym (args-even ts names out (r .count) (r .place) g globals callees globals-are callees-are _ stand
+              placed-fits i a b))
 
           pub types-fine : c ≡ K.Fine → Whole (U.Done n) (slices f₂ i₂ a₂ b₁ p₁)
           unfolding countsFrom

@@ -1,14 +1,13 @@
 -- How the recheck of a new text ends, over plain variables.
 use Prim.Native.Nat.{ℕ, _*_, _-_, _≤_}
-use mathlib.Core.Path.{_≡_, sym, ap, subst, _∙_}
+use mathlib.Core.Path.{_≡_, refl, sym, ap, subst, _∙_}
 use mathlib.Core.List.{List, [], _∷_}
 use mathlib.Core.Bool.{true, false}
 use native.Mathlib.Omega.{arith}
 use borrow.Author.Tests.{eq-eqb, ne-eqb}
-use lib.ListN.{getD, take, drop}
+use lib.ListN.{length, getD, take, drop}
 use Rattle.utils.specs.Bytes.{pick, padTo}
-use Rattle.lexer.specs.Read.{Reading, reading, readFrom}
-use Rattle.lexer.specs.Read as lexed
+use Rattle.lexer.specs.Read.{Reading, readFrom, ReadsInto}
 use Rattle.lexer.specs.Numbered.{namesCells}
 use Rattle.lexer.specs.Decoded.{Tok, tokensOf}
 use Rattle.lexer.specs.declared.ReadAnswer.{ReadAnswer}
@@ -17,24 +16,27 @@ use Rattle.functions.specs.Columns.{typeAt, lineAt}
 use Rattle.functions.specs.Answer.{Slices, countsFrom}
 use Rattle.functions.specs.declared.Counts.{Counts}
 use Rattle.functions.specs.declared.ProgramRead.the-variants as U
-use Rattle.unit.specs.Outcome.{none, cleared}
+use Rattle.unit.specs.Outcome.{none}
 use Rattle.checker.specs.Check.{Checking, accepted, checkRefusal, refusedAt}
-use Rattle.checker.specs.Promise.{checking, padded, Lexed}
-use Rattle.checker.proofs.Lexed.{is-done, used-names, read-names, unpadded}
-use Rattle.checker.proofs.Ends.{accepted-as, refused-as, not-read}
+use Rattle.checker.specs.Promise.{Lexed, ChecksInto}
+use Rattle.checker.specs.declared.CheckAnswer.{CheckAnswer}
+use Rattle.checker.proofs.Lexed.{is-done, used-names, read-names, unpadded, within}
+use Rattle.checker.proofs.Ends.{accepted-as, refused-into, not-read, unread-into}
 use Rattle.headers.specs.Table.{isTable}
 use Rattle.headers.specs.Spelled.{calleesSpelled, Named}
 use Rattle.headers.specs.Kept.{isWhole}
 use Rattle.recheck.specs.Recheck.{Verdict, refuses, accepts, verdictD, verdictSlices, verdictAs, parsedAs}
 use Rattle.recheck.specs.Recheck.{refusedWith, recheckOf}
 use Rattle.recheck.specs.Alone.{verdictRead, VerdictHeld}
+use Rattle.recheck.specs.Numbers.{Listed}
+use Rattle.recheck.proofs.Numbers.{IfRefused, verdict-listed, listed-above}
 use Rattle.headers.proofs.Named.{accepted-named}
 use Rattle.headers.proofs.Ranges.{table-in-range}
 
 -- A new text that is read. -------------------------------------------------------------------------------------------
 
-module _ (old table : List ℕ) (number : ℕ) (new m t n : List ℕ) (u : Slices) (r : ReadAnswer)
-    (good : isTable old table number ≡ true) (v : Lexed (getD table (lineAt number) 0) new r m t n) where
+module _ (old table : List ℕ) (number : ℕ) (new m₀ m t n : List ℕ) (r : ReadAnswer)
+    (good : isTable old table number ≡ true) (v : Lexed (getD table (lineAt number) 0) new r t n) where
   abbrev read : Reading
   read = readFrom (getD table (lineAt number) 0) new
 
@@ -66,45 +68,46 @@ module _ (old table : List ℕ) (number : ℕ) (new m t n : List ℕ) (u : Slice
       abbrev callees : ℕ → ℕ
       callees = calleesSpelled old table new (read .names)
 
-      accepts-by : (k : Counts) (w : Verdict) (u′ : Slices) → U.Done k ≡ verdictRead w
-          → VerdictHeld ts (read .names) callees type u u′ w
-          → checking (accepted (r .tokens) (r .names) k) m t n u′ ≡ padded m t n u (verdictAs new read ts callees type
-          w)
-      accepts-by k (accepts f symbols) u′ h e =
+      accepts-by : (k : Counts) (w : Verdict) (u : Slices) → U.Done k ≡ verdictRead w
+          → VerdictHeld ts (read .names) callees type u w
+          → ChecksInto (verdictAs new read ts callees type w) m₀ (accepted (r .tokens) (r .names) k) m t n u
+      accepts-by k (accepts f symbols) u h e =
           let counts-are : k ≡ countsFrom none (f ∷ []) = cc in
-          accepted-as v u k (countsFrom none (f ∷ [])) u′
+          accepted-as v m₀ m k (countsFrom none (f ∷ [])) u
           (verdictSlices ts (read .names) callees type (accepts f symbols)) counts-are e
-      accepts-by k (refuses e′) u′ h e = absurd (let z : _≡_ {A = ℕ} 0 1 = cc in omega arith)
+      accepts-by k (refuses e′) u h e = absurd (let z : _≡_ {A = ℕ} 0 1 = cc in omega arith)
 
-      refuses-by : (e : Refusal) (w : Verdict) → U.Refused e ≡ verdictRead w
-          → refusedAt new (read .names) ts e ≡ verdictAs new read ts callees type w
-      refuses-by e (accepts f symbols) h = absurd (let z : _≡_ {A = ℕ} 0 1 = cc in omega arith)
-      refuses-by e (refuses e′) h =
+      refuses-by : (e : Refusal) (w : Verdict) → U.Refused e ≡ verdictRead w → IfRefused w
+          → (verdictAs new read ts callees type w ≡ refusedAt new (read .names) ts e) × Listed (e .number)
+      refuses-by e (accepts f symbols) h g = absurd (let z : _≡_ {A = ℕ} 0 1 = cc in omega arith)
+      refuses-by e (refuses e′) h g =
           let same : e ≡ e′ = cc in
-          ap (refusedAt new (read .names) ts) same
+          rw same (refl, g)
 
-      pub ends-accepted : (k : Counts) (u′ : Slices) → U.Done k ≡ verdictRead (verdictD old table number new nm
-          (tokensOf tk))
-          → VerdictHeld (tokensOf tk) nm (calleesSpelled old table new nm) type u u′
+      pub ends-accepted : (k : Counts) (u : Slices)
+          → U.Done k ≡ verdictRead (verdictD old table number new nm (tokensOf tk))
+          → VerdictHeld (tokensOf tk) nm (calleesSpelled old table new nm) type u
           (verdictD old table number new nm (tokensOf tk))
-          → checking (accepted (r .tokens) (r .names) k) m t n u′ ≡ padded m t n u (recheckOf old table number new)
-      ends-accepted k u′ h e =
-          accepts-by k (verdictD old table number new (read .names) ts) u′ (rw (tk-is, nm-is) at h)
-          (rw (tk-is, nm-is) at e)
-          ∙ ap (padded m t n u) (sym goes-on-whole)
+          → ChecksInto (recheckOf old table number new) m₀ (accepted (r .tokens) (r .names) k) m t n u
+      ends-accepted k u h e =
+          rw goes-on-whole
+          (accepts-by k (verdictD old table number new (read .names) ts) u (rw (tk-is, nm-is) at h)
+          (rw (tk-is, nm-is) at e))
 
-      pub ends-refused : (e : Refusal) (u₁ : Slices) (d : Checking)
-          → U.Refused e ≡ verdictRead (verdictD old table number new nm (tokensOf tk)) → cleared u₁ ≡ cleared u
-          → d ≡ padded m t n u₁ (refusedAt new (take (r .names * 2) n) (tokensOf (take (r .tokens * 4) t)) e)
-          → d ≡ padded m t n u (recheckOf old table number new)
-      ends-refused e u₁ d h k g =
-          refused-as v u e u₁ d k g
-          ∙ ap (padded m t n u)
-          (refuses-by e (verdictD old table number new (read .names) ts) (rw (tk-is, nm-is) at h)
-          ∙ sym goes-on-whole)
+      pub ends-refused : (e : Refusal) (res : CheckAnswer) (u : Slices)
+          → U.Refused e ≡ verdictRead (verdictD old table number new nm (tokensOf tk))
+          → res ≡ refusedAt new (take (r .names * 2) n) (tokensOf (take (r .tokens * 4) t)) e .answer
+          → m ≡ padTo (length m₀) (refusedAt new (take (r .names * 2) n) (tokensOf (take (r .tokens * 4) t)) e .message)
+          → ChecksInto (recheckOf old table number new) m₀ res m t n u
+      ends-refused e res u h a b =
+          let k = refuses-by e (verdictD old table number new (read .names) ts) (rw (tk-is, nm-is) at h)
+          (verdict-listed ts (within v) old table number new (read .names)) in
+          rw (a, v .tokens)
+          (refused-into (recheckOf old table number new) m₀ m t n u _ _ _ _ (goes-on-whole ∙ k .0)
+          (λ z. omega (arith, z, listed-above _ (k .1))) (rw (v .tokens, v .names) at b))
 
 -- the names lent to the parser are its names
-pub named-now : {line : ℕ} {new m t n : List ℕ} {r : ReadAnswer} (v : Lexed line new r m t n)
+pub named-now : {line : ℕ} {new t n : List ℕ} {r : ReadAnswer} (v : Lexed line new r t n)
     → Named new (take (r .names * 2 - 0) (drop 0 n)) (r .names)
 named-now {line} {new} {r = r} v =
     let d = is-done v in
@@ -128,13 +131,18 @@ line-small old table number good k e =
     omega (arith, e, v .in-range .each number (v .there) .line .1)
 
 -- a new text that isn't read
-pub not-lexed : (line : ℕ) (new t₀ n₀ m₀ : List ℕ) (r : ReadAnswer) (t n m : List ℕ)
-    → reading r t n m ≡ lexed.padded t₀ n₀ m₀ (readFrom line new) → (old table : List ℕ) (number : ℕ)
-    → isTable old table number ≡ true → line ≡ getD table (lineAt number) 0
-    → (r .number ≡ 0 → ⊥) → (u u′ : Slices) → u′ ≡ cleared u
-    → checking (checkRefusal (r .number) (r .line) (r .place)) m t n u′
-    ≡ padded m₀ t₀ n₀ u (recheckOf old table number new)
+pub not-lexed : (line : ℕ) (new m₀ : List ℕ) (r : ReadAnswer) (t n m : List ℕ)
+    → ReadsInto (readFrom line new) m₀ r t n m → (old table : List ℕ) (number : ℕ)
+    → isTable old table number ≡ true → line ≡ getD table (lineAt number) 0 → (r .number ≡ 0 → ⊥) → (u : Slices)
+    → ChecksInto (recheckOf old table number new) m₀ (checkRefusal (r .number) (r .line) (r .place)) m t n u
 unfolding recheckOf pick
-not-lexed line new t₀ n₀ m₀ r t n m reads old table number good same z u u′ e =
-    let k = not-read line new t₀ n₀ m₀ r t n m reads z u u′ e in
-    k .1 ∙ rw (good, ← same, ne-eqb _ _ (k .0))
+not-lexed line new m₀ r t n m reads old table number good same z u =
+    unread-into line new m₀ r t n m reads (recheckOf old table number new)
+    (rw (good, ← same, ne-eqb _ _ (not-read line new m₀ r t n m reads z))) z u
+
+-- a refusal at no token
+pub refused-with : (o : Checking) (number line : ℕ) (res : CheckAnswer) (m₀ m t n : List ℕ) (u : Slices)
+    → o ≡ refusedWith number line 0 → (number ≡ 0 → ⊥) → res ≡ refusedWith number line 0 .answer
+    → m ≡ padTo (length m₀) (refusedWith number line 0 .message) → ChecksInto o m₀ res m t n u
+refused-with o number line res m₀ m t n u e some a b =
+    rw a (refused-into o m₀ m t n u number line 0 _ e some b)

@@ -73,7 +73,7 @@ lexing-listed (R.NameTooLong c) = lexing (omega arith) (omega arith)
 
 -- What parsing and typing make of the tokens. ------------------------------------------------------------------------
 
-abbrev IfRefused : Verdict → Type 0
+abbrev pub IfRefused : Verdict → Type 0
 IfRefused (accepts f symbols) = Unit
 IfRefused (refuses e) = Listed (e .number)
 
@@ -117,7 +117,7 @@ module _ (ts : List Tok) (w : Within ts 0) where
   function-listed globals =
       then-refused (aloneD ts) _ alone-listed (λ f. typing-listed f (function-fine ts globals f untyped))
 
-  verdict-listed : (old table : List ℕ) (number : ℕ) (new names : List ℕ)
+  pub verdict-listed : (old table : List ℕ) (number : ℕ) (new names : List ℕ)
       → IfRefused (verdictD old table number new names ts)
   verdict-listed old table number new names =
       pick-either IfRefused _ _ _ (λ t. function-listed (globalsSpelled old table new names)) (λ t.
@@ -129,7 +129,7 @@ abbrev numberOf : Verdict → ℕ
 numberOf (accepts f symbols) = 0
 numberOf (refuses e) = e .number
 
-listed-above : (n : ℕ) → Listed n → 1 ≤ n
+pub listed-above : (n : ℕ) → Listed n → 1 ≤ n
 listed-above n (inl h) = h .0
 listed-above n (inr (inl h)) = omega (arith, h .0)
 listed-above n (inr (inr (inl h))) = omega (arith, h .0)
@@ -248,6 +248,22 @@ module _ (old table : List ℕ) (number : ℕ) (new : List ℕ) where
           → b ≡ false
       by-table true e z = absurd (by-answer (good-number e) z)
       by-table false e z = refl
+
+-- a new function that is accepted has no message
+module _ (old table : List ℕ) (number : ℕ) (new : List ℕ) where
+  accepted-silent : Accepts old table number new → recheckOf old table number new .message ≡ []
+  accepted-silent a =
+      ap (λ (x : Checking). x .message)
+      (goes-on old table number new (a .good) (a .tokens) (a .names) (a .lexed) (a .whole)
+      ∙ ap (verdictThen old table number new (a .good) (a .tokens) (a .names) (a .lexed)) (a .typed))
+
+  pub silent : recheckOf old table number new .answer .number ≡ 0 → recheckOf old table number new .message ≡ []
+  silent z = by (recheckOf old table number new .answer .number) z (every-number old table number new)
+    where
+      by : (n : ℕ) → n ≡ 0 → Numbered old table number new n → recheckOf old table number new .message ≡ []
+      by n h (inl a) = accepted-silent (a .0)
+      by n h (inr (f, inl l)) = absurd (omega (arith, h, listed-above n l))
+      by n h (inr (f, inr e)) = absurd (omega (arith, h, e))
 
 never-thirty : (old table : List ℕ) (number : ℕ) (new : List ℕ) (n : ℕ) → Numbered old table number new n
     → n ≡ 30 → ⊥

@@ -83,14 +83,18 @@ row-long ts names f h =
 
 -- with the function type's number that it is given, it is the row of the function with that number
 pub retyped-row : (ts : List Tok) (names l : List ℕ) (f : Function) (type : ℕ)
-    → set (set (sets l (rowAt 0) (rowCells ts names f 0 0)) 0 1) (typeAt 0) type
-    ≡ set (sets l (rowAt 0) (rowCells ts names (retyped type f) 0 0)) 0 1
+    → set (set (sets l (rowAt 0) (padTo 45 (rowCells ts names f 0 0))) 0 1) (typeAt 0) type
+    ≡ set (sets l (rowAt 0) (padTo 45 (rowCells ts names (retyped type f) 0 0))) 0 1
 retyped-row ts names l f type =
     let row : List ℕ = rowCells ts names f 0 0 in
-    let long : 7 < length row =
-    omega (arith, length-append (headCells ts names f 0 0) (variablesCells (f .head .formals))) in
-    set-comm (sets l 1 row) 0 8 1 type (λ e. omega (arith, e))
-    ∙ ap (λ (z : List ℕ). set z 0 1) (set-in row l 1 7 type long)
+    let long : 7 < length (padTo 45 row) =
+    omega (
+      arith,
+      length-append row (replicate (45 - length row) 0),
+      length-append (headCells ts names f 0 0) (variablesCells (f .head .formals)),
+    ) in
+    set-comm (sets l 1 (padTo 45 row)) 0 8 1 type (λ e. omega (arith, e))
+    ∙ ap (λ (z : List ℕ). set z 0 1) (set-in (padTo 45 row) l 1 7 type long)
 
 -- Function types of the rows that were brought. ----------------------------------------------------------------------
 

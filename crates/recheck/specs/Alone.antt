@@ -11,7 +11,7 @@ use Rattle.functions.specs.Answer.{Slices, countsFrom}
 use Rattle.utils.specs.Limits.{mostFunctions}
 use Rattle.functions.specs.declared.ProgramRead.{ProgramRead}
 use Rattle.functions.specs.declared.ProgramRead.the-variants as U
-use Rattle.unit.specs.Outcome.{none, asLong}
+use Rattle.unit.specs.Outcome.{none, fronts}
 use Rattle.recheck.specs.Recheck.{Verdict, refuses, accepts, verdictSlices}
 use Rattle.headers.specs.Brought.{cellsFrom, brought, broughtFrom, headersBrought}
 use Rattle.headers.specs.declared.Placed.{Placed}
@@ -26,11 +26,11 @@ abbrev pub verdictRead : Verdict → ProgramRead
 verdictRead (accepts f table) = U.Done (countsFrom none (f ∷ []))
 verdictRead (refuses e) = U.Refused e
 
--- Before a refusal's slices are cleared nothing is said of them.
-abbrev pub VerdictHeld : List Tok → List ℕ → (ℕ → ℕ) → ℕ → Slices → Slices → Verdict → Type 0
-VerdictHeld ts names callees type s₀ s (accepts f table) =
-    s ≡ asLong s₀ (verdictSlices ts names callees type (accepts f table))
-VerdictHeld ts names callees type s₀ s (refuses e) = Unit
+-- The records stand in front; of what stands behind nothing is said, and nothing of a refusal's slices.
+abbrev pub VerdictHeld : List Tok → List ℕ → (ℕ → ℕ) → ℕ → Slices → Verdict → Type 0
+VerdictHeld ts names callees type s (accepts f table) =
+    fronts (countsFrom none (f ∷ [])) s ≡ verdictSlices ts names callees type (accepts f table)
+VerdictHeld ts names callees type s (refuses e) = Unit
 
 -- The new function's row has the replaced one's function type; among the old headers, in a table that held out₀, it
 -- stands in the replaced one's place.

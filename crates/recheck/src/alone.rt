@@ -7,7 +7,7 @@ ghost use Rattle.lexer.specs.Decoded.{tokensOf};
 ghost use Rattle.body.specs.Room.{Within};
 ghost use Rattle.functions.specs.Columns.{typeAt, tableSize};
 ghost use Rattle.functions.specs.Answer.{Long, slices, FunctionHeld};
-ghost use Rattle.unit.specs.Outcome.{none, cleared, Counted};
+ghost use Rattle.unit.specs.Outcome.{none, Counted};
 ghost use Rattle.headers.specs.Table.{isTable};
 ghost use Rattle.headers.specs.Spelled.{Named, calleesSpelled};
 ghost use Rattle.utils.specs.Limits.{mostFunctions};
@@ -104,7 +104,7 @@ fn place_alone<'t, 'c>(
     placed
 }
 
-// Into cleared slices, with a table for the old headers. A refusal says nothing of the slices.
+// Into the front of the slices, with a table for the old headers. A refusal says nothing of the slices.
 fn build<'t, 'c>(
     old: &'t [u8],
     rows: &'c [u32],
@@ -122,16 +122,12 @@ fn build<'t, 'c>(
 ) -> ProgramRead
     requires { ⌜ (isTable (now old) (now rows) number ≡ true) × Named (now new) (now names) known
         × Within (tokensOf (now tokens)) 0 × (tableSize ≤ length (now functions))
-        × Long (now items) (now arguments) (now blocks) (now predecessors) × (tableSize ≤ length (now local))
-        × (slices (now functions) (now items) (now arguments) (now blocks) (now predecessors)
-        ≡ cleared (slices (now functions) (now items) (now arguments) (now blocks) (now predecessors))) ⌝ }
+        × Long (now items) (now arguments) (now blocks) (now predecessors) × (tableSize ≤ length (now local)) ⌝ }
     ensures { λ r. ⌜ r ≡ verdictRead (verdictD (now (old .entry)) (now (rows .entry)) number (now (new .entry))
         (now (names .entry)) (tokensOf (now (tokens .entry)))) ⌝ }
     ensures { λ _. ⌜ VerdictHeld (tokensOf (now (tokens .entry))) (now (names .entry))
         (calleesSpelled (now (old .entry)) (now (rows .entry)) (now (new .entry)) (now (names .entry)))
         (getD (now (rows .entry)) (typeAt number) 0)
-        (slices (now (functions .entry)) (now (items .entry)) (now (arguments .entry)) (now (blocks .entry))
-        (now (predecessors .entry)))
         (slices (now (functions .exit)) (now (items .exit)) (now (arguments .exit)) (now (blocks .exit))
         (now (predecessors .exit)))
         (verdictD (now (old .entry)) (now (rows .entry)) number (now (new .entry)) (now (names .entry))
@@ -187,16 +183,12 @@ pub(crate) fn unit<'t, 'c>(
 ) -> ProgramRead
     requires { ⌜ (isTable (now old) (now rows) number ≡ true) × Named (now new) (now names) known
         × Within (tokensOf (now tokens)) 0 × (tableSize ≤ length (now functions))
-        × Long (now items) (now arguments) (now blocks) (now predecessors)
-        × (slices (now functions) (now items) (now arguments) (now blocks) (now predecessors)
-        ≡ cleared (slices (now functions) (now items) (now arguments) (now blocks) (now predecessors))) ⌝ }
+        × Long (now items) (now arguments) (now blocks) (now predecessors) ⌝ }
     ensures { λ r. ⌜ r ≡ verdictRead (verdictD (now (old .entry)) (now (rows .entry)) number (now (new .entry))
         (now (names .entry)) (tokensOf (now (tokens .entry)))) ⌝ }
     ensures { λ _. ⌜ VerdictHeld (tokensOf (now (tokens .entry))) (now (names .entry))
         (calleesSpelled (now (old .entry)) (now (rows .entry)) (now (new .entry)) (now (names .entry)))
         (getD (now (rows .entry)) (typeAt number) 0)
-        (slices (now (functions .entry)) (now (items .entry)) (now (arguments .entry)) (now (blocks .entry))
-        (now (predecessors .entry)))
         (slices (now (functions .exit)) (now (items .exit)) (now (arguments .exit)) (now (blocks .exit))
         (now (predecessors .exit)))
         (verdictD (now (old .entry)) (now (rows .entry)) number (now (new .entry)) (now (names .entry))

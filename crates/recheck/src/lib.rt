@@ -5,14 +5,14 @@ ghost use mathlib.Core.Path.{_≡_};
 ghost use mathlib.Core.Bool.{true};
 ghost use Prim.Native.Nat.{_≤_};
 ghost use lib.ListN.{length, getD};
+ghost use Rattle.utils.specs.Bytes.{padTo};
 ghost use Rattle.lexer.specs.Decoded.{tokensOf};
 ghost use Rattle.lexer.specs.Read.{readFrom};
 ghost use Rattle.functions.specs.Answer.{slices};
 ghost use Rattle.functions.specs.Columns.{lineAt};
-ghost use Rattle.checker.specs.Promise.{checking, padded, Lexed, Sizes};
+ghost use Rattle.checker.specs.Promise.{Lexed, Sizes, ChecksInto};
 ghost use Rattle.headers.specs.Kept.{isWhole};
 ghost use Rattle.headers.specs.Table.{isTable};
-ghost use Rattle.unit.specs.Outcome.{cleared};
 ghost use Rattle.utils.specs.Limits.{messageSize};
 ghost use Rattle.recheck.specs.Recheck.{refusedWith, recheckOf};
 ghost use Rattle.recheck.specs.Promise.{Rechecks};
@@ -25,47 +25,28 @@ use lexer::ReadAnswer;
 use lexer::sizes::NAME_CELLS;
 use lexer::sizes::TOKEN_CELLS;
 use pieces::Location;
-use unit::clear;
 use utils::cell_at;
 use utils::numbers;
 
-// A refusal at no token: its message, and every other slice zero.
-fn refuse_all(
-    number: u32,
-    line: Location,
-    tokens: &mut [u32],
-    names: &mut [u32],
-    functions: &mut [u32],
-    items: &mut [u32],
-    arguments: &mut [u32],
-    blocks: &mut [u32],
-    predecessors: &mut [u32],
-    message: &mut [u8],
-) -> CheckAnswer
+// A refusal at no token: its message and its answer.
+fn refuse_all(number: u32, line: Location, message: &mut [u8]) -> CheckAnswer
     requires { ⌜ messageSize ≤ length (now message) ⌝ }
-    ensures { λ res. ⌜ checking res (now (message .exit)) (now (tokens .exit)) (now (names .exit))
-        (slices (now (functions .exit)) (now (items .exit)) (now (arguments .exit)) (now (blocks .exit))
-        (now (predecessors .exit)))
-        ≡ padded (now (message .entry)) (now (tokens .entry)) (now (names .entry))
-        (slices (now (functions .entry)) (now (items .entry)) (now (arguments .entry)) (now (blocks .entry))
-        (now (predecessors .entry))) (refusedWith number (line .0) 0) ⌝ }
+    ensures { λ res. ⌜ (res ≡ refusedWith number (line .0) 0 .answer)
+        × (now (message .exit) ≡ padTo (length (now (message .entry))) (refusedWith number (line .0) 0 .message)) ⌝ }
 {
     messages::report(message, line, number);
-    utils::clear(tokens);
-    utils::clear(names);
-    clear::clear_five(functions, items, arguments, blocks, predecessors);
     checker::refused(number, line, 0)
 }
 
-// A new text that is read and begins and ends as one function, into cleared slices.
-fn recheck_whole<'t>(
+// A new text that is read and begins and ends as one function, into the front of slices that have their sizes.
+fn recheck_whole<'t, 'c>(
     old: &'t [u8],
-    table: &[u32],
+    table: &'c [u32],
     number: u32,
     new: &'t [u8],
     r: ReadAnswer,
-    tokens: &mut [u32],
-    names: &mut [u32],
+    tokens: &[u32],
+    names: &'c [u32],
     functions: &mut [u32],
     items: &mut [u32],
     arguments: &mut [u32],
@@ -74,19 +55,14 @@ fn recheck_whole<'t>(
     message: &mut [u8],
 ) -> CheckAnswer
     requires { ⌜ (isTable (now old) (now table) number ≡ true)
-        × Lexed (getD (now table) (lineAt number) 0) (now new) r (now message) (now tokens) (now names)
+        × Lexed (getD (now table) (lineAt number) 0) (now new) r (now tokens) (now names)
         × (isWhole (now new) (tokensOf (readFrom (getD (now table) (lineAt number) 0) (now new) .tokens)) ≡ true)
         × Sizes (now message) (now tokens) (now names)
-        (slices (now functions) (now items) (now arguments) (now blocks) (now predecessors))
-        × (slices (now functions) (now items) (now arguments) (now blocks) (now predecessors)
-        ≡ cleared (slices (now functions) (now items) (now arguments) (now blocks) (now predecessors))) ⌝ }
-    ensures { λ res. ⌜ checking res (now (message .exit)) (now (tokens .exit)) (now (names .exit))
+        (slices (now functions) (now items) (now arguments) (now blocks) (now predecessors)) ⌝ }
+    ensures { λ res. ⌜ ChecksInto (recheckOf (now (old .entry)) (now (table .entry)) number (now (new .entry)))
+        (now (message .entry)) res (now (message .exit)) (now (tokens .entry)) (now (names .entry))
         (slices (now (functions .exit)) (now (items .exit)) (now (arguments .exit)) (now (blocks .exit))
-        (now (predecessors .exit)))
-        ≡ padded (now (message .entry)) (now (tokens .entry)) (now (names .entry))
-        (slices (now (functions .entry)) (now (items .entry)) (now (arguments .entry)) (now (blocks .entry))
-        (now (predecessors .entry)))
-        (recheckOf (now (old .entry)) (now (table .entry)) number (now (new .entry))) ⌝ }
+        (now (predecessors .exit))) ⌝ }
 {
     let last = r.tokens as usize * TOKEN_CELLS;
     let end = r.names as usize * NAME_CELLS;
@@ -104,32 +80,20 @@ fn recheck_whole<'t>(
         blocks,
         predecessors,
     ) {
-        ProgramRead::Refused(e) => checker::refuse(
-            new,
-            r,
-            tokens,
-            names,
-            functions,
-            items,
-            arguments,
-            blocks,
-            predecessors,
-            message,
-            e,
-        ),
+        ProgramRead::Refused(e) => checker::refuse(new, r, tokens, names, message, e),
         ProgramRead::Done(n) => checker::counted(r.tokens, r.names, n),
     }
 }
 
-// A new text that is read, into cleared slices.
-fn recheck_lexed<'t>(
+// A new text that is read, into the front of slices that have their sizes.
+fn recheck_lexed<'t, 'c>(
     old: &'t [u8],
-    table: &[u32],
+    table: &'c [u32],
     number: u32,
     new: &'t [u8],
     r: ReadAnswer,
-    tokens: &mut [u32],
-    names: &mut [u32],
+    tokens: &[u32],
+    names: &'c [u32],
     functions: &mut [u32],
     items: &mut [u32],
     arguments: &mut [u32],
@@ -138,18 +102,13 @@ fn recheck_lexed<'t>(
     message: &mut [u8],
 ) -> CheckAnswer
     requires { ⌜ (isTable (now old) (now table) number ≡ true)
-        × Lexed (getD (now table) (lineAt number) 0) (now new) r (now message) (now tokens) (now names)
+        × Lexed (getD (now table) (lineAt number) 0) (now new) r (now tokens) (now names)
         × Sizes (now message) (now tokens) (now names)
-        (slices (now functions) (now items) (now arguments) (now blocks) (now predecessors))
-        × (slices (now functions) (now items) (now arguments) (now blocks) (now predecessors)
-        ≡ cleared (slices (now functions) (now items) (now arguments) (now blocks) (now predecessors))) ⌝ }
-    ensures { λ res. ⌜ checking res (now (message .exit)) (now (tokens .exit)) (now (names .exit))
+        (slices (now functions) (now items) (now arguments) (now blocks) (now predecessors)) ⌝ }
+    ensures { λ res. ⌜ ChecksInto (recheckOf (now (old .entry)) (now (table .entry)) number (now (new .entry)))
+        (now (message .entry)) res (now (message .exit)) (now (tokens .entry)) (now (names .entry))
         (slices (now (functions .exit)) (now (items .exit)) (now (arguments .exit)) (now (blocks .exit))
-        (now (predecessors .exit)))
-        ≡ padded (now (message .entry)) (now (tokens .entry)) (now (names .entry))
-        (slices (now (functions .entry)) (now (items .entry)) (now (arguments .entry)) (now (blocks .entry))
-        (now (predecessors .entry)))
-        (recheckOf (now (old .entry)) (now (table .entry)) number (now (new .entry))) ⌝ }
+        (now (predecessors .exit))) ⌝ }
 {
     let last = r.tokens as usize * TOKEN_CELLS;
     if kept::is_whole(new, &tokens[0..last]) {
@@ -170,22 +129,11 @@ fn recheck_lexed<'t>(
         );
     }
     let line = Location(cell_at(table, columns::LINE + number as usize * columns::ROW));
-    refuse_all(
-        numbers::NOT_ONE_FUNCTION,
-        line,
-        tokens,
-        names,
-        functions,
-        items,
-        arguments,
-        blocks,
-        predecessors,
-        message,
-    )
+    refuse_all(numbers::NOT_ONE_FUNCTION, line, message)
 }
 
-// Slices that have their sizes.
-fn recheck_sized<'t>(
+// The recheck of a new text, into the front of slices that have their sizes. Nothing is cleared yet.
+pub fn recheck_into<'t>(
     old: &'t [u8],
     table: &[u32],
     number: u32,
@@ -201,31 +149,16 @@ fn recheck_sized<'t>(
 ) -> CheckAnswer
     requires { ⌜ Sizes (now message) (now tokens) (now names)
         (slices (now functions) (now items) (now arguments) (now blocks) (now predecessors)) ⌝ }
-    ensures { λ res. ⌜ checking res (now (message .exit)) (now (tokens .exit)) (now (names .exit))
+    ensures { λ res. ⌜ ChecksInto (recheckOf (now (old .entry)) (now (table .entry)) number (now (new .entry)))
+        (now (message .entry)) res (now (message .exit)) (now (tokens .exit)) (now (names .exit))
         (slices (now (functions .exit)) (now (items .exit)) (now (arguments .exit)) (now (blocks .exit))
-        (now (predecessors .exit)))
-        ≡ padded (now (message .entry)) (now (tokens .entry)) (now (names .entry))
-        (slices (now (functions .entry)) (now (items .entry)) (now (arguments .entry)) (now (blocks .entry))
-        (now (predecessors .entry)))
-        (recheckOf (now (old .entry)) (now (table .entry)) number (now (new .entry))) ⌝ }
+        (now (predecessors .exit))) ⌝ }
 {
     if !table::is_table(old, table, number) {
-        return refuse_all(
-            numbers::BAD_TABLE,
-            Location(0),
-            tokens,
-            names,
-            functions,
-            items,
-            arguments,
-            blocks,
-            predecessors,
-            message,
-        );
+        return refuse_all(numbers::BAD_TABLE, Location(0), message);
     }
     let line = cell_at(table, columns::LINE + number as usize * columns::ROW);
-    let r = lexer::read_from(new, line, tokens, names, message);
-    clear::clear_five(functions, items, arguments, blocks, predecessors);
+    let r = lexer::read_into(new, line, tokens, names, message);
     if r.number == numbers::ACCEPTED {
         return recheck_lexed(
             old,
@@ -278,7 +211,7 @@ pub fn recheck<'t>(
         predecessors.len(),
     );
     if checker::fits(message.len(), tokens.len(), names.len(), unit) {
-        return recheck_sized(
+        let r = recheck_into(
             old,
             table,
             number,
@@ -292,6 +225,18 @@ pub fn recheck<'t>(
             predecessors,
             message,
         );
+        checker::finish(
+            r,
+            tokens,
+            names,
+            functions,
+            items,
+            arguments,
+            blocks,
+            predecessors,
+            message,
+        );
+        return r;
     }
     checker::refused(numbers::SHORT_BUFFER, Location(0), 0)
 }

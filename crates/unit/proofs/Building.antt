@@ -1,24 +1,27 @@
 -- From the slices that `parse` leaves to those that the whole unit leaves.
-use Prim.Native.Nat.{ℕ, _+_, _*_, _-_, _≤_}
+use Prim.Native.Nat.{ℕ, _+_, _*_, _≤_}
 use mathlib.Core.Path.{_≡_, refl, sym, ap, subst, _∙_}
 use mathlib.Core.List.{List, [], _∷_, _++_}
 use native.Mathlib.Omega.{arith}
-use lib.ListN.{length, drop, replicate, length-append, length-replicate}
-use Rattle.utils.specs.Bytes.{padTo}
+use lib.ListN.{length, drop, length-append}
+use lib.Seq.{take-at}
+use Rattle.utils.specs.Bytes.{over}
+use Rattle.utils.proofs.Runs.{length-over}
 use Rattle.lexer.specs.Decoded.{Tok}
 use Rattle.parser.specs.Step.{thenAt}
 use Rattle.parser.specs.declared.Refusal.{Refusal}
 use Rattle.parser.specs.declared.Consumed.{Consumed}
 use Rattle.parser.specs.declared.Consumed.the-variants as C
 use Rattle.functions.specs.Functions.{Function, programD}
-use Rattle.functions.specs.Answer.{Slices, slices, Long, countsWith, countsFrom, programRead, storedFrom, withCount}
+use Rattle.functions.specs.Columns.{rowAt}
+use Rattle.functions.specs.Answer.{Slices, slices, Long, countsWith, countsFrom, programRead}
 use Rattle.functions.specs.Answer.{Held}
 use Rattle.functions.specs.Laid.{rowsCells, untypedItems, untypedArguments, allBlocks, allPredecessors, FitsFrom}
 use Rattle.functions.specs.Laid.{AllFit}
 use Rattle.functions.specs.declared.Counts.{Counts}
 use Rattle.functions.specs.declared.ProgramRead.the-variants as U
 use Rattle.functions.proofs.Laid.{functions-counted, length-items, length-arguments, Inside, inside-from, none-inside}
-use Rattle.functions.proofs.Laid.{stored-laid}
+use Rattle.functions.proofs.Laid.{stored-laid, length-rows, length-all-blocks, length-predecessors}
 use Rattle.functions.proofs.Laid.{LaidFits, laid-fits}
 use Rattle.functions.proofs.Standing.{types-stored, items-stored}
 use Rattle.parser.specs.Runs.{typeCell}
@@ -31,8 +34,8 @@ use Rattle.sema.proofs.Rows.{globals-stored}
 use Rattle.elaborate.specs.Types.{calleeIn, typedItemsCells, typedArgumentsCells}
 use Rattle.elaborate.proofs.Lists.{length-typed-items, length-typed-arguments}
 use Rattle.elaborate.proofs.Rows.{callees-stored}
-use Rattle.unit.specs.Outcome.{untyped, checked, refused, unitD, unitRead, unitSlices, none}
-use Rattle.unit.specs.Outcome.{asLong, cleared}
+use Rattle.unit.specs.Outcome.{untyped, checked, refused, unitD, unitRead, unitSlices, slicesOf, none}
+use Rattle.unit.specs.Outcome.{fronts}
 use Rattle.unit.specs.Outcome.{tablesOf, allItems, allArguments, UnitHeld, Counted}
 use Rattle.unit.specs.Rows.{Done, typedRows, RowsFit, HeldBy, RowsHeld}
 use Rattle.unit.proofs.Typed.{Same, all-typed}
@@ -69,35 +72,32 @@ length-typed ts all (f ∷ fs) n =
       length-typed ts all fs (countsWith n f),
     )
 
-length-padTo : (n : ℕ) (l : List ℕ) → length l ≤ n → length (padTo n l) ≡ n
-length-padTo n l h =
-    omega (arith, length-append l (replicate (n - length l) 0), length-replicate {A = ℕ} (n - length l) 0)
-
 same-slices : {f i a b p f′ i′ a′ b′ p′ : List ℕ} → f ≡ f′ → i ≡ i′ → a ≡ a′ → b ≡ b′ → p ≡ p′
     → slices f i a b p ≡ slices f′ i′ a′ b′ p′
 same-slices e₁ e₂ e₃ e₄ e₅ = rw (e₁, e₂, e₃, e₄, e₅)
 
 -- The functions that were parsed. -----------------------------------------------------------------------------------
 
-module _ (ts : List Tok) (names : List ℕ) (fs : List Function) (fits : FitsFrom none fs) (F I A B P : ℕ)
-    (long-f : 2881 ≤ F) (long-i : 24576 ≤ I) (long-a : 6928 ≤ A) (long-b : 8192 ≤ B) (long-p : 2048 ≤ P) where
+module _ (ts : List Tok) (names : List ℕ) (fs : List Function) (fits : FitsFrom none fs) (F I A B P : List ℕ)
+    (long-f : 2881 ≤ length F) (long-i : 24576 ≤ length I) (long-a : 6928 ≤ length A) (long-b : 8192 ≤ length B)
+    (long-p : 2048 ≤ length P) where
   abbrev rows : List ℕ
-  rows = padTo F (length fs ∷ rowsCells ts names none fs)
+  rows = over F (length fs ∷ rowsCells ts names none fs)
 
   abbrev items : List ℕ
-  items = padTo I (untypedItems none fs)
+  items = over I (untypedItems none fs)
 
   abbrev args : List ℕ
-  args = padTo A (untypedArguments fs)
+  args = over A (untypedArguments fs)
 
   abbrev blocks : List ℕ
-  blocks = padTo B (allBlocks none fs)
+  blocks = over B (allBlocks none fs)
 
   inside : Inside (countsFrom none fs)
   inside = inside-from none fs none-inside fits
 
   abbrev zr : List ℕ
-  zr = replicate (F - length (length fs ∷ rowsCells ts names none fs)) 0
+  zr = drop (length (length fs ∷ rowsCells ts names none fs)) F
 
   rows-stand : drop 1 rows ≡ rowsCells ts names none fs ++ zr
   rows-stand = refl
@@ -116,21 +116,21 @@ module _ (ts : List Tok) (names : List ℕ) (fs : List Function) (fits : FitsFro
             omega (
               arith,
               items-stored ts names rows zr fs fits rows-stand i (omega (arith, h)),
-              length-padTo I (untypedItems none fs) (omega (arith, laid .items-fit)),
+              length-over I (untypedItems none fs) (omega (arith, laid .items-fit)),
             );
       }
 
   typing : Same ts names rows fs (length fs) blocks untyped
       (λ name. globals-stored ts names rows zr name fs fits rows-stand)
       (λ name. callees-stored ts names rows zr name fs fits rows-stand) refl fs none [] []
-      (replicate (I - length (untypedItems none fs)) 0) (replicate (A - length (untypedArguments fs)) 0)
+      (drop (length (untypedItems none fs)) I) (drop (length (untypedArguments fs)) A)
       (typedRows ts rows (length fs) blocks untyped 0 (length fs) items args)
   typing =
       all-typed ts names rows fs (length fs) blocks untyped
       (λ name. globals-stored ts names rows zr name fs fits rows-stand)
       (λ name. callees-stored ts names rows zr name fs fits rows-stand) refl fs none fits [] []
-      (replicate (I - length (untypedItems none fs)) 0) (replicate (A - length (untypedArguments fs)) 0) zr
-      (replicate (B - length (allBlocks none fs)) 0) rows-stand refl refl refl
+      (drop (length (untypedItems none fs)) I) (drop (length (untypedArguments fs)) A) zr
+      (drop (length (allBlocks none fs)) B) rows-stand refl refl refl
 
   pub ends-as : typedRows ts rows (length fs) blocks untyped 0 (length fs) items args .end ≡ typedD ts fs fs
       untyped .end
@@ -140,13 +140,13 @@ module _ (ts : List Tok) (names : List ℕ) (fs : List Function) (fits : FitsFro
   d = typedRows ts rows (length fs) blocks untyped 0 (length fs) items args
 
   pub typed-slices : d .end ≡ K.Fine
-      → slices rows (d .items) (d .arguments) blocks (padTo P (allPredecessors fs))
+      → slices rows (d .items) (d .arguments) blocks (over P (allPredecessors fs))
       ≡ slices
-      (padTo F (length fs ∷ rowsCells ts names none fs))
-      (padTo I (allItems (calleeIn fs) none fs (tablesOf ts fs fs)))
-      (padTo A (allArguments fs (tablesOf ts fs fs)))
-      (padTo B (allBlocks none fs))
-      (padTo P (allPredecessors fs))
+      (over F (length fs ∷ rowsCells ts names none fs))
+      (over I (allItems (calleeIn fs) none fs (tablesOf ts fs fs)))
+      (over A (allArguments fs (tablesOf ts fs fs)))
+      (over B (allBlocks none fs))
+      (over P (allPredecessors fs))
   typed-slices e =
       let i : length (untypedItems none fs) ≡ length (allItems (calleeIn fs) none fs (tablesOf ts fs fs)) =
       omega (arith, length-items none fs, length-tables ts fs fs (calleeIn fs) none) in
@@ -154,10 +154,33 @@ module _ (ts : List Tok) (names : List ℕ) (fs : List Function) (fits : FitsFro
       omega (arith, length-arguments none fs, length-typed ts fs fs none) in
       same-slices refl
       (typing .items-are e
-      ∙ ap (λ (k : ℕ). allItems (calleeIn fs) none fs (tablesOf ts fs fs) ++ replicate (I - k) 0) i)
+      ∙ ap (λ (k : ℕ). allItems (calleeIn fs) none fs (tablesOf ts fs fs) ++ drop k I) i)
       (typing .arguments-are e
-      ∙ ap (λ (k : ℕ). allArguments fs (tablesOf ts fs fs) ++ replicate (A - k) 0) a)
+      ∙ ap (λ (k : ℕ). allArguments fs (tablesOf ts fs fs) ++ drop k A) a)
       refl refl
+
+-- what stands over the slices stands in front of them; `tables` are those of typed functions
+pub front-slices : (ts : List Tok) (names : List ℕ) (fs : List Function) → FitsFrom none fs
+    → (callees : ℕ → ℕ) (tables : List (List ℕ)) (F I A B P : List ℕ)
+    → length (allItems callees none fs tables) ≡ length (untypedItems none fs)
+    → length (allArguments fs tables) ≡ length (untypedArguments fs)
+    → fronts (countsFrom none fs)
+    (slices
+    (over F (length fs ∷ rowsCells ts names none fs))
+    (over I (allItems callees none fs tables))
+    (over A (allArguments fs tables))
+    (over B (allBlocks none fs))
+    (over P (allPredecessors fs)))
+    ≡ slicesOf ts names callees fs tables
+front-slices ts names fs fits callees tables F I A B P items-are arguments-are =
+    let n = countsFrom none fs in
+    same-slices
+    (take-at (length fs ∷ rowsCells ts names none fs) _ (rowAt (n .functions))
+    (omega (arith, length-rows ts names none fs fits, functions-counted none fs)))
+    (take-at (allItems callees none fs tables) _ (n .items * 8) (omega (arith, length-items none fs, items-are)))
+    (take-at (allArguments fs tables) _ (n .arguments * 2) (omega (arith, length-arguments none fs, arguments-are)))
+    (take-at (allBlocks none fs) _ (n .blocks * 8) (omega (arith, length-all-blocks none fs)))
+    (take-at (allPredecessors fs) _ (n .predecessors) (omega (arith, length-predecessors none fs)))
 
 -- What the function that calls both knows. --------------------------------------------------------------------------
 
@@ -182,14 +205,14 @@ module _ (ts : List Tok) (names f i a b p : List ℕ) where
   s₀ = slices f i a b p
 
   pub refused-whole : {e : Refusal} → unitD ts ≡ refused e → (s : Slices)
-      → (U.Refused e ≡ unitRead (unitD ts)) × (UnitHeld ts names s₀ s (unitD ts) × Counted (U.Refused e))
+      → (U.Refused e ≡ unitRead (unitD ts)) × (UnitHeld ts names s (unitD ts) × Counted (U.Refused e))
   refused-whole h s = rw h (refl, (tt, tt))
 
   pub parse-refuses : (e : Refusal) → U.Refused e ≡ programRead (programD ts) → unitD ts ≡ refused e
   unfolding unitD programRead
   parse-refuses e h = rw (refused-at (programD ts .end) (countsFrom none fs) e h)
 
-  module _ (rows-long : 2881 ≤ length f) (long : Long i a b p) (zero-now : s₀ ≡ cleared s₀)
+  module _ (rows-long : 2881 ≤ length f) (long : Long i a b p)
       (fits : AllFit (programD ts))
       (n : Counts) (parsed : U.Done n ≡ programRead (programD ts)) (f₁ i₁ a₁ b₁ p₁ : List ℕ)
       (held : Held ts names fs s₀ (slices f₁ i₁ a₁ b₁ p₁) (programD ts .end)) where
@@ -202,39 +225,38 @@ module _ (ts : List Tok) (names f i a b p : List ℕ) where
 
     laid-are : slices f₁ i₁ a₁ b₁ p₁
         ≡ slices
-        (padTo (length f) (length fs ∷ rowsCells ts names none fs))
-        (padTo (length i) (untypedItems none fs))
-        (padTo (length a) (untypedArguments fs))
-        (padTo (length b) (allBlocks none fs))
-        (padTo (length p) (allPredecessors fs))
+        (over f (length fs ∷ rowsCells ts names none fs))
+        (over i (untypedItems none fs))
+        (over a (untypedArguments fs))
+        (over b (allBlocks none fs))
+        (over p (allPredecessors fs))
     laid-are =
         subst (λ (e : Consumed). Held ts names fs s₀ (slices f₁ i₁ a₁ b₁ p₁) e) (at-end .0 .1) held
-        ∙ ap (λ (s : Slices). withCount (length fs) (storedFrom ts names none s fs)) zero-now
-        ∙ stored-laid ts names (length f) (length i) (length a) (length b) (length p) rows-long (long .items-long)
+        ∙ stored-laid ts names f i a b p rows-long (long .items-long)
         (long .arguments-long) (long .blocks-long) (long .predecessors-long) fs fits
 
-    f-is : f₁ ≡ padTo (length f) (length fs ∷ rowsCells ts names none fs)
+    f-is : f₁ ≡ over f (length fs ∷ rowsCells ts names none fs)
     f-is = ap (λ (s : Slices). s .functions) laid-are
 
-    i-is : i₁ ≡ padTo (length i) (untypedItems none fs)
+    i-is : i₁ ≡ over i (untypedItems none fs)
     i-is = ap (λ (s : Slices). s .items) laid-are
 
-    a-is : a₁ ≡ padTo (length a) (untypedArguments fs)
+    a-is : a₁ ≡ over a (untypedArguments fs)
     a-is = ap (λ (s : Slices). s .arguments) laid-are
 
-    b-is : b₁ ≡ padTo (length b) (allBlocks none fs)
+    b-is : b₁ ≡ over b (allBlocks none fs)
     b-is = ap (λ (s : Slices). s .blocks) laid-are
 
-    p-is : p₁ ≡ padTo (length p) (allPredecessors fs)
+    p-is : p₁ ≡ over p (allPredecessors fs)
     p-is = ap (λ (s : Slices). s .predecessors) laid-are
 
     abbrev I : ℕ
     I = length i
 
-    ready-now : RowsFit (padTo (length f) (length fs ∷ rowsCells ts names none fs)) (length fs) 0 (length fs)
-        (length (padTo (length i) (untypedItems none fs)))
+    ready-now : RowsFit (over f (length fs ∷ rowsCells ts names none fs)) (length fs) 0 (length fs)
+        (length (over i (untypedItems none fs)))
     ready-now =
-        ready ts names fs fits (length f) (length i) (length a) (length b) (length p) rows-long (long .items-long)
+        ready ts names fs fits f i a b p rows-long (long .items-long)
         (long .arguments-long) (long .blocks-long) (long .predecessors-long)
 
     pub few : n .functions ≤ 64
@@ -242,7 +264,7 @@ module _ (ts : List Tok) (names f i a b p : List ℕ) where
         omega (
           arith,
           n-is,
-          functions-few ts names fs fits (length f) (length i) (length a) (length b) (length p) rows-long
+          functions-few ts names fs fits f i a b p rows-long
               (long .items-long)
               (long .arguments-long) (long .blocks-long) (long .predecessors-long),
         )
@@ -255,9 +277,9 @@ module _ (ts : List Tok) (names f i a b p : List ℕ) where
 
     abbrev laid-done : Done
     laid-done =
-        typedRows ts (padTo (length f) (length fs ∷ rowsCells ts names none fs)) (length fs)
-        (padTo (length b) (allBlocks none fs))
-        untyped 0 (length fs) (padTo (length i) (untypedItems none fs)) (padTo (length a) (untypedArguments fs))
+        typedRows ts (over f (length fs ∷ rowsCells ts names none fs)) (length fs)
+        (over b (allBlocks none fs))
+        untyped 0 (length fs) (over i (untypedItems none fs)) (over a (untypedArguments fs))
 
     done-is : done ≡ laid-done
     done-is = rw (f-is, n-is, b-is, i-is, a-is)
@@ -265,7 +287,7 @@ module _ (ts : List Tok) (names f i a b p : List ℕ) where
     ends-is : done .end ≡ typedD ts fs fs untyped .end
     ends-is =
         ap (λ (d : Done). d .end) done-is
-        ∙ ends-as ts names fs fits (length f) (length i) (length a) (length b) (length p) rows-long (long .items-long)
+        ∙ ends-as ts names fs fits f i a b p rows-long (long .items-long)
         (long .arguments-long) (long .blocks-long) (long .predecessors-long)
 
     module _ (r : Checked) (i₂ a₂ : List ℕ) (typed : RowsHeld r i₂ a₂ done) where
@@ -281,46 +303,24 @@ module _ (ts : List Tok) (names f i a b p : List ℕ) where
           let q : typedD ts fs fs untyped .end ≡ K.Fine = sym ends-is ∙ sym (typed .answer) ∙ h in
           rw (at-end .0 .1, q)
 
-      written : r ≡ K.Fine → slices f₁ i₂ a₂ b₁ p₁ ≡ asLong s₀ (unitSlices ts names (checked fs))
+      written : r ≡ K.Fine → fronts (countsFrom none fs) (slices f₁ i₂ a₂ b₁ p₁) ≡ unitSlices ts names (checked fs)
       written h =
           let k = subst (λ (x : Checked). HeldBy x i₂ a₂ done) h (typed .held) in
           let z : laid-done .end ≡ K.Fine = ap (λ (d : Done). d .end) (sym done-is) ∙ sym (typed .answer) ∙ h in
-          same-slices f-is (k .0 ∙ ap (λ (d : Done). d .items) done-is) (k .1 ∙ ap (λ (d : Done). d .arguments)
+          ap (fronts (countsFrom none fs))
+          (same-slices f-is (k .0 ∙ ap (λ (d : Done). d .items) done-is) (k .1 ∙ ap (λ (d : Done). d .arguments)
           done-is) b-is p-is
-          ∙ typed-slices ts names fs fits (length f) (length i) (length a) (length b) (length p) rows-long
-          (long .items-long)
-          (long .arguments-long) (long .blocks-long) (long .predecessors-long) z
+          ∙ typed-slices ts names fs fits f i a b p rows-long (long .items-long) (long .arguments-long)
+          (long .blocks-long) (long .predecessors-long) z)
+          ∙ front-slices ts names fs fits (calleeIn fs) (tablesOf ts fs fs) f i a b p
+          (omega (arith, length-items none fs, length-tables ts fs fs (calleeIn fs) none))
+          (omega (arith, length-arguments none fs, length-typed ts fs fs none))
 
       pub fine-whole : r ≡ K.Fine
-          → (U.Done n ≡ unitRead (unitD ts)) × (UnitHeld ts names s₀ (slices f₁ i₂ a₂ b₁ p₁) (unitD ts) × Counted
+          → (U.Done n ≡ unitRead (unitD ts)) × (UnitHeld ts names (slices f₁ i₂ a₂ b₁ p₁) (unitD ts) × Counted
           (U.Done n))
       fine-whole h =
           let v = inside-from none fs none-inside fits in
           let u = types-fine h in
           rw (u, at-end .1)
           (refl, (written h, (v .functions-few, v .items-few, v .arguments-few, v .blocks-few, v .predecessors-few)))
-
--- Slices that are cleared before. -----------------------------------------------------------------------------------
-
--- slices as long as others
-pub same-long : (s₁ s : Slices) → length (s₁ .functions) ≡ length (s .functions)
-    → length (s₁ .items) ≡ length (s .items) → length (s₁ .arguments) ≡ length (s .arguments)
-    → length (s₁ .blocks) ≡ length (s .blocks) → length (s₁ .predecessors) ≡ length (s .predecessors)
-    → (x : Slices) → asLong s₁ x ≡ asLong s x
-same-long s₁ s k₁ k₂ k₃ k₄ k₅ x = rw (k₁, k₂, k₃, k₄, k₅)
-
--- what is padded to cleared slices is padded to those before
-pub as-cleared : (s₀ s₁ : Slices) → s₁ ≡ cleared s₀ → (x : Slices) → asLong s₁ x ≡ asLong s₀ x
-as-cleared s₀ s₁ clear-is x =
-    ap (λ (s : Slices). asLong s x) clear-is
-    ∙ rw (
-      length-padTo (length (s₀ .functions)) [] (omega arith),
-      length-padTo (length (s₀ .items)) [] (omega arith),
-      length-padTo (length (s₀ .arguments)) [] (omega arith),
-      length-padTo (length (s₀ .blocks)) [] (omega arith),
-      length-padTo (length (s₀ .predecessors)) [] (omega arith),
-    )
-
--- cleared slices are clear
-pub zero-now : (s₀ s₁ : Slices) → s₁ ≡ cleared s₀ → s₁ ≡ cleared s₁
-zero-now s₀ s₁ clear-is = clear-is ∙ sym (as-cleared s₀ s₁ clear-is (slices [] [] [] [] []))

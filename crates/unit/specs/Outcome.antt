@@ -1,9 +1,9 @@
 -- The functions of a text, parsed and typed, and what the five slices hold then.
 -- "all parsing (with labels and edges of each function) before all typing"
-use Prim.Native.Nat.{ℕ, _≤_}
+use Prim.Native.Nat.{ℕ, _*_, _≤_}
 use mathlib.Core.Path.{_≡_}
 use mathlib.Core.List.{List, [], _∷_, _++_}
-use lib.ListN.{length}
+use lib.ListN.{length, take}
 use Rattle.utils.specs.Bytes.{padTo}
 use Rattle.lexer.specs.Decoded.{Tok}
 use Rattle.utils.specs.Limits.{mostNames, mostFunctions}
@@ -11,6 +11,9 @@ use Rattle.parser.specs.declared.Refusal.{Refusal}
 use Rattle.parser.specs.declared.Consumed.{Consumed}
 use Rattle.parser.specs.declared.Consumed.the-variants as C
 use Rattle.functions.specs.Functions.{Function, programD}
+use Rattle.body.specs.Room.{itemWidth}
+use Rattle.link.specs.Steps.{blockWidth}
+use Rattle.functions.specs.Columns.{rowAt}
 use Rattle.functions.specs.Answer.{Slices, slices, counts, countsWith, countsFrom}
 use Rattle.functions.specs.Laid.{rowsCells, allBlocks, allPredecessors}
 use Rattle.functions.specs.declared.Counts.{Counts}
@@ -89,8 +92,15 @@ asLong s₀ s =
     (padTo (length (s₀ .blocks)) (s .blocks))
     (padTo (length (s₀ .predecessors)) (s .predecessors))
 
-abbrev pub cleared : Slices → Slices
-cleared s₀ = asLong s₀ (slices [] [] [] [] [])
+-- the first cells of each slice, those of so many records
+abbrev pub fronts : Counts → Slices → Slices
+fronts n s =
+    slices
+    (take (rowAt (n .functions)) (s .functions))
+    (take (n .items * itemWidth) (s .items))
+    (take (n .arguments * 2) (s .arguments))
+    (take (n .blocks * blockWidth) (s .blocks))
+    (take (n .predecessors) (s .predecessors))
 
 -- how much of each slice is used, or the refusal
 abbrev pub unitRead : UnitOutcome → ProgramRead
@@ -104,7 +114,7 @@ Counted (U.Done n) =
     × (n .predecessors ≤ 2048)
 Counted (U.Refused e) = Unit
 
--- Before a refusal's slices are cleared nothing is said of them.
-abbrev pub UnitHeld : List Tok → List ℕ → Slices → Slices → UnitOutcome → Type 0
-UnitHeld ts names s₀ s (checked fs) = s ≡ asLong s₀ (unitSlices ts names (checked fs))
-UnitHeld ts names s₀ s (refused e) = Unit
+-- The records stand in front; of what stands behind nothing is said, and nothing of a refusal's slices.
+abbrev pub UnitHeld : List Tok → List ℕ → Slices → UnitOutcome → Type 0
+UnitHeld ts names s (checked fs) = fronts (countsFrom none fs) s ≡ unitSlices ts names (checked fs)
+UnitHeld ts names s (refused e) = Unit

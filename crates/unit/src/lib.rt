@@ -1,5 +1,4 @@
 // A text's functions, parsed and typed: Unit of bril-lib/src/ir.rs, once Sema of parser.rs has passed it.
-pub mod clear;
 pub mod types;
 
 ghost use mathlib.Core.Path.{_≡_};
@@ -9,12 +8,12 @@ ghost use Rattle.lexer.specs.Decoded.{tokensOf};
 ghost use Rattle.body.specs.Room.{Within};
 ghost use Rattle.functions.specs.Answer.{Long, slices};
 ghost use Rattle.functions.specs.Columns.{tableSize};
-ghost use Rattle.unit.specs.Outcome.{cleared, unitD, unitRead, Counted, UnitHeld};
+ghost use Rattle.unit.specs.Outcome.{unitD, unitRead, Counted, UnitHeld};
 use functions::ProgramRead;
 use sema::Checked;
 
-// The functions of a text: parsed into cleared slices, then typed. A refusal says nothing of the slices, which the
-// caller clears.
+// The functions of a text: parsed into the front of the slices, then typed. The caller clears what stands behind, and
+// after a refusal all.
 pub fn unit(
     tokens: &[u32],
     names: &[u32],
@@ -25,13 +24,9 @@ pub fn unit(
     predecessors: &mut [u32],
 ) -> ProgramRead
     requires { ⌜ Within (tokensOf (now tokens)) 0 × (tableSize ≤ length (now functions))
-        × Long (now items) (now arguments) (now blocks) (now predecessors)
-        × (slices (now functions) (now items) (now arguments) (now blocks) (now predecessors)
-        ≡ cleared (slices (now functions) (now items) (now arguments) (now blocks) (now predecessors))) ⌝ }
+        × Long (now items) (now arguments) (now blocks) (now predecessors) ⌝ }
     ensures { λ r. ⌜ r ≡ unitRead (unitD (tokensOf (now (tokens .entry)))) ⌝ }
     ensures { λ _. ⌜ UnitHeld (tokensOf (now (tokens .entry))) (now (names .entry))
-        (slices (now (functions .entry)) (now (items .entry)) (now (arguments .entry)) (now (blocks .entry))
-        (now (predecessors .entry)))
         (slices (now (functions .exit)) (now (items .exit)) (now (arguments .exit)) (now (blocks .exit))
         (now (predecessors .exit)))
         (unitD (tokensOf (now (tokens .entry)))) ⌝ }

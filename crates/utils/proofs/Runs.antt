@@ -1,15 +1,15 @@
 -- Runs of stores, one after the other.
 use Prim.Native.Nat.{ℕ, zero, suc, _+_, _-_, _≤_, _<_, _/_, _%_}
 use mathlib.Core.List.{List, [], _∷_, _++_, append-nil}
-use mathlib.Core.Path.{_≡_, refl, ap, _∙_}
+use mathlib.Core.Path.{_≡_, refl, sym, ap, _∙_}
 use native.Mathlib.Omega.{arith}
 use native.Mathlib.Nat.{add-zero, zero-add, add-sub-of-le, sub-zero, zero-sub, suc-sub-suc}
 use native.Mathlib.Numerals.{add-one}
-use lib.ListN.{length, set, getD, drop, length-append, replicate, length-replicate, replicate-append-replicate}
-use lib.Seq.{sets, drop-cons, sets-eq, drop-at, drop-length, take-append-seam, drop-append-add}
+use lib.ListN.{length, set, getD, take, drop, length-append, length-take, length-drop, replicate, length-replicate, replicate-append-replicate}
+use lib.Seq.{sets, drop-cons, sets-eq, drop-at, drop-drop, drop-length, take-all, take-append-seam, drop-append-add}
 use borrow.Author.Tests.{lt-ltb, le-ltb}
 use Rattle.utils.specs.Message.{digits}
-use Rattle.utils.specs.Bytes.{pick, padTo}
+use Rattle.utils.specs.Bytes.{pick, padTo, over}
 
 pub sets-append : (xs ys l : List ℕ) (i : ℕ) → sets l i (xs ++ ys) ≡ sets (sets l i xs) (i + length xs) ys
 sets-append [] ys l i = rw add-zero
@@ -84,3 +84,42 @@ sets-pad n i l vs e h =
       length-append,
       q,
     ))
+
+-- a run of stores behind a list that stands over another makes it longer
+pub sets-over : (s l vs : List ℕ) (i : ℕ) → length l ≡ i → i + length vs ≤ length s
+    → sets (over s l) i vs ≡ over s (l ++ vs)
+sets-over s l vs i e h =
+    let long : length l + length vs ≤ length (over s l) = simp (length-append, length-drop) (omega arith) in
+    rw (← e) (sets-eq vs (over s l) (length l) long ∙ rw (
+      take-append-seam,
+      drop-append-add,
+      drop-drop,
+      length-append,
+    ))
+
+pub length-over : (s l : List ℕ) → length l ≤ length s → length (over s l) ≡ length s
+length-over s l h = simp (length-append, length-drop) (omega arith)
+
+-- one more zero
+pub zeroed-more : (cells : List ℕ) (n i : ℕ) → i < n
+    → sets cells i (replicate (n - i) 0) ≡ sets (set cells i 0) (i + 1) (replicate (n - (i + 1)) 0)
+zeroed-more cells n i h =
+    let e : n - i ≡ suc (n - suc i) = omega arith in
+    rw (add-one, e)
+
+-- zeros to the end leave what stands before them
+pub zeroed-rest : (s : List ℕ) (i : ℕ) → i ≤ length s
+    → sets s i (replicate (length s - i) 0) ≡ padTo (length s) (take i s)
+zeroed-rest s i h =
+    let z : List ℕ = replicate (length s - i) 0 in
+    let long : length z ≡ length s - i = length-replicate {A = ℕ} (length s - i) 0 in
+    let end : i + length z ≡ length s = omega (arith, long) in
+    let taken : length (take i s) ≡ i = simp length-take (omega arith) in
+    sets-eq z s i (omega (arith, end)) ∙ rw (end, drop-length s, append-nil, taken)
+
+-- behind the end nothing is zeroed
+pub none-behind : (s : List ℕ) (i : ℕ) → length s ≤ i → s ≡ padTo (length s) (take i s)
+none-behind s i h =
+    let all : take i s ≡ s = take-all i s h in
+    let e : length s - length s ≡ 0 = omega arith in
+    sym (rw (all, e) (append-nil s))

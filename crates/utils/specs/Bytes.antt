@@ -6,7 +6,7 @@ use Prim.Native.String as Str
 use mathlib.Core.List.{List, [], _∷_, _++_}
 use mathlib.Core.Bool.{Bool, true, false}
 use lib.Dec.{eqb}
-use lib.ListN.{length, replicate}
+use lib.ListN.{length, drop, replicate}
 
 -- one of two, by a test
 unfoldable pub pick : {A : Type 0} → Bool → A → A → A
@@ -21,6 +21,10 @@ bytes (Str._∷_ c s) = code c ∷ bytes s
 -- a list, and zeros after it up to a length
 abbrev pub padTo : ℕ → List ℕ → List ℕ
 padTo n l = l ++ replicate (n - length l) 0
+
+-- a list over the front of another: what it doesn't reach stays
+abbrev pub over : List ℕ → List ℕ → List ℕ
+over s l = l ++ drop (length l) s
 
 -- whether two lists of bytes are the same
 unfoldable pub sameBytes : List ℕ → List ℕ → Bool

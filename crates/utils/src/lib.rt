@@ -5,20 +5,37 @@ pub mod numbers;
 ghost use mathlib.Core.Path.{_≡_};
 ghost use Prim.Native.Nat.{_+_, _-_, _<_, _≤_};
 ghost use mathlib.Core.List.{[]};
-ghost use lib.ListN.{length, getD};
+ghost use lib.ListN.{length, getD, take, replicate};
 ghost use lib.Seq.{sets};
 ghost use Rattle.utils.specs.Bytes.{padTo};
 ghost use Rattle.utils.specs.Message.{digits, decimal, reported};
+
+// Zero from a place to another.
+pub fn clear_part(cells: &mut [u32], from: usize, to: usize)
+    requires { ⌜ (from ≤ to) × (to ≤ length (now cells)) ⌝ }
+    ensures { λ _. ⌜ now (cells .exit) ≡ sets (now (cells .entry)) from (replicate (to - from) 0) ⌝ }
+{
+    let mut i = from;
+    while i < to {
+        cells[i] = 0;
+        i += 1;
+    }
+}
+
+// Zero from a place on.
+pub fn clear_from(cells: &mut [u32], from: usize)
+    ensures { λ _. ⌜ now (cells .exit) ≡ padTo (length (now (cells .entry))) (take from (now (cells .entry))) ⌝ }
+{
+    if from < cells.len() {
+        clear_part(cells, from, cells.len());
+    }
+}
 
 // All zero.
 pub fn clear(cells: &mut [u32])
     ensures { λ r. ⌜ now (cells .exit) ≡ padTo (length (now (cells .entry))) [] ⌝ }
 {
-    let mut i = 0;
-    while i < cells.len() {
-        cells[i] = 0;
-        i += 1;
-    }
+    clear_from(cells, 0);
 }
 
 // All zero.

@@ -1,4 +1,4 @@
--- The message and the answer are those of the parts lent, which are the cells in use; then every slice is cleared.
+-- The message and the answer are those of the parts lent, which are the cells in use.
 use native.Mathlib.Omega.{arith}
 use Prim.Native.Nat.{_*_}
 use mathlib.Core.Path.{sym, subst}
@@ -6,31 +6,10 @@ use lib.ListN.{take}
 use denote.Ref.{now}
 use borrow.Author.Needs.{needs}
 use Rattle.messages.specs.Messages.{ShortNames}
-use Rattle.functions.specs.Answer.{slices}
 use Rattle.checker.proofs.Ends.{refuses-by-cells}
 use Rattle.checker.proofs.Lexed.{from-start}
 use Rattle.checker.proofs.refuse.Statement.{statement}
 use Rattle.checker.proofs.refuse.Tie as tie
-
--- From the end back to each call, and to the start.
-
-abbrev to-clear-five : tie.After-refused → tie.After-clear-five
-to-clear-five c = search
-
-abbrev to-clear2 : tie.After-clear-five → tie.After-clear2
-to-clear2 c = search
-
-abbrev to-clear : tie.After-clear2 → tie.After-clear
-to-clear c = search
-
-abbrev to-token-at : tie.After-clear → tie.After-token-at
-to-token-at c = search
-
-abbrev to-put-message : tie.After-token-at → tie.After-put-message
-to-put-message c = search
-
-abbrev to-start : tie.After-put-message → tie.Start
-to-start c = search
 
 part-put-message-end : tie.Need-part-put-message-end
 part-put-message-end c =
@@ -54,25 +33,24 @@ part-token-at-end c =
     let s : tie.Start = search in
     omega (arith, s .pre .0)
 
-message-kept : tie.Need-same-length-8
-message-kept c =
-    let put = to-put-message (to-token-at (to-clear (to-clear2 (to-clear-five c)))) in
-    put .put-message .kept .1 .1 .1 .1 .0
+abbrev to-token-at : tie.After-refused → tie.After-token-at
+to-token-at c = search
+
+abbrev to-put-message : tie.After-token-at → tie.After-put-message
+to-put-message c = search
+
+abbrev to-start : tie.After-put-message → tie.Start
+to-start c = search
 
 returns : tie.Need-returns
 returns c =
-    let five = to-clear-five c in
-    let two = to-clear2 five in
-    let one = to-clear two in
-    let told = to-token-at one in
+    let told = to-token-at c in
     let put = to-put-message told in
     let a = to-start put .args in
-    refuses-by-cells (now (a .text)) (now (a .message)) (now (a .tokens)) (now (a .names))
-    (slices (now (a .functions)) (now (a .items)) (now (a .arguments)) (now (a .blocks)) (now (a .predecessors)))
-    (a .e) _ _ (take (a .r .tokens * 4) (now (a .tokens))) (take (a .r .names * 2) (now (a .names)))
-    (from-start (a .r .tokens * 4) (now (a .tokens))) (from-start (a .r .names * 2) (now (a .names)))
-    (told .token-at .result) (told .token-at .ensures) _ _ _ _ _ (c .refused .ensures)
-    (put .put-message .ensures) (one .clear .ensures) (two .clear2 .ensures) (five .clear-five .ensures)
+    refuses-by-cells (now (a .text)) (now (a .message)) (a .e) _ _ (take (a .r .tokens * 4) (now (a .tokens)))
+    (take (a .r .names * 2) (now (a .names))) (from-start (a .r .tokens * 4) (now (a .tokens)))
+    (from-start (a .r .names * 2) (now (a .names))) (told .token-at .result) (told .token-at .ensures) _ _
+    (c .refused .ensures) (put .put-message .ensures)
 
 pub refuse-spec : {M : Type 1} → statement M
 refuse-spec =
@@ -80,6 +58,4 @@ refuse-spec =
     (tie.spec (λ c. search needs) (λ c. search needs) (λ c. search needs) (λ c. search needs) (λ c. search needs)
     (λ c. search needs) part-put-message-end (λ c. search needs) (λ c. search needs) part-put-message-end-2
     put-message-requires (λ c. search needs) (λ c. search needs) part-token-at-end (λ c κs. search needs)
-    (λ c κs. search needs) (λ c κs. search needs) (λ c κs. search needs) (λ c κs. search needs) (λ c. search needs)
-    (λ c. search needs) (λ c. search needs) (λ c. search needs) (λ c. search needs) (λ c. search needs)
-    (λ c. search needs) message-kept returns)
+    (λ c κs. search needs) (λ c. search needs) returns)

@@ -21,15 +21,10 @@ abbrev μ-loop : tie.MeasureT-loop
 
 loop-holds : tie.Need-loop-holds Inv-loop μ-loop
 loop-holds c =
-    let back8 = c .before .before .before .before .before .before .before .before in
-    let a = back8 .before .before .before .args in
-    let pre = back8 .before .before .before .pre in
-    let clear = c .before .before .before .before .before .before .clear in
-    let clear2 = c .before .before .clear2 in
-    let sized : 16384 ≤ length (clear .last .0) = omega (arith, clear .kept .0, pre) in
-    let sized-names : 2048 ≤ length (clear2 .last .0) = omega (arith, clear2 .kept .0, pre) in
-    start (now (a .text)) (a .line) _ _ (length (now (a .tokens))) (length (now (a .names))) (clear .ensures)
-    (clear2 .ensures) (omega (arith, pre)) (omega (arith, pre)) sized sized-names
+    let s : tie.Start Inv-loop μ-loop = search in
+    let a = s .args in
+    start (now (a .text)) (a .line) (now (a .tokens)) (now (a .names)) (omega (arith, s .pre)) (omega (arith, s .pre))
+    (omega (arith, s .pre)) (omega (arith, s .pre))
 
 add-count : tie.Need-add-count Inv-loop μ-loop
 add-count c =
@@ -43,12 +38,12 @@ returns-3 c = (search end-done, search end-held)
 pub lex-all-spec : {M : Type 1} → statement M
 lex-all-spec =
     tie.close
-    (tie.spec Inv-loop μ-loop (λ c κs. search needs) (λ c κs. search needs) loop-holds (λ c κs. search ready)
+    (tie.spec Inv-loop μ-loop loop-holds (λ c κs. search ready)
     (λ c. search needs) (λ c. search skipped-less) (λ c. search skipped) (λ c. search needs)
     (λ c κs. search (tokens-room, token-place)) (λ c κs. search needs) (λ c. search tokens-long)
     (λ c. search names-long) (λ c. search (token-full, token-full-held)) add-count (λ c. search token-less)
     (λ c. search token-more) (λ c. search needs) (λ c κs. search (tokens-room, end-place)) (λ c κs. search needs)
     (λ c. search tokens-long) (λ c. search names-long) (λ c. search (end-full, end-full-held))
     (λ c. search count-fits) (λ c. search more-fits) (λ c. search known-fits) (λ c. search tokens-long)
-    (λ c. search names-long) returns-3 (λ c. search needs) (λ c. search (tokens-long, refl))
-    (λ c. search (names-long, refl)) (λ c. search (refused, refused-held)))
+    (λ c. search names-long) returns-3 (λ c. search needs) (λ c. search tokens-long)
+    (λ c. search names-long) (λ c. search (refused, refused-held)))

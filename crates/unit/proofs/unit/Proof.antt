@@ -20,13 +20,13 @@ type-rows-requires c κs =
     let n = c .before .before .before .before .before .n in
     let m =
     few (tokensOf (now (a .tokens))) (now (a .names)) (now (a .functions)) (now (a .items)) (now (a .arguments))
-    (now (a .blocks)) (now (a .predecessors)) (pre .1) (pre .2) (pre .3) (parse .ensures .1 .1) (n .given .0 .0)
+    (now (a .blocks)) (now (a .predecessors)) (pre .1) (pre .2) (parse .ensures .1 .1) (n .given .0 .0)
     (sym (n .given .1) ∙ parse .ensures .0) _ _ _ _ _ (parse .ensures .1 .0) in (
       m,
       omega (arith, m),
       omega (arith, pre .1, parse .kept .1 .1 .0),
       rows-fit (tokensOf (now (a .tokens))) (now (a .names)) (now (a .functions)) (now (a .items)) (now (a .arguments))
-          (now (a .blocks)) (now (a .predecessors)) (pre .1) (pre .2) (pre .3) (parse .ensures .1 .1) (n .given .0 .0)
+          (now (a .blocks)) (now (a .predecessors)) (pre .1) (pre .2) (parse .ensures .1 .1) (n .given .0 .0)
           (sym (n .given .1) ∙ parse .ensures .0) _ _ _ _ _ (parse .ensures .1 .0),
     )
 
@@ -58,7 +58,7 @@ returns-2 c =
     refused-whole (tokensOf (now (a .tokens))) (now (a .names)) (now (a .functions)) (now (a .items))
     (now (a .arguments)) (now (a .blocks)) (now (a .predecessors))
     (types-refuse (tokensOf (now (a .tokens))) (now (a .names)) (now (a .functions)) (now (a .items))
-    (now (a .arguments)) (now (a .blocks)) (now (a .predecessors)) (pre .1) (pre .2) (pre .3) (parse .ensures .1 .1)
+    (now (a .arguments)) (now (a .blocks)) (now (a .predecessors)) (pre .1) (pre .2) (parse .ensures .1 .1)
     (n .given .0 .0) (sym (n .given .1) ∙ parse .ensures .0) _ _ _ _ _ (parse .ensures .1 .0) _ _ _ (types .ensures) _
     (e .given .1)) _
 
@@ -75,7 +75,7 @@ returns-3 c =
     let types = c .before .before .before .before .before .before .type-rows in
     let fine = c .enum-told in
     fine-whole (tokensOf (now (a .tokens))) (now (a .names)) (now (a .functions)) (now (a .items)) (now (a .arguments))
-    (now (a .blocks)) (now (a .predecessors)) (pre .1) (pre .2) (pre .3) (parse .ensures .1 .1) (n .given .0 .0)
+    (now (a .blocks)) (now (a .predecessors)) (pre .1) (pre .2) (parse .ensures .1 .1) (n .given .0 .0)
     (sym (n .given .1) ∙ parse .ensures .0) _ _ _ _ _ (parse .ensures .1 .0) _ _ _ (types .ensures) (fine .given .1)
 
 pub unit-spec : {M : Type 1} → statement M

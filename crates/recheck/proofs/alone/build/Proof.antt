@@ -101,7 +101,7 @@ type-rows-requires c κs =
     typing-asks (now (a .old)) (now (a .rows)) (a .number) (now (a .new)) (tokensOf (now (a .tokens)))
     (now (a .names)) (now (a .functions)) (now (a .items)) (now (a .arguments)) (now (a .blocks))
     (now (a .predecessors))
-    kept (pre .0) (a .known) (pre .1) (pre .3) (pre .4) (pre .6) (n .given .0 .0)
+    kept (pre .0) (a .known) (pre .1) (pre .3) (pre .4) (n .given .0 .0)
     (parse .last .1 .1 .0) (parse .last .1 .1 .1 .0) (parse .last .1 .1 .1 .1 .0) (parse .last .1 .1 .1 .1 .1 .0)
     (parse .last .1 .1 .1 .1 .1 .1 .0) parsed
     (keeps .last .1 .1 .1 .1 .1 .1 .0) (place .last .1 .1 .1 .1 .1 .1 .1 .0) (place .last .0) (place .result) room
@@ -149,7 +149,7 @@ returns-3 c =
     types-refused (now (a .old)) (now (a .rows)) (a .number) (now (a .new)) (tokensOf (now (a .tokens)))
     (now (a .names)) (now (a .functions)) (now (a .items)) (now (a .arguments)) (now (a .blocks))
     (now (a .predecessors))
-    kept (pre .0) (a .known) (pre .1) (pre .3) (pre .4) (pre .6) (n .given .0 .0)
+    kept (pre .0) (a .known) (pre .1) (pre .3) (pre .4) (n .given .0 .0)
     (parse .last .1 .1 .0) (parse .last .1 .1 .1 .0) (parse .last .1 .1 .1 .1 .0) (parse .last .1 .1 .1 .1 .1 .0)
     (parse .last .1 .1 .1 .1 .1 .1 .0) parsed
     (keeps .last .1 .1 .1 .1 .1 .1 .0) (place .last .1 .1 .1 .1 .1 .1 .1 .0) (place .last .0) (place .result) room
@@ -185,7 +185,7 @@ returns-4 c =
     types-fine (now (a .old)) (now (a .rows)) (a .number) (now (a .new)) (tokensOf (now (a .tokens)))
     (now (a .names)) (now (a .functions)) (now (a .items)) (now (a .arguments)) (now (a .blocks))
     (now (a .predecessors))
-    kept (pre .0) (a .known) (pre .1) (pre .3) (pre .4) (pre .6) (n .given .0 .0)
+    kept (pre .0) (a .known) (pre .1) (pre .3) (pre .4) (n .given .0 .0)
     (parse .last .1 .1 .0) (parse .last .1 .1 .1 .0) (parse .last .1 .1 .1 .1 .0) (parse .last .1 .1 .1 .1 .1 .0)
     (parse .last .1 .1 .1 .1 .1 .1 .0) parsed
     (keeps .last .1 .1 .1 .1 .1 .1 .0) (place .last .1 .1 .1 .1 .1 .1 .1 .0) (place .last .0) (place .result) room

@@ -7,7 +7,7 @@ use Rattle.recheck.proofs.alone.unit.Tie as tie
 build-requires : tie.Need-build-requires
 build-requires c κs =
     let s : tie.Start = search in
-    (s .pre .0, s .pre .1, s .pre .2, s .pre .3, s .pre .4, omega arith, s .pre .5)
+    (s .pre .0, s .pre .1, s .pre .2, s .pre .3, s .pre .4, omega arith)
 
 returns : tie.Need-returns
 returns c =
