@@ -1,17 +1,18 @@
 -- Cells as bytes, one after the other.
-use Prim.Native.Nat.{ℕ, suc, _+_, _-_, _*_, _≤_, _<_}
-use mathlib.Core.Bool.{true}
+use Prim.Native.Nat.{ℕ, zero, suc, _+_, _-_, _*_, _≤_, _<_}
 use borrow.Author.Tests.{le-ltb}
-use Rattle.lexer.specs.Read.{Reads, readOf, readDef, sized}
+use Rattle.lexer.specs.Read.{readOf, ReadsInto}
+use Rattle.lexer.proofs.Promise.{no-message, message-finished}
 use Rattle.lexer.specs.declared.ReadAnswer.{ReadAnswer}
 use Rattle.pitchsleet.specs.Bytes.{Export, export, exported, bytesOf, exportDef, Exports, le32, le32s}
 use mathlib.Core.Path.{_≡_, refl, ap, _∙_, sym}
 use mathlib.Core.List.{List, [], _∷_, _++_, append-nil}
 use native.Mathlib.Omega.{arith}
 use native.Mathlib.Numerals.{add-one}
-use lib.ListN.{length, getD, drop, replicate, length-append, length-replicate, set, drop-of-length-le}
-use lib.Seq.{sets, drop-cons, sets-eq}
-use native.Mathlib.Nat.{zero-add}
+use lib.Dec.{eqb}
+use lib.ListN.{length, getD, take, drop, replicate, length-append, length-take, length-replicate, drop-of-length-le}
+use lib.Seq.{sets, drop-cons, sets-eq, length-take-le}
+use native.Mathlib.Nat.{zero-add, sub-zero}
 use Rattle.utils.specs.Bytes.{pick, padTo}
 use Rattle.utils.proofs.Runs.{sets-append}
 
@@ -30,11 +31,42 @@ unfolding le32s
 length-le32s [] = refl
 length-le32s (x ∷ s) = omega (arith, length-le32s s)
 
-pub zeroed-more : (out : List ℕ) (n i : ℕ) → i < n
-    → sets out i (replicate (n - i) 0) ≡ sets (set out i 0) (i + 1) (replicate (n - (i + 1)) 0)
-zeroed-more out n i h =
-    let e : n - i ≡ suc (n - suc i) = omega arith in
-    rw (add-one, e)
+le32s-append : (xs ys : List ℕ) → le32s (xs ++ ys) ≡ le32s xs ++ le32s ys
+unfolding le32s
+le32s-append [] ys = refl
+le32s-append (x ∷ xs) ys = ap (λ (l : List ℕ). le32 x ++ l) (le32s-append xs ys)
+
+le32s-zeros : (n : ℕ) → le32s (replicate n 0) ≡ replicate (n * 4) 0
+unfolding le32s
+le32s-zeros zero = refl
+le32s-zeros (suc n) =
+    let e : suc n * 4 ≡ suc (suc (suc (suc (n * 4)))) = omega arith in
+    rw (e, le32s-zeros n)
+
+-- the part that the code lends
+pub from-start : (k : ℕ) (s : List ℕ) → take (k - 0) (drop 0 s) ≡ take k s
+from-start k s = rw sub-zero
+
+-- the first cells of a slice, and zeros behind them
+pub front-stored : (out b o cells : List ℕ) (at n : ℕ) → n ≤ length cells → b ≡ sets out at (le32s (take n cells))
+    → o ≡ sets b (at + n * 4) (replicate (at + length cells * 4 - (at + n * 4)) 0)
+    → o ≡ sets out at (le32s (padTo (length cells) (take n cells)))
+front-stored out b o cells at n h d e =
+    let l : length (take n cells) ≡ n = length-take-le n cells h in
+    let k : at + length cells * 4 - (at + n * 4) ≡ (length cells - length (take n cells)) * 4 = omega (arith, l) in
+    let z : at + n * 4 ≡ at + length (le32s (take n cells)) = omega (arith, length-le32s (take n cells), l) in
+    e ∙ rw (d, k, z, le32s-append, le32s-zeros)
+    (sym (sets-append (le32s (take n cells)) (replicate ((length cells - length (take n cells)) * 4) 0) out at))
+
+-- a slice's length with zeros behind its first cells
+pub length-front : (cells : List ℕ) (n : ℕ) → length (padTo (length cells) (take n cells)) ≡ length cells
+length-front cells n =
+    omega (
+      arith,
+      length-append (take n cells) (replicate (length cells - length (take n cells)) 0),
+      length-replicate {A = ℕ} (length cells - length (take n cells)) 0,
+      length-take n cells,
+    )
 
 -- a run over the whole list
 sets-all : (l vs : List ℕ) → length vs ≡ length l → sets l 0 vs ≡ vs
@@ -62,23 +94,23 @@ two-runs l b b′ o xs ys p q h d e z =
     v ∙ sets-all l (xy ++ r) f ∙ rw lxy
 
 -- a reading, and its cells stored
-pub whole : {text t₀ n₀ m₀ : List ℕ} {r : ReadAnswer} {t n m : List ℕ} (o₀ b b′ o : List ℕ)
-    → Reads text t₀ n₀ m₀ r t n m
-    → length t₀ ≡ 16384 → length n₀ ≡ 2048 → 512 ≤ length m₀ → 73728 ≤ length o₀ → length t ≡ 16384 → length n ≡ 2048
-    → b ≡ sets o₀ 0 (le32s t) → b′ ≡ sets b 65536 (le32s n) → o ≡ sets b′ 73728 (replicate (length o₀ - 73728) 0)
-    → export r o m ≡ exported o₀ m₀ (readOf text)
-unfolding readDef sized bytesOf pick
-whole {m₀ = m₀} o₀ b b′ o e p q u v lt ln z d f =
-    let w = two-runs o₀ b b′ o _ _ lt ln v z d f in
-    let s = sized-true (length m₀) u in
-    let et = rw (p, q, s) at (e .tokens) in
-    let en = rw (p, q, s) at (e .names) in
-    let er = rw (p, q, s) at (e .answer) in
-    let em = rw (p, q, s) at (e .message) in
-    rw (w, et, en, er, em)
+pub whole : (text t n o₀ b b′ o m₀ m m′ : List ℕ) (r : ReadAnswer) → ReadsInto (readOf text) m₀ r t n m
+    → length t ≡ 16384 → length n ≡ 2048 → 73728 ≤ length o₀ → length m ≡ length m₀
+    → b ≡ sets o₀ 0 (le32s (padTo (length t) (take (r .tokens * 4) t)))
+    → b′ ≡ sets b 65536 (le32s (padTo (length n) (take (r .names * 2) n)))
+    → o ≡ sets b′ 73728 (replicate (length o₀ - 73728) 0) → m′ ≡ pick (eqb (r .number) 0) (padTo (length m) []) m
+    → export r o m′ ≡ exported o₀ m₀ (readOf text)
+unfolding bytesOf readOf
+whole text t n o₀ b b′ o m₀ m m′ r h lt ln v lm d e f g =
+    let w = two-runs o₀ b b′ o _ _ (length-front t (r .tokens * 4) ∙ lt) (length-front n (r .names * 2) ∙ ln) v d e f in
+    let number = ap (λ (a : ReadAnswer). a .number) (h .answer) in
+    let message =
+    message-finished (r .number) (readOf text .message) m₀ m m′ (λ z. no-message 1 text (sym number ∙ z)) (h .message)
+    lm g in
+    same-export (h .answer) (w ∙ rw (h .tokens, h .names, lt, ln)) message
   where
-    sized-true : (m : ℕ) → 512 ≤ m → sized 16384 2048 m ≡ true
-    sized-true m h = rw (le-ltb _ _ h)
+    same-export : {r r′ : ReadAnswer} {o o′ m m′ : List ℕ} → r ≡ r′ → o ≡ o′ → m ≡ m′ → export r o m ≡ export r′ o′ m′
+    same-export p q s = rw (p, q, s)
 
 -- The promise of `pitchsleet_read` as one equation and by parts. Two answers that it permits are equal.
 pub by-parts : {text o₀ m₀ : List ℕ} {r : ReadAnswer} {o m : List ℕ}

@@ -1,27 +1,29 @@
 -- The cells of a check as bytes, one slice after the other.
-use Prim.Native.Nat.{ℕ, _+_, _-_, _≤_}
+use Prim.Native.Nat.{ℕ, _+_, _*_, _-_, _≤_}
 use mathlib.Core.Path.{_≡_, refl, sym, ap, _∙_}
-use mathlib.Core.List.{List, _++_, append-nil}
+use mathlib.Core.List.{List, [], _++_, append-nil}
 use borrow.Author.Tests.{le-ltb}
 use native.Mathlib.Omega.{arith}
 use native.Mathlib.Nat.{zero-add}
-use lib.ListN.{length, replicate, drop-of-length-le, length-append, length-replicate}
+use lib.Dec.{eqb}
+use lib.ListN.{length, take, replicate, drop-of-length-le, length-append, length-replicate}
 use lib.Seq.{sets, sets-eq}
 use Rattle.utils.specs.Bytes.{pick, padTo}
 use Rattle.utils.proofs.Runs.{sets-append}
 use Rattle.functions.specs.Answer.{Slices, slices}
 use Rattle.unit.specs.Outcome.{asLong}
 use Rattle.checker.specs.Check.{Checking, checkOf}
-use Rattle.checker.specs.Promise.{padded, sized, sizedUnit as sizedFive}
+use Rattle.checker.specs.Promise.{rowsUsed, frontsOf, ChecksInto}
 use Rattle.checker.specs.Promise as cells
 use Rattle.checker.specs.declared.CheckAnswer.{CheckAnswer}
 use Rattle.pitchsleet.specs.Bytes.{le32s}
 use Rattle.recheck.specs.Recheck.{recheckOf}
-use Rattle.pitchsleet.specs.CheckBytes.{cellBytes, bytesOf, Export, export, exported, gated}
+use Rattle.pitchsleet.specs.CheckBytes.{cellBytes, frontBytes, Export, export, exported, gated}
 use Rattle.pitchsleet.specs.CheckBytes.{exportDef, Sizes}
 use Rattle.pitchsleet.specs.CheckBytes.{Gives, Exports}
 use Rattle.pitchsleet.specs.RecheckBytes.{tableOf, recheckDef, Rechecks}
-use Rattle.pitchsleet.proofs.Cells.{length-le32s}
+use Rattle.pitchsleet.proofs.Cells.{length-le32s, length-front}
+use Rattle.lexer.proofs.Promise.{message-finished}
 
 -- two adjacent runs are one
 join : (b₀ b₁ b₂ : List ℕ) (at k : ℕ) (xs ys : List ℕ) → k ≡ at + length xs → b₁ ≡ sets b₀ at xs → b₂ ≡ sets b₁ k ys
@@ -76,50 +78,72 @@ module _ (t n f i a b p : List ℕ) (z : Sizes t n (slices f i a b p)) where
       (omega (arith, length-le32s t, z .tokens)) e₁ w₂ in
       final l b₇ o (cellBytes t n (slices f i a b p)) 252228 whole-long h w₁ e₈
 
+-- the bytes of the fronts of slices that have their sizes
+fronts-sized : (r : CheckAnswer) (t n f i a b p : List ℕ) → Sizes t n (slices f i a b p)
+    → Sizes (padTo (length t) (take (r .tokens * 4) t)) (padTo (length n) (take (r .names * 2) n))
+    (asLong (slices f i a b p) (frontsOf r (slices f i a b p)))
+fronts-sized r t n f i a b p z =
+    record {
+      tokens = length-front t (r .tokens * 4) ∙ z .tokens;
+      names = length-front n (r .names * 2) ∙ z .names;
+      functions = length-front f (rowsUsed r) ∙ z .functions;
+      items = length-front i (r .items * 8) ∙ z .items;
+      arguments = length-front a (r .arguments * 2) ∙ z .arguments;
+      blocks = length-front b (r .blocks * 8) ∙ z .blocks;
+      predecessors = length-front p (r .predecessors) ∙ z .predecessors;
+    }
+
+pub fronts-stored : (r : CheckAnswer) (t n f i a b p : List ℕ) → Sizes t n (slices f i a b p)
+    → (l b₁ b₂ b₃ b₄ b₅ b₆ b₇ o : List ℕ) → 252228 ≤ length l
+    → b₁ ≡ sets l 0 (le32s (padTo (length t) (take (r .tokens * 4) t)))
+    → b₂ ≡ sets b₁ 65536 (le32s (padTo (length n) (take (r .names * 2) n)))
+    → b₃ ≡ sets b₂ 73728 (le32s (padTo (length f) (take (rowsUsed r) f)))
+    → b₄ ≡ sets b₃ 85252 (le32s (padTo (length i) (take (r .items * 8) i)))
+    → b₅ ≡ sets b₄ 183556 (le32s (padTo (length a) (take (r .arguments * 2) a)))
+    → b₆ ≡ sets b₅ 211268 (le32s (padTo (length b) (take (r .blocks * 8) b)))
+    → b₇ ≡ sets b₆ 244036 (le32s (padTo (length p) (take (r .predecessors) p)))
+    → o ≡ sets b₇ 252228 (replicate (length l - 252228) 0)
+    → o ≡ padTo (length l) (frontBytes r t n (slices f i a b p))
+fronts-stored r t n f i a b p z l b₁ b₂ b₃ b₄ b₅ b₆ b₇ o h e₁ e₂ e₃ e₄ e₅ e₆ e₇ e₈ =
+    all-stored _ _ _ _ _ _ _ (fronts-sized r t n f i a b p z) l b₁ b₂ b₃ b₄ b₅ b₆ b₇ o h e₁ e₂ e₃ e₄ e₅ e₆ e₇ e₈
+
+-- slices of exactly their sizes have them
+pub sizes-reached : (m t n f i a b p : List ℕ) → Sizes t n (slices f i a b p) → 512 ≤ length m
+    → cells.Sizes m t n (slices f i a b p)
+sizes-reached m t n f i a b p z h =
+    record {
+      message-long = h;
+      tokens-long = omega (arith, z .tokens);
+      names-long = omega (arith, z .names);
+      functions-long = omega (arith, z .functions);
+      long = record {
+        items-long = omega (arith, z .items);
+        arguments-long = omega (arith, z .arguments);
+        blocks-long = omega (arith, z .blocks);
+        predecessors-long = omega (arith, z .predecessors);
+      };
+    }
+
 -- an answer x, and its cells stored
-module _ (x : Checking) (m₀ t₀ n₀ f₀ i₀ a₀ b₀ p₀ : List ℕ) (z : Sizes t₀ n₀ (slices f₀ i₀ a₀ b₀ p₀))
-    (long : 512 ≤ length m₀)
+pub out-of : (x : Checking) → (x .answer .number ≡ 0 → x .message ≡ []) → (t n f i a b p : List ℕ)
+    → Sizes t n (slices f i a b p) → (r : CheckAnswer) (m₀ m m′ o₀ o : List ℕ)
+    → ChecksInto x m₀ r m t n (slices f i a b p) → length m ≡ length m₀
+    → o ≡ padTo (length o₀) (frontBytes r t n (slices f i a b p)) → m′ ≡ pick (eqb (r .number) 0) (padTo (length m) []) m
+    → export r o m′ ≡ exported o₀ m₀ x
+out-of x silent t n f i a b p z r m₀ m m′ o₀ o h lm d g =
+    let number = ap (λ (y : CheckAnswer). y .number) (h .answer) in
+    let message =
+    message-finished (r .number) (x .message) m₀ m m′ (λ q. silent (sym number ∙ q)) (h .message) lm g in
+    let u = slices f i a b p in
+    same-export (h .answer)
+    (d
+    ∙ ap (λ (s : Slices). padTo (length o₀) (cellBytes (padTo (length t) (take (r .tokens * 4) t))
+    (padTo (length n) (take (r .names * 2) n)) (asLong u s))) (h .unit)
+    ∙ rw (h .tokens, h .names, z .tokens, z .names, z .functions, z .items, z .arguments, z .blocks, z .predecessors))
+    message
   where
-    as-sized : cells.gated m₀ t₀ n₀ (slices f₀ i₀ a₀ b₀ p₀) x ≡ padded m₀ t₀ n₀ (slices f₀ i₀ a₀ b₀ p₀) x
-    unfolding sized sizedFive pick
-    as-sized =
-        rw (
-          z .tokens,
-          z .names,
-          z .functions,
-          z .items,
-          z .arguments,
-          z .blocks,
-          z .predecessors,
-          le-ltb (length m₀) 512 long,
-        )
-
-    bytes-are : cellBytes (padTo (length t₀) (x .tokens)) (padTo (length n₀) (x .names))
-        (asLong (slices f₀ i₀ a₀ b₀ p₀) (x .unit))
-        ≡ bytesOf x
-    bytes-are = rw (z .tokens, z .names, z .functions, z .items, z .arguments, z .blocks, z .predecessors)
-
-    pub out-of : (r : CheckAnswer) (m t n : List ℕ) (u : Slices) (o₀ o : List ℕ)
-        → cells.Gives (cells.gated m₀ t₀ n₀ (slices f₀ i₀ a₀ b₀ p₀) x) r m t n u → o ≡ padTo (length o₀)
-        (cellBytes t n u)
-        → export r o m ≡ exported o₀ m₀ x
-    out-of r m t n u o₀ o e d =
-        same-export
-        (e .answer ∙ ap (λ (y : Checking). y .answer) as-sized)
-        (d
-        ∙ ap (λ (l : List ℕ). padTo (length o₀) (cellBytes l n u)) (e .tokens ∙ ap (λ (y : Checking). y .tokens)
-        as-sized)
-        ∙ ap (λ (l : List ℕ). padTo (length o₀) (cellBytes (padTo (length t₀) (x .tokens)) l u))
-        (e .names ∙ ap (λ (y : Checking). y .names) as-sized)
-        ∙ ap (λ (l : Slices). padTo (length o₀) (cellBytes (padTo (length t₀) (x .tokens))
-        (padTo (length n₀) (x .names)) l))
-        (e .unit ∙ ap (λ (y : Checking). y .unit) as-sized)
-        ∙ ap (padTo (length o₀)) bytes-are)
-        (e .message ∙ ap (λ (y : Checking). y .message) as-sized)
-      where
-        same-export : {r r′ : CheckAnswer} {o o′ m m′ : List ℕ} → r ≡ r′ → o ≡ o′ → m ≡ m′ → export r o m ≡ export r′
-            o′ m′
-        same-export p q s = rw (p, q, s)
+    same-export : {r r′ : CheckAnswer} {o o′ m m′ : List ℕ} → r ≡ r′ → o ≡ o′ → m ≡ m′ → export r o m ≡ export r′ o′ m′
+    same-export p q s = rw (p, q, s)
 
 -- A promise of the C functions as one equation and by parts. Two answers that it permits are equal.
 pub by-parts : {d : Export} {r : CheckAnswer} {o m : List ℕ} → export r o m ≡ d → Gives d r o m

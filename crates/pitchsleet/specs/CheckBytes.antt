@@ -1,17 +1,19 @@
 -- The promise of `pitchsleet_check`: the answer by value, the cells as bytes.
-use Prim.Native.Nat.{ℕ}
+use Prim.Native.Nat.{ℕ, _*_}
 use mathlib.Core.Path.{_≡_}
 use mathlib.Core.List.{List, _++_}
 use lib.Dec.{ltb}
-use lib.ListN.{length}
+use lib.ListN.{length, take}
 use Rattle.utils.specs.Bytes.{pick, padTo}
 use Rattle.functions.specs.Answer.{Slices}
 use Rattle.checker.specs.Check.{Checking, checkRefusal, checkOf}
 use Rattle.functions.specs.Columns.{tableSize}
 use Rattle.body.specs.Room.{itemsSize, argumentsSize}
 use Rattle.link.specs.Steps.{blocksSize, predecessorsSize}
-use Rattle.lexer.specs.Sizes.{tokensSize, namesSize}
+use Rattle.lexer.specs.Sizes.{tokenWidth, nameWidth, tokensSize, namesSize}
 use Rattle.utils.specs.Limits.{messageSize}
+use Rattle.unit.specs.Outcome.{asLong}
+use Rattle.checker.specs.Promise.{frontsOf}
 use Rattle.checker.specs.declared.CheckAnswer.{CheckAnswer}
 use Rattle.pitchsleet.specs.Bytes.{le32s}
 
@@ -40,6 +42,12 @@ sizedUnit u =
 
 abbrev pub bytesOf : Checking → List ℕ
 bytesOf o = cellBytes (padTo tokensSize (o .tokens)) (padTo namesSize (o .names)) (sizedUnit (o .unit))
+
+-- the bytes of the cells that an answer counts, with the zeros that follow in each slice
+abbrev pub frontBytes : CheckAnswer → List ℕ → List ℕ → Slices → List ℕ
+frontBytes r t n u =
+    cellBytes (padTo (length t) (take (r .tokens * tokenWidth) t)) (padTo (length n) (take (r .names * nameWidth) n))
+    (asLong u (frontsOf r u))
 
 -- the answer, and the slices
 pub record Export : Type 0 where

@@ -6,14 +6,21 @@ ghost use Rattle.utils.specs.Bytes.{padTo};
 ghost use Rattle.functions.specs.Answer.{slices};
 ghost use Rattle.checker.specs.Check.{checkOf};
 ghost use Rattle.utils.specs.Limits.{messageSize};
-ghost use Rattle.pitchsleet.specs.CheckBytes.{cellBytes, Sizes, export, exported, checkSize};
+ghost use Rattle.pitchsleet.specs.CheckBytes.{frontBytes, Sizes, export, exported, checkSize};
 use crate::layout;
+use crate::put_front;
+use body::ITEM_CELLS;
 use checker::CheckAnswer;
 use functions::columns;
 use functions::sizes;
+use graph::BLOCK_CELLS;
+use lexer::sizes::NAME_CELLS;
+use lexer::sizes::TOKEN_CELLS;
+use parser::VARIABLE_CELLS;
 
-// All cells, one slice after the other, and zeros.
+// The cells that an answer counts, one slice after the other, and zeros.
 pub fn put_all(
+    r: CheckAnswer,
     tokens: &[u32],
     names: &[u32],
     functions: &[u32],
@@ -26,22 +33,32 @@ pub fn put_all(
     requires { ⌜ Sizes (now tokens) (now names)
         (slices (now functions) (now items) (now arguments) (now blocks) (now predecessors))
         × (checkSize ≤ length (now out)) ⌝ }
-    ensures { λ r. ⌜ now (out .exit) ≡ padTo (length (now (out .entry)))
-        (cellBytes (now (tokens .entry)) (now (names .entry))
+    ensures { λ _. ⌜ now (out .exit) ≡ padTo (length (now (out .entry)))
+        (frontBytes r (now (tokens .entry)) (now (names .entry))
         (slices (now (functions .entry)) (now (items .entry)) (now (arguments .entry)) (now (blocks .entry))
         (now (predecessors .entry)))) ⌝ }
 {
-    crate::put_cells(out, 0, tokens);
-    crate::put_cells(out, layout::NAMES, names);
-    crate::put_cells(out, layout::FUNCTIONS, functions);
-    crate::put_cells(out, layout::ITEMS, items);
-    crate::put_cells(out, layout::ARGUMENTS, arguments);
-    crate::put_cells(out, layout::BLOCKS, blocks);
-    crate::put_cells(out, layout::PREDECESSORS, predecessors);
-    crate::clear_from(out, layout::CHECKED);
+    put_front(out, 0, tokens, r.tokens as usize * TOKEN_CELLS);
+    put_front(out, layout::NAMES, names, r.names as usize * NAME_CELLS);
+    put_front(out, layout::FUNCTIONS, functions, checker::rows_used(r));
+    put_front(out, layout::ITEMS, items, r.items as usize * ITEM_CELLS);
+    put_front(
+        out,
+        layout::ARGUMENTS,
+        arguments,
+        r.arguments as usize * VARIABLE_CELLS,
+    );
+    put_front(out, layout::BLOCKS, blocks, r.blocks as usize * BLOCK_CELLS);
+    put_front(
+        out,
+        layout::PREDECESSORS,
+        predecessors,
+        r.predecessors as usize,
+    );
+    crate::clear_part(out, layout::CHECKED, out.len());
 }
 
-// Checks into cells, and stores them as bytes. All slices have their sizes, so `check` never answers 30 here.
+// Checks into the front of cells, and stores those as bytes.
 pub fn check_out(
     text: &[u8],
     tokens: &mut [u32; lexer::sizes::TOKENS],
@@ -60,7 +77,7 @@ pub fn check_out(
     ensures { λ r. ⌜ export r (now (out .exit)) (now (message .exit))
         ≡ exported (now (out .entry)) (now (message .entry)) (checkOf (now (text .entry))) ⌝ }
 {
-    let answer = checker::check(
+    let answer = checker::check_into(
         text,
         tokens,
         names,
@@ -72,6 +89,7 @@ pub fn check_out(
         message,
     );
     put_all(
+        answer,
         tokens,
         names,
         functions,
@@ -81,5 +99,6 @@ pub fn check_out(
         predecessors,
         out,
     );
+    lexer::finish_message(answer.number, message);
     answer
 }

@@ -1,12 +1,14 @@
 // The C functions. Cells go out as little-endian bytes at the offsets of docs/INTERFACE.md.
 mod check;
 mod layout;
+mod lent;
 mod rechecks;
 
 ghost use mathlib.Core.Path.{_≡_};
 ghost use Prim.Native.Nat.{_+_, _-_, _*_, _<_, _≤_};
-ghost use lib.ListN.{length, replicate};
+ghost use lib.ListN.{length, take, replicate};
 ghost use lib.Seq.{sets};
+ghost use Rattle.utils.specs.Bytes.{padTo};
 ghost use Rattle.lexer.specs.Read.{readOf, readRefusal};
 ghost use Rattle.utils.specs.Limits.{messageSize};
 ghost use Rattle.lexer.specs.Sizes.{tokensSize, namesSize};
@@ -17,6 +19,8 @@ use checker::CheckAnswer;
 use functions::columns;
 use functions::sizes;
 use lexer::ReadAnswer;
+use lexer::sizes::NAME_CELLS;
+use lexer::sizes::TOKEN_CELLS;
 use pieces::Location;
 use utils::limits;
 use utils::numbers;
@@ -46,17 +50,30 @@ fn put_cells(out: &mut [u8], at: usize, cells: &[u32])
     }
 }
 
-// Zeros from an offset to the end.
-fn clear_from(out: &mut [u8], from: usize)
-    requires { ⌜ from ≤ length (now out) ⌝ }
-    ensures { λ r. ⌜ now (out .exit)
-        ≡ sets (now (out .entry)) from (replicate (length (now (out .entry)) - from) 0) ⌝ }
+// Zeros from an offset to another.
+fn clear_part(out: &mut [u8], from: usize, to: usize)
+    requires { ⌜ (from ≤ to) × (to ≤ length (now out)) ⌝ }
+    ensures { λ r. ⌜ now (out .exit) ≡ sets (now (out .entry)) from (replicate (to - from) 0) ⌝ }
 {
     let mut i = from;
-    while i < out.len() {
+    while i < to {
         out[i] = 0;
         i += 1;
     }
+}
+
+// The first n cells of a slice, and zeros in the room of the others.
+fn put_front(out: &mut [u8], at: usize, cells: &[u32], n: usize)
+    requires { ⌜ at + length (now cells) * 4 ≤ length (now out) ⌝ }
+    ensures { λ r. ⌜ now (out .exit)
+        ≡ sets (now (out .entry)) at (le32s (padTo (length (now (cells .entry))) (take n (now (cells .entry))))) ⌝ }
+{
+    if cells.len() <= n {
+        put_cells(out, at, cells);
+        return;
+    }
+    put_cells(out, at, &cells[0..n]);
+    clear_part(out, at + n * layout::CELL, at + cells.len() * layout::CELL);
 }
 
 fn short() -> ReadAnswer
@@ -71,7 +88,7 @@ fn short() -> ReadAnswer
     }
 }
 
-// Reads into cells, and stores them as bytes. Both slices have their sizes, so `read` never answers 30 here.
+// Reads into the front of cells, and stores those as bytes.
 fn read_out(
     text: &[u8],
     tokens: &mut [u32; lexer::sizes::TOKENS],
@@ -84,10 +101,16 @@ fn read_out(
     ensures { λ r. ⌜ export r (now (out .exit)) (now (message .exit))
         ≡ exported (now (out .entry)) (now (message .entry)) (readOf (now (text .entry))) ⌝ }
 {
-    let answer = lexer::read(text, tokens, names, message);
-    put_cells(out, 0, tokens);
-    put_cells(out, layout::NAMES, names);
-    clear_from(out, layout::READ);
+    let answer = lexer::read_into(text, 1, tokens, names, message);
+    put_front(out, 0, tokens, answer.tokens as usize * TOKEN_CELLS);
+    put_front(
+        out,
+        layout::NAMES,
+        names,
+        answer.names as usize * NAME_CELLS,
+    );
+    clear_part(out, layout::READ, out.len());
+    lexer::finish_message(answer.number, message);
     answer
 }
 

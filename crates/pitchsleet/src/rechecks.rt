@@ -50,7 +50,7 @@ fn cell_count(bytes: usize) -> usize
     columns::TABLE
 }
 
-// Rechecks into cells, and stores them as bytes. All slices have their sizes, so `recheck` never answers 30 here.
+// Rechecks into the front of cells, and stores those as bytes.
 fn recheck_cells<'t>(
     old: &'t [u8],
     table: &[u32],
@@ -73,7 +73,7 @@ fn recheck_cells<'t>(
         ≡ exported (now (out .entry)) (now (message .entry))
         (recheckOf (now (old .entry)) (now (table .entry)) number (now (new .entry))) ⌝ }
 {
-    let answer = recheck::recheck(
+    let answer = recheck::recheck_into(
         old,
         table,
         number,
@@ -88,6 +88,7 @@ fn recheck_cells<'t>(
         message,
     );
     crate::check::put_all(
+        answer,
         tokens,
         names,
         functions,
@@ -97,6 +98,7 @@ fn recheck_cells<'t>(
         predecessors,
         out,
     );
+    lexer::finish_message(answer.number, message);
     answer
 }
 
