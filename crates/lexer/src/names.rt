@@ -27,6 +27,13 @@ fn same_name(text: &[u8], a: usize, m: usize, b: usize, n: usize) -> bool
     if m != n {
         return false;
     }
+    if n == 0 {
+        return true;
+    }
+    let last = n - 1;
+    if text[a + last] != text[b + last] {
+        return false;
+    }
     tokens::same_bytes(text, a, text, b, n)
 }
 

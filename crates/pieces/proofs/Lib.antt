@@ -1,5 +1,6 @@
 -- Why each piece is scanned as the definition says, in reading order.
 -- the tests that lead to a return, and a scan's turn
+
 pub mod Picked
 -- a digit is one of the bytes 48 to 57
 pub mod Digits
@@ -7,8 +8,8 @@ pub mod Digits
 pub mod Capping
 -- bytes compared one after the other
 pub mod Compare
--- the rows of the code's table are the 25 words
-pub mod Rows
+-- the 25 words by their lengths and first letters
+pub mod Words
 -- every piece but the end takes a byte or more and stays in the text
 pub mod Progress
 -- a value comes back from its kind and what it carries

@@ -1,8 +1,9 @@
 // One piece of a text at a place: what Cursor::lex answers, by the byte that stands there.
 ghost use mathlib.Core.Path.{_≡_};
-ghost use Prim.Native.Nat.{_+_, _-_, _<_};
+ghost use Prim.Native.Nat.{_+_, _-_, _≤_, _<_};
 ghost use lib.ListN.{length};
-ghost use Rattle.pieces.specs.Pieces.{slashAt, digitAt, minusAt, nameAt, sigilAt, wordAt, symbolAt, tokenFrom};
+ghost use Rattle.pieces.specs.Pieces.{cursor, name, slashAt, digitAt, minusAt, nameAt, sigilAt, wordAt, symbolAt};
+ghost use Rattle.pieces.specs.Pieces.{tokenFrom};
 use crate::Comment;
 use crate::Cursor;
 use crate::Lexed;
@@ -76,12 +77,11 @@ fn lex_minus(text: &[u8], at: usize, line: u32) -> Lexed
     Lexed::Refused(Refusal::NumberExpected(Cursor { place: at, line }))
 }
 
-// From a name's first byte, a sigil or a letter, to its end.
-fn lex_name(kind: u32, text: &[u8], at: usize, line: u32) -> Lexed
-    requires { ⌜ at < length (now text) ⌝ }
-    ensures { λ r. ⌜ r ≡ nameAt kind (now (text .entry)) at line ⌝ }
+// A name from its first byte to its end.
+fn name_to(kind: u32, at: usize, end: usize, line: u32) -> Lexed
+    requires { ⌜ at ≤ end ⌝ }
+    ensures { λ r. ⌜ r ≡ Lexed.Name (name kind at (end - at) line) (cursor end line) ⌝ }
 {
-    let end = scan::name_end(text, at + 1);
     let name = Name {
         kind,
         place: at,
@@ -89,6 +89,15 @@ fn lex_name(kind: u32, text: &[u8], at: usize, line: u32) -> Lexed
         line: Location(line),
     };
     Lexed::Name(name, Cursor { place: end, line })
+}
+
+// From a name's first byte, a sigil or a letter, to its end.
+fn lex_name(kind: u32, text: &[u8], at: usize, line: u32) -> Lexed
+    requires { ⌜ at < length (now text) ⌝ }
+    ensures { λ r. ⌜ r ≡ nameAt kind (now (text .entry)) at line ⌝ }
+{
+    let end = scan::name_end(text, at + 1);
+    name_to(kind, at, end, line)
 }
 
 // At `@` or `.`, which a letter must follow.
@@ -109,7 +118,7 @@ fn lex_word(text: &[u8], at: usize, line: u32) -> Lexed
     ensures { λ r. ⌜ r ≡ wordAt (now (text .entry)) at line ⌝ }
 {
     let end = scan::name_end(text, at + 1);
-    match tokens::get_keyword(text, at, end - at) {
+    match tokens::get_keyword(&text[at..end]) {
         OptionValue::Some(value) => {
             let token = Token {
                 value,
@@ -118,7 +127,7 @@ fn lex_word(text: &[u8], at: usize, line: u32) -> Lexed
             };
             Lexed::Token(token, Cursor { place: end, line })
         }
-        OptionValue::None => lex_name(kinds::LOCAL, text, at, line),
+        OptionValue::None => name_to(kinds::LOCAL, at, end, line),
     }
 }
 

@@ -2,7 +2,9 @@
 ghost use mathlib.Core.Path.{_≡_};
 ghost use mathlib.Core.Bool.{true, false};
 ghost use Prim.Native.Nat.{_+_, _-_, _*_, _≤_, _<_};
+ghost use lib.Dec.{ltb};
 ghost use lib.ListN.{drop, getD};
+ghost use Rattle.utils.specs.Bytes.{pick};
 ghost use Rattle.pieces.specs.Classes.{isBlank, isDigit, isLetter, isNamePart, isAscii};
 ghost use Rattle.pieces.specs.Pieces.{lineEnd, closes, starAfter, commentEnd, nameEnd, numberAt};
 ghost use Rattle.pieces.specs.Capped.{capped, cappedNumber};
@@ -54,17 +56,26 @@ fn is_name_part(b: u8) -> bool
     b == b'_'
 }
 
+fn larger(a: u8, b: u8) -> u8
+    ensures { λ r. ⌜ r ≡ pick (ltb a b) b a ⌝ }
+{
+    if a < b {
+        return b;
+    }
+    a
+}
+
+// It looks at all bytes, whatever it finds: so the compiled loop takes many at a time.
 pub fn is_ascii(text: &[u8]) -> bool
     ensures { λ r. ⌜ r ≡ isAscii (now (text .entry)) ⌝ }
 {
+    let mut most: u8 = 0;
     let mut i: usize = 0;
     while i < text.len() {
-        if 127 < text[i] {
-            return false;
-        }
+        most = larger(most, text[i]);
         i += 1;
     }
-    true
+    most <= 127
 }
 
 // The byte at a place, or 0 past the end, as in the Rust.

@@ -1,12 +1,12 @@
 // Token values and their kinds, the words and the tokens of one byte.
 ghost use mathlib.Core.Path.{_≡_};
-ghost use mathlib.Core.Bool.{true};
-ghost use Prim.Native.Nat.{_+_, _-_, _*_, _≤_, _<_};
-ghost use lib.ListN.{length, getD};
+ghost use mathlib.Core.List.{[], _∷_};
+ghost use Prim.Native.Nat.{_+_, _≤_};
+ghost use lib.ListN.{length};
 ghost use lib.Seq.{slice};
 ghost use Rattle.utils.specs.Bytes.{sameBytes};
 ghost use Rattle.pieces.specs.Tokens.{kindedOf, valueOf};
-ghost use Rattle.pieces.specs.Tokens.{rowAt, rowsFrom, rowsFit, wordIn, keyword, symbol};
+ghost use Rattle.pieces.specs.Tokens.{wordIn, keyword, symbol};
 use crate::Identifier;
 use crate::Kinded;
 use crate::OptionValue;
@@ -105,92 +105,92 @@ pub fn value_of(kind: u32, carried: u32) -> TokenValue
     }
 }
 
-// Whether n bytes from i of one slice are those from j of another.
+// Whether n bytes from i of one slice are those from j of another. From the back: names that are numbered differ there.
 pub fn same_bytes(a: &[u8], i: usize, b: &[u8], j: usize, n: usize) -> bool
     requires { ⌜ (i + n ≤ length (now a)) × (j + n ≤ length (now b)) ⌝ }
     ensures { λ r. ⌜ r ≡ sameBytes (slice i (i + n) (now (a .entry))) (slice j (j + n) (now (b .entry))) ⌝ }
 {
-    let mut k: usize = 0;
-    while k < n {
+    let mut k = n;
+    while 0 < k {
+        k -= 1;
         let p = i + k;
         let q = j + k;
         if a[p] != b[q] {
             return false;
         }
-        k += 1;
     }
     true
 }
 
-// A row is a kind, a length, and five bytes for the letters.
-const ROW: usize = 7;
-
-const ROWS: usize = 25;
-
-const KEYWORDS: [u8; ROWS * ROW] = *b"\x05\x03add\0\0\
-    \x06\x03mul\0\0\
-    \x08\x03div\0\0\
-    \x07\x03sub\0\0\
-    \x09\x03mod\0\0\
-    \x0a\x04true\0\
-    \x0b\x05false\
-    \x0c\x02eq\0\0\0\
-    \x0d\x02lt\0\0\0\
-    \x0e\x02gt\0\0\0\
-    \x0f\x02le\0\0\0\
-    \x10\x02ge\0\0\0\
-    \x11\x03not\0\0\
-    \x12\x03and\0\0\
-    \x13\x02or\0\0\0\
-    \x14\x03jmp\0\0\
-    \x15\x02br\0\0\0\
-    \x16\x04call\0\
-    \x17\x03ret\0\0\
-    \x22\x05const\
-    \x23\x05print\
-    \x24\x03nop\0\0\
-    \x25\x02id\0\0\0\
-    \x20\x03int\0\0\
-    \x21\x04bool\0";
-
-// Whether the word of a row is the `len` bytes of the text from `at` on.
-fn is_row(text: &[u8], at: usize, len: usize, table: &[u8], row: usize) -> bool
-    requires { ⌜ (at + len ≤ length (now text)) × (row * 7 + 7 ≤ length (now table))
-        × (getD (now table) (row * 7 + 1) 0 ≤ 5) ⌝ }
-    ensures { λ r. ⌜ r
-        ≡ sameBytes (rowAt (now (table .entry)) row .spelling) (slice at (at + len) (now (text .entry))) ⌝ }
+// Whether a part of the text is a word.
+fn is_word(part: &[u8], word: &[u8]) -> bool
+    ensures { λ r. ⌜ r ≡ sameBytes (now (word .entry)) (now (part .entry)) ⌝ }
 {
-    let size = row * ROW + 1;
-    let letters = row * ROW + 2;
-    if table[size] as usize != len {
+    if word.len() != part.len() {
         return false;
     }
-    same_bytes(table, letters, text, at, len)
+    same_bytes(word, 0, part, 0, part.len())
 }
 
-// The value of the first of 25 rows whose word is the `len` bytes of the text from `at` on.
-fn find_word(text: &[u8], at: usize, len: usize, table: &[u8]) -> OptionValue
-    requires { ⌜ (at + len ≤ length (now text)) × (length (now table) ≡ 175)
-        × (rowsFit 25 0 (now table) ≡ true) ⌝ }
+// The value of a word's kind, where a part of the text is that word.
+fn only(part: &[u8], word: &[u8], kind: u32) -> OptionValue
     ensures { λ r. ⌜ r
-        ≡ wordIn (rowsFrom 25 0 (now (table .entry))) (slice at (at + len) (now (text .entry))) ⌝ }
+        ≡ wordIn (record { spelling = now (word .entry); value = valueOf kind 0 } ∷ []) (now (part .entry)) ⌝ }
 {
-    let mut row: usize = 0;
-    while row < ROWS {
-        if is_row(text, at, len, table, row) {
-            let kind = row * ROW;
-            return OptionValue::Some(value_of(table[kind] as u32, 0));
-        }
-        row += 1;
+    if is_word(part, word) {
+        return OptionValue::Some(value_of(kind, 0));
     }
     OptionValue::None
 }
 
-pub(crate) fn get_keyword(text: &[u8], at: usize, len: usize) -> OptionValue
-    requires { ⌜ at + len ≤ length (now text) ⌝ }
-    ensures { λ r. ⌜ r ≡ keyword (slice at (at + len) (now (text .entry))) ⌝ }
+// The same of two words.
+fn either(part: &[u8], word: &[u8], kind: u32, other: &[u8], second: u32) -> OptionValue
+    ensures { λ r. ⌜ r
+        ≡ wordIn (record { spelling = now (word .entry); value = valueOf kind 0 }
+        ∷ record { spelling = now (other .entry); value = valueOf second 0 } ∷ []) (now (part .entry)) ⌝ }
 {
-    find_word(text, at, len, &KEYWORDS)
+    if is_word(part, word) {
+        return OptionValue::Some(value_of(kind, 0));
+    }
+    only(part, other, second)
+}
+
+// The lengths of the words.
+const SHORTEST: usize = 2;
+
+const LONGEST: usize = 5;
+
+// The value of a word of the language, which at most one other shares its first letter with.
+pub(crate) fn get_keyword(part: &[u8]) -> OptionValue
+    ensures { λ r. ⌜ r ≡ keyword (now (part .entry)) ⌝ }
+{
+    if part.len() < SHORTEST {
+        return OptionValue::None;
+    }
+    if LONGEST < part.len() {
+        return OptionValue::None;
+    }
+    let first = part[0];
+    match first {
+        b'a' => either(part, b"add", kinds::ADD, b"and", kinds::AND),
+        b'b' => either(part, b"br", kinds::BR, b"bool", kinds::BOOL),
+        b'c' => either(part, b"call", kinds::CALL, b"const", kinds::CONST),
+        b'd' => only(part, b"div", kinds::DIV),
+        b'e' => only(part, b"eq", kinds::EQ),
+        b'f' => only(part, b"false", kinds::FALSE),
+        b'g' => either(part, b"gt", kinds::GT, b"ge", kinds::GE),
+        b'i' => either(part, b"id", kinds::ID, b"int", kinds::INT),
+        b'j' => only(part, b"jmp", kinds::JMP),
+        b'l' => either(part, b"lt", kinds::LT, b"le", kinds::LE),
+        b'm' => either(part, b"mul", kinds::MUL, b"mod", kinds::MOD),
+        b'n' => either(part, b"not", kinds::NOT, b"nop", kinds::NOP),
+        b'o' => only(part, b"or", kinds::OR),
+        b'p' => only(part, b"print", kinds::PRINT),
+        b'r' => only(part, b"ret", kinds::RET),
+        b's' => only(part, b"sub", kinds::SUB),
+        b't' => only(part, b"true", kinds::TRUE),
+        _ => OptionValue::None,
+    }
 }
 
 pub(crate) fn from_char(b: u8) -> OptionValue

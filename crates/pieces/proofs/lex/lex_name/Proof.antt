@@ -9,18 +9,19 @@ use Rattle.pieces.specs.Pieces.{nameAt}
 use Rattle.pieces.proofs.lex.lex_name.Statement.{statement}
 use Rattle.pieces.proofs.lex.lex_name.Tie as tie
 
-sub-t7 : tie.Need-sub-t7
-sub-t7 c =
-    let name-end = c .name-end in
-    let a = c .before .before .args in
-    omega (arith, name-end .ensures, name-end-from (drop (a .at + 1) (now (a .text))) (a .at + 1))
+name-to-requires : tie.Need-name-to-requires
+name-to-requires c κs =
+    let s : tie.Start = search in
+    let a = s .args in
+    let ended : tie.After-name-end = search in
+    omega (arith, ended .name-end .ensures, name-end-from (drop (a .at + 1) (now (a .text))) (a .at + 1))
 
 returns : tie.Need-returns
 unfolding nameAt
 returns c =
-    let name-end = c .name-end in
-    rw (name-end .ensures)
+    let ended : tie.After-name-end = search in
+    rw (← ended .name-end .ensures) (c .name-to .ensures)
 
 pub lex-name-spec : {M : Type 1} → statement M
 lex-name-spec =
-    tie.close (tie.spec (λ c. search needs) (λ c κs. search needs) sub-t7 returns)
+    tie.close (tie.spec (λ c. search needs) (λ c κs. search needs) name-to-requires returns)
