@@ -18,7 +18,8 @@ use crate::tokens;
 use utils::limits;
 use utils::put_cells;
 
-// Whether m bytes of the text from a are the n bytes from b.
+// Whether m bytes of the text from a are the n bytes from b. The last bytes are tried by themselves: names that are
+// numbered differ there, so that a look-up passes over most names by that one test.
 fn same_name(text: &[u8], a: usize, m: usize, b: usize, n: usize) -> bool
     requires { ⌜ (a + m ≤ length (now text)) × (b + n ≤ length (now text)) ⌝ }
     ensures { λ r. ⌜ r

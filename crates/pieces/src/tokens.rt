@@ -160,7 +160,7 @@ const SHORTEST: usize = 2;
 
 const LONGEST: usize = 5;
 
-// The value of a word of the language, which at most one other shares its first letter with.
+// The value of a word of the language, or none. No three words share their first letter.
 pub(crate) fn get_keyword(part: &[u8]) -> OptionValue
     ensures { λ r. ⌜ r ≡ keyword (now (part .entry)) ⌝ }
 {
