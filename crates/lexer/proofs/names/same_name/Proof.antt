@@ -31,8 +31,11 @@ returns-3 c =
       ne-eqb _ _ (c .if3 .taken),
     )
 
+returns-4 : tie.Need-returns-4
+returns-4 c = search same-part
+
 pub same-name-spec : {M : Type 1} → statement M
 same-name-spec =
     tie.close
     (tie.spec (λ c. search other-part) returns-2 (λ c. search needs) (λ c. search needs) (λ c. search needs)
-    (λ c. search needs) (λ c. search needs) returns-3 (λ c κs. search needs) (λ c. search same-part))
+    (λ c. search needs) (λ c. search needs) returns-3 (λ c κs. search needs) returns-4)
