@@ -1,27 +1,54 @@
-//! The declarations against docs/INTERFACE.md: every size and offset is read out of the document.
+//! docs/INTERFACE.md, include/pitchsleet.h and the crate's own declarations: every size, cell, kind, number, struct and
+//! parameter is read out of the document, and the two others are held to it.
+use std::collections::BTreeMap;
 use std::mem::{align_of, offset_of, size_of};
 
 use pitchsleet::raw::{self, CheckAnswer, ReadAnswer};
 use pitchsleet::{Reader, Refusal, TokenValue};
 
 const DOCUMENT: &str = include_str!("../../docs/INTERFACE.md");
+const HEADER: &str = include_str!("../../include/pitchsleet.h");
+const RAW: &str = include_str!("../src/raw.rs");
 
-/// The rows of the first table under a heading, without its head: cells without code marks.
-fn table(heading: &str) -> Vec<Vec<String>> {
-    table_after(&format!("# {heading}\n"))
-}
+/// A table without its line of dashes: cells without code marks, those of its head first.
+type Table = Vec<Vec<String>>;
 
-fn table_after(words: &str) -> Vec<Vec<String>> {
-    let section = DOCUMENT.split(words).nth(1);
-    let section = section.unwrap_or_else(|| panic!("docs/INTERFACE.md has no {words}"));
-    let lines = section.lines().skip_while(|line| !line.starts_with('|'));
-    let rows = lines.take_while(|line| line.starts_with('|')).skip(2);
-    rows.map(cells).collect()
+/// The tables of a text, from the top down.
+fn tables_of(text: &str) -> Vec<Table> {
+    let mut tables = vec![Table::new()];
+    for line in text.lines() {
+        match line.starts_with('|') {
+            true if line.starts_with("|---") => {}
+            true => tables.last_mut().expect("one is begun").push(cells(line)),
+            false => tables.push(Table::new()),
+        }
+    }
+    tables.retain(|table| !table.is_empty());
+    tables
 }
 
 fn cells(row: &str) -> Vec<String> {
     let row = row.trim_start_matches('|').trim_end_matches('|');
     row.split('|').map(|cell| cell.trim().replace('`', "")).collect()
+}
+
+/// What stands under a heading, up to the next one.
+fn section(heading: &str) -> &'static str {
+    let section = DOCUMENT.split(&format!("# {heading}\n")).nth(1);
+    let section = section.unwrap_or_else(|| panic!("docs/INTERFACE.md has no {heading}"));
+    section.split("\n#").next().expect("a split has a first part")
+}
+
+/// The rows of a table under a heading, by its index there, without its head.
+fn rows(heading: &str, index: usize) -> Vec<Vec<String>> {
+    let mut tables = tables_of(section(heading));
+    assert!(index < tables.len(), "{heading} has no table {index}");
+    tables.swap_remove(index).split_off(1)
+}
+
+/// The rows of the first table under a heading, without its head.
+fn table(heading: &str) -> Vec<Vec<String>> {
+    rows(heading, 0)
 }
 
 /// The first and the second cell of each row, the second as a number.
@@ -39,55 +66,219 @@ fn number_between(before: &str, after: &str) -> usize {
     number(rest.split(after).next().expect("a split has a first part"))
 }
 
-#[test]
-fn sizes_of_the_slices() {
-    let sizes = [
-        ("text", raw::TEXT_BYTES),
-        ("table", raw::TABLE_BYTES),
-        ("out of read", raw::OUT_BYTES),
-        ("out of check", raw::CHECK_OUT_BYTES),
-        ("message", raw::MESSAGE_BYTES),
-    ];
-    assert_eq!(numbered(&table("The slices")), sizes);
+/// The constants of the document by their names: those of tables with a column for them, those of the table of slices, and
+/// those of sentences, as in "`CELL_BYTES` is 4".
+fn constants() -> BTreeMap<String, usize> {
+    let mut constants = BTreeMap::new();
+    let mut enter = |name: String, value: usize| {
+        let before = constants.insert(name.clone(), value);
+        assert!(before.is_none_or(|before| before == value), "{name} has two values");
+    };
+    for table in tables_of(DOCUMENT) {
+        let Some(named) = table[0].iter().position(|head| head == "constant") else {
+            continue;
+        };
+        let valued = ["cell", "kind", "number", "bytes", "at most"];
+        let valued = table[0].iter().position(|head| valued.contains(&head.as_str())).expect("a column of values");
+        for row in &table[1..] {
+            enter(row[named].clone(), number(&row[valued]));
+        }
+    }
+    for row in table("Slices of cells") {
+        let (slice, record) = (row[0].to_uppercase(), row[4].to_uppercase());
+        for (name, column) in [("CELLS", 1), ("OFFSET", 2), ("ROOM", 3)] {
+            enter(format!("{slice}_{name}"), number(&row[column]));
+        }
+        enter(format!("{record}_WIDTH"), number(&row[5]));
+    }
+    for (at, _) in DOCUMENT.match_indices("` is ") {
+        let name = DOCUMENT[..at].rsplit('`').next().expect("a split has a first part");
+        let value: String = DOCUMENT[at + 5..].chars().take_while(char::is_ascii_digit).collect();
+        if name.chars().all(|c| c.is_ascii_uppercase() || c == '_') && !value.is_empty() {
+            enter(name.to_owned(), number(&value));
+        }
+    }
+    constants
+}
+
+/// The header's constants with their values as they are written, without the mark of the project before the names.
+fn constants_of_header() -> BTreeMap<&'static str, &'static str> {
+    let definitions = HEADER.lines().filter_map(|line| line.strip_prefix("#define PITCHSLEET_"));
+    let definitions = definitions.filter_map(|definition| definition.split_once(' '));
+    definitions.map(|(name, value)| (name, value.split(" /*").next().unwrap_or(value).trim())).collect()
 }
 
 #[test]
-fn offsets_and_counts_of_the_records() {
-    let rows = table("Records in `out`");
-    let numbers: Vec<Vec<usize>> = rows.iter().map(|row| row[1..].iter().map(|cell| number(cell)).collect()).collect();
-    assert_eq!(
-        numbers,
-        [
-            [raw::TOKENS_OFFSET, raw::TOKEN_BYTES, raw::TOKENS],
-            [raw::NAMES_OFFSET, raw::NAME_BYTES, raw::NAMES],
-            [raw::FUNCTION_RECORDS_OFFSET, raw::FUNCTION_BYTES, raw::FUNCTIONS],
-            [raw::ITEMS_OFFSET, raw::ITEM_BYTES, raw::ITEMS],
-            [raw::ARGUMENTS_OFFSET, raw::ARGUMENT_BYTES, raw::ARGUMENTS],
-            [raw::BLOCKS_OFFSET, raw::BLOCK_BYTES, raw::BLOCKS],
-            [raw::PREDECESSORS_OFFSET, raw::PREDECESSOR_BYTES, raw::PREDECESSORS],
-        ]
-    );
-    assert_eq!(number_between("At ", ", before the first function record"), raw::FUNCTIONS_OFFSET);
-    assert_eq!(raw::TOKENS_OFFSET + raw::TOKENS * raw::TOKEN_BYTES, raw::NAMES_OFFSET);
-    assert_eq!(raw::NAMES_OFFSET + raw::NAMES * raw::NAME_BYTES, raw::OUT_BYTES);
+fn the_header_has_the_document_s_constants() {
+    let (version, others): (BTreeMap<_, _>, BTreeMap<_, _>) =
+        constants_of_header().into_iter().partition(|(name, _)| name.starts_with("VERSION"));
+    let others: BTreeMap<String, usize> =
+        others.into_iter().map(|(name, value)| (name.to_owned(), number(value))).collect();
+    let of_document = constants();
+    assert!(of_document.len() > 150, "only {} are read out of the document", of_document.len());
+    assert_eq!(others, of_document);
+
+    let text = env!("CARGO_PKG_VERSION");
+    let [major, minor, patch] = [0, 1, 2].map(|part| text.split('.').nth(part).expect("three numbers"));
+    let quoted = format!("\"{text}\"");
+    let expected =
+        [("VERSION", quoted.as_str()), ("VERSION_MAJOR", major), ("VERSION_MINOR", minor), ("VERSION_PATCH", patch)];
+    assert_eq!(version, BTreeMap::from(expected));
+    assert!(expected.iter().all(|(name, _)| DOCUMENT.contains(&format!("`{name}`"))));
+}
+
+/// The structs and functions that a piece of C declares, each in one line: comments, directives and what is for C++ alone
+/// are passed over.
+fn declarations(code: &str) -> Vec<String> {
+    let mut parts = code.split("/*");
+    let first = parts.next().expect("a split has a first part").to_owned();
+    let code = parts.fold(first, |code, part| code + part.split_once("*/").expect("comments are closed").1);
+    let lines = code.lines().map(str::trim).filter(|line| !line.starts_with('#'));
+    let lines: Vec<&str> = lines.filter(|line| !["", "extern \"C\" {", "}"].contains(line)).collect();
+    let (mut found, mut depth) = (vec![String::new()], 0);
+    for letter in lines.join(" ").chars() {
+        depth += i32::from(letter == '{') - i32::from(letter == '}');
+        found.last_mut().expect("one is begun").push(letter);
+        if letter == ';' && depth == 0 {
+            found.push(String::new());
+        }
+    }
+    let found = found.into_iter().map(|one| one.replace("( ", "(").trim().to_owned());
+    found.filter(|one| !one.is_empty()).collect()
+}
+
+/// The C of the document that declares something: the blocks of its first three sections.
+fn declarations_of_document() -> Vec<String> {
+    let declaring = ["The C functions", "On cells", "On bytes"];
+    let blocks = declaring.map(|heading| section(heading).split("```c\n").nth(1).expect("a block of C"));
+    let blocks = blocks.map(|block| block.split("```").next().expect("a split has a first part"));
+    declarations(&blocks.concat())
+}
+
+#[test]
+fn the_header_declares_what_the_document_does() {
+    let of_document = declarations_of_document();
+    assert_eq!(of_document.len(), 2 + 6, "two structs and six functions");
+    assert_eq!(declarations(HEADER), of_document);
+    // What a compiler would see besides.
+    assert_eq!(HEADER.matches("#include").count(), 2);
+    assert_eq!(HEADER.matches("pitchsleet_read_answer {").count(), 1);
+}
+
+/// The stack that the header says each function takes, in the order of its declarations.
+#[test]
+fn the_header_s_stacks() {
+    let of_header = HEADER.split("Stack: less than ").skip(1);
+    let of_header: Vec<usize> = of_header.map(|rest| number(rest.split(' ').next().expect("a number"))).collect();
+    let of_document = ["On cells a call", "A call"].map(|form| {
+        ["read", "check", "recheck"]
+            .map(|function| number_between(&format!("{form} of {function} needs less than "), " KiB"))
+    });
+    assert_eq!(of_header, of_document.concat());
+}
+
+/// The names of kinds, types and numbers are those of the proved code.
+#[test]
+fn names_of_the_proved_code() {
+    let constants = constants();
+    for (file, prefix) in [
+        (include_str!("../../crates/pieces/src/kinds.rt"), "TOKEN_KIND_"),
+        (include_str!("../../crates/body/src/kinds.rt"), "ITEM_KIND_"),
+        (include_str!("../../crates/parser/src/types.rt"), "TYPE_"),
+        (include_str!("../../crates/utils/src/numbers.rt"), "REFUSED_"),
+    ] {
+        let lines = file.lines().filter_map(|line| line.strip_prefix("pub const "));
+        let of_code = lines.filter_map(|line| line.trim_end_matches(';').split_once(": u32 = "));
+        let of_code = of_code.filter(|(name, _)| *name != "ACCEPTED");
+        let of_code: BTreeMap<String, usize> =
+            of_code.map(|(name, value)| (format!("{prefix}{name}"), number(value))).collect();
+        let of_document = constants.iter().filter(|(name, _)| name.starts_with(prefix));
+        assert_eq!(of_code, of_document.map(|(name, value)| (name.clone(), *value)).collect(), "{prefix}");
+    }
+}
+
+#[test]
+fn sizes_of_the_slices() {
+    let at = constants();
+    let sizes = [
+        ("LIMIT_BYTES", raw::TEXT_BYTES),
+        ("TABLE_BYTES", raw::TABLE_BYTES),
+        ("READ_OUT_BYTES", raw::OUT_BYTES),
+        ("CHECK_OUT_BYTES", raw::CHECK_OUT_BYTES),
+        ("MESSAGE_BYTES", raw::MESSAGE_BYTES),
+        ("LIMIT_TOKENS", raw::TOKENS),
+        ("LIMIT_NAMES", raw::NAMES),
+        ("LIMIT_NAME_BYTES", raw::LONGEST_NAME),
+        ("LIMIT_FUNCTIONS", raw::FUNCTIONS),
+        ("LIMIT_FORMALS", raw::FORMALS),
+    ];
+    for (name, size) in sizes {
+        assert_eq!(at[name], size, "{name}");
+    }
+    assert_eq!(at["LIMIT_BLOCKS"], at["LIMIT_LABELS"] + 1);
+}
+
+/// The slices of cells, which follow each other in `out`; each holds its records, and `functions` their count too.
+#[test]
+fn slices_of_cells() {
+    let at = constants();
+    assert_eq!(at["CELL_BYTES"], CELL);
+    let slices = [
+        ("tokens", raw::TOKENS, raw::TOKEN_BYTES, raw::TOKENS_OFFSET),
+        ("names", raw::NAMES, raw::NAME_BYTES, raw::NAMES_OFFSET),
+        ("functions", raw::FUNCTIONS, raw::FUNCTION_BYTES, raw::FUNCTIONS_OFFSET),
+        ("items", raw::ITEMS, raw::ITEM_BYTES, raw::ITEMS_OFFSET),
+        ("arguments", raw::ARGUMENTS, raw::ARGUMENT_BYTES, raw::ARGUMENTS_OFFSET),
+        ("blocks", raw::BLOCKS, raw::BLOCK_BYTES, raw::BLOCKS_OFFSET),
+        ("predecessors", raw::PREDECESSORS, raw::PREDECESSOR_BYTES, raw::PREDECESSORS_OFFSET),
+    ];
+    let rows = table("Slices of cells");
+    assert_eq!(rows.len(), slices.len());
+    let mut end = 0;
+    for (row, (name, records, bytes, offset)) in rows.iter().zip(slices) {
+        assert_eq!((row[0].as_str(), row[4].as_str()), (name, name.strip_suffix('s').expect("it is a plural")));
+        let [cells, said, room, width] = [1, 2, 3, 5].map(|column| number(&row[column]));
+        assert_eq!((said, room, width * CELL), (offset, records, bytes), "{name}");
+        let before = if name == "functions" { at["FUNCTIONS_FIRST"] } else { 0 };
+        assert_eq!((offset, cells), (end, before + room * width), "{name}");
+        end += cells * CELL;
+    }
+    assert_eq!(end, raw::CHECK_OUT_BYTES);
+    assert_eq!(raw::FUNCTIONS_OFFSET, raw::OUT_BYTES, "reading has the first two");
+    assert_eq!(raw::FUNCTIONS_OFFSET + at["FUNCTIONS_FIRST"] * CELL, raw::FUNCTION_RECORDS_OFFSET);
+    assert_eq!((at["FUNCTIONS_COUNT"], at["FUNCTIONS_FIRST"]), (0, 1));
+    assert_eq!(at["FUNCTIONS_CELLS"] * CELL, raw::TABLE_BYTES, "a header table is this slice");
+}
+
+const CELL: usize = 4;
+
+/// The cells of a record are all that a table has, and each of them is where the crate has it.
+fn assert_cells(heading: &str, index: usize, cells: &[(&str, usize)]) {
+    let rows = rows(heading, index);
+    let names: Vec<&str> = rows.iter().map(|row| row[1].as_str()).collect();
+    let expected: Vec<&str> = cells.iter().map(|(name, _)| *name).collect();
+    assert_eq!(names, expected, "{heading}");
+    for (row, (name, offset)) in rows.iter().zip(cells) {
+        assert_eq!(number(&row[0]) * CELL, *offset, "{name}");
+    }
 }
 
 #[test]
 fn cells_of_a_token() {
     let cells = [
-        ("kind", raw::TOKEN_KIND),
-        ("value", raw::TOKEN_VALUE),
-        ("line", raw::TOKEN_LINE),
-        ("place", raw::TOKEN_PLACE),
+        ("TOKEN_KIND", raw::TOKEN_KIND),
+        ("TOKEN_VALUE", raw::TOKEN_VALUE),
+        ("TOKEN_LINE", raw::TOKEN_LINE),
+        ("TOKEN_PLACE", raw::TOKEN_PLACE),
     ];
-    assert_eq!(numbered(&table("Cells of a token")), cells);
+    assert_cells("Cells of a token", 0, &cells);
+    assert_eq!(cells.len() * CELL, raw::TOKEN_BYTES);
 }
 
 #[test]
 fn cells_of_a_name() {
-    let rows = table("Cells of a name");
-    assert_eq!(numbered(&rows), [("place", raw::NAME_PLACE), ("length", raw::NAME_LENGTH)]);
-    assert!(rows[1][2].starts_with(&format!("1 to {},", raw::LONGEST_NAME)));
+    assert_cells("Cells of a name", 0, &[("NAME_PLACE", raw::NAME_PLACE), ("NAME_LENGTH", raw::NAME_LENGTH)]);
+    assert!(table("Cells of a name")[1][2].starts_with(&format!("1 to {},", raw::LONGEST_NAME)));
 }
 
 #[test]
@@ -99,7 +290,8 @@ fn fields_of_the_answer() {
         ("tokens", offset_of!(ReadAnswer, tokens)),
         ("names", offset_of!(ReadAnswer, names)),
     ];
-    assert_eq!(numbered(&table("The answer")), fields);
+    assert_eq!(numbered(&rows("The answer", 0)), fields);
+    assert_struct("pitchsleet_read_answer", &[&fields]);
     assert_eq!(number_between("The struct of read has ", " bytes"), size_of::<ReadAnswer>());
     assert_eq!(number_between("aligned to ", "."), align_of::<ReadAnswer>());
 }
@@ -121,82 +313,62 @@ fn fields_of_check_s_answer() {
         ("blocks", offset_of!(CheckAnswer, blocks)),
         ("predecessors", offset_of!(CheckAnswer, predecessors)),
     ];
-    assert_eq!(numbered(&table_after("That of check has ")), fields);
+    assert_eq!(numbered(&rows("The answer", 1)), fields);
+    assert_struct("pitchsleet_check_answer", &[&numbered(&rows("The answer", 0)), &fields]);
     assert_eq!(number_between("That of check has ", " bytes"), size_of::<CheckAnswer>());
     assert_eq!(align_of::<CheckAnswer>(), align_of::<ReadAnswer>());
 }
 
-/// The slices of the checker's records, which follow each other in `out` behind those of reading.
-#[test]
-fn slices_of_the_checker() {
-    let rows = table("Functions, items, blocks and edges, in Rattle (crates/functions)");
-    let slices = [
-        ("functions", raw::FUNCTIONS, raw::FUNCTION_BYTES, raw::FUNCTIONS_OFFSET),
-        ("items", raw::ITEMS, raw::ITEM_BYTES, raw::ITEMS_OFFSET),
-        ("arguments", raw::ARGUMENTS, raw::ARGUMENT_BYTES, raw::ARGUMENTS_OFFSET),
-        ("blocks", raw::BLOCKS, raw::BLOCK_BYTES, raw::BLOCKS_OFFSET),
-        ("predecessors", raw::PREDECESSORS, raw::PREDECESSOR_BYTES, raw::PREDECESSORS_OFFSET),
-    ];
-    assert_eq!(rows.len(), slices.len());
-    let mut end = raw::OUT_BYTES;
-    for (row, (name, records, bytes, offset)) in rows.iter().zip(slices) {
-        assert_eq!((row[0].as_str(), number(&row[2]) * 4, offset), (name, bytes, end));
-        assert_eq!(number(row[1].trim_start_matches("the count, then ")), records);
-        end += number(&row[3]) * 4;
-    }
-    assert_eq!(raw::FUNCTION_RECORDS_OFFSET, raw::FUNCTIONS_OFFSET + 4, "the count is one cell");
-    assert_eq!(raw::FUNCTIONS_OFFSET + raw::TABLE_BYTES, raw::ITEMS_OFFSET, "a header table is this slice");
-    assert_eq!(end, raw::CHECK_OUT_BYTES);
-}
-
-/// Each cell of a table by its number, what its row begins with, and where the crate has it.
-fn assert_cells(heading: &str, cells: &[(&str, &str, usize)]) {
-    let rows = table(heading);
-    assert_eq!(rows.len(), cells.len(), "{heading}");
-    for (row, (cell, begins, offset)) in rows.iter().zip(cells) {
-        assert_eq!(row[0], *cell, "{heading}");
-        assert!(row[1].starts_with(begins), "{heading}: {} is {}", row[0], row[1]);
-        let first = cell.split([' ', ',']).next().expect("a split has a first part");
-        assert_eq!(number(first) * 4, *offset, "{heading}: {begins}");
-    }
+/// A struct of the document has the fields of its tables, in their order.
+fn assert_struct(name: &str, fields: &[&[(&str, usize)]]) {
+    let fields: Vec<&str> = fields.concat().iter().map(|(field, _)| *field).collect();
+    let expected = format!("struct {name} {{ uint32_t {}; }};", fields.join(", "));
+    assert!(declarations_of_document().contains(&expected), "{expected}");
 }
 
 #[test]
 fn cells_of_a_function() {
     assert_cells(
         "Cells of a function",
+        0,
         &[
-            ("0", "name token", raw::FUNCTION_TOKEN),
-            ("1", "name", raw::FUNCTION_NAME),
-            ("2", "closing token", raw::FUNCTION_END),
-            ("3", "the name's place", raw::FUNCTION_PLACE),
-            ("4", "the name's length", raw::FUNCTION_LENGTH),
-            ("5", "the name's line", raw::FUNCTION_LINE),
-            ("6", "result type: 1 int, 2 bool, 3 void", raw::FUNCTION_RESULT),
-            ("7", "function type number", raw::FUNCTION_TYPE),
-            ("8, 9", "first item, and how many", raw::FUNCTION_ITEMS),
-            ("10, 11", "first block, and how many", raw::FUNCTION_BLOCKS),
-            ("12", "how many formals, 0 to 16", raw::FUNCTION_FORMAL_COUNT),
-            ("13 + 2k, 14 + 2k", "formal k: its name and its type", raw::FUNCTION_FORMALS),
+            ("FUNCTION_TOKEN", raw::FUNCTION_TOKEN),
+            ("FUNCTION_NAME", raw::FUNCTION_NAME),
+            ("FUNCTION_END", raw::FUNCTION_END),
+            ("FUNCTION_PLACE", raw::FUNCTION_PLACE),
+            ("FUNCTION_LENGTH", raw::FUNCTION_LENGTH),
+            ("FUNCTION_LINE", raw::FUNCTION_LINE),
+            ("FUNCTION_RESULT", raw::FUNCTION_RESULT),
+            ("FUNCTION_TYPE", raw::FUNCTION_TYPE),
+            ("FUNCTION_ITEMS", raw::FUNCTION_ITEMS),
+            ("FUNCTION_ITEM_COUNT", raw::FUNCTION_ITEM_COUNT),
+            ("FUNCTION_BLOCKS", raw::FUNCTION_BLOCKS),
+            ("FUNCTION_BLOCK_COUNT", raw::FUNCTION_BLOCK_COUNT),
+            ("FUNCTION_FORMAL_COUNT", raw::FUNCTION_FORMAL_COUNT),
+            ("FUNCTION_FORMALS", raw::FUNCTION_FORMALS),
         ],
     );
-    assert_eq!(raw::FUNCTION_ITEM_COUNT, raw::FUNCTION_ITEMS + 4);
-    assert_eq!(raw::FUNCTION_BLOCK_COUNT, raw::FUNCTION_BLOCKS + 4);
-    assert_eq!(raw::FUNCTION_FORMALS + raw::FORMALS * 8, raw::FUNCTION_BYTES);
+    // The crate reads formals, arguments, results and operands alike: a name, and its type behind it.
+    assert_cells("Cells of a function", 1, &[("FORMAL_NAME", 0), ("FORMAL_TYPE", CELL)]);
+    assert_cells("Cells of an argument", 0, &[("ARGUMENT_NAME", 0), ("ARGUMENT_TYPE", CELL)]);
+    let formal = constants()["FORMAL_WIDTH"] * CELL;
+    assert_eq!(raw::FUNCTION_FORMALS + raw::FORMALS * formal, raw::FUNCTION_BYTES);
 }
 
 #[test]
 fn cells_of_a_block() {
     assert_cells(
         "Cells of a block",
+        0,
         &[
-            ("0", "first operation", raw::BLOCK_OPERATIONS),
-            ("1", "how many operations", raw::BLOCK_OPERATION_COUNT),
-            ("2", "how many successors", raw::BLOCK_SUCCESSOR_COUNT),
-            ("3, 4", "first and second successor", raw::BLOCK_SUCCESSORS),
-            ("5", "first predecessor", raw::BLOCK_PREDECESSORS),
-            ("6", "how many predecessors", raw::BLOCK_PREDECESSOR_COUNT),
-            ("7", "dead mark", raw::BLOCK_DEAD),
+            ("BLOCK_OPERATIONS", raw::BLOCK_OPERATIONS),
+            ("BLOCK_OPERATION_COUNT", raw::BLOCK_OPERATION_COUNT),
+            ("BLOCK_SUCCESSOR_COUNT", raw::BLOCK_SUCCESSOR_COUNT),
+            ("BLOCK_SUCCESSOR", raw::BLOCK_SUCCESSORS),
+            ("BLOCK_SECOND_SUCCESSOR", raw::BLOCK_SUCCESSORS + CELL),
+            ("BLOCK_PREDECESSORS", raw::BLOCK_PREDECESSORS),
+            ("BLOCK_PREDECESSOR_COUNT", raw::BLOCK_PREDECESSOR_COUNT),
+            ("BLOCK_DEAD", raw::BLOCK_DEAD),
         ],
     );
 }
@@ -205,15 +377,31 @@ fn cells_of_a_block() {
 /// cells that the document gives it.
 #[test]
 fn cells_of_an_item() {
-    assert_eq!((raw::ITEM_KIND, raw::ITEM_TOKEN), (0, 4));
-    assert_eq!((raw::ITEM_RESULT, raw::ITEM_LEFT, raw::ITEM_RIGHT), (2 * 4, 4 * 4, 6 * 4));
+    assert_cells(
+        "Cells of an item",
+        0,
+        &[
+            ("ITEM_KIND", raw::ITEM_KIND),
+            ("ITEM_TOKEN", raw::ITEM_TOKEN),
+            ("ITEM_RESULT", raw::ITEM_RESULT),
+            ("ITEM_RESULT_TYPE", raw::ITEM_RESULT + CELL),
+            ("ITEM_LEFT", raw::ITEM_LEFT),
+            ("ITEM_LEFT_TYPE", raw::ITEM_LEFT + CELL),
+            ("ITEM_RIGHT", raw::ITEM_RIGHT),
+            ("ITEM_RIGHT_TYPE", raw::ITEM_RIGHT + CELL),
+            ("ITEM_LABEL", raw::ITEM_RIGHT),
+            ("ITEM_SECOND_LABEL", raw::ITEM_RIGHT + CELL),
+            ("ITEM_ARGUMENTS", raw::ITEM_RIGHT),
+            ("ITEM_ARGUMENT_COUNT", raw::ITEM_RIGHT + CELL),
+        ],
+    );
     // The name with the number 0 stands in no item.
     let before = "@zero { nop; } @g(a: int) { nop; } @h(a: int): int { ret a; } @f(n: int): int {";
     let texts = [
         ".l: ret n;", "x: bool = lt n n;", "x: int = id n;", "x: int = const 5;", "call @g n;", "x: int = call @h n;",
         "print n;", "nop;", "jmp .z; .z: ret n;", "br n .z .z; .z: ret n;", "", "ret n;",
     ];
-    let rows = table("Cells of an item");
+    let rows = rows("Cells of an item", 1);
     assert_eq!(rows.len(), texts.len());
     for (row, text) in rows.iter().zip(texts) {
         let kind = number(&row[0]);
@@ -233,8 +421,8 @@ fn cells_of_an_item() {
             _ => first != 0 && second != 0,
         };
         let row: Vec<&str> = row.iter().map(String::as_str).collect();
-        assert!(cells[1] != 0 && !row[2].is_empty(), "{text}: the token");
-        for (column, cell) in [(3, 2), (4, 4), (5, 6)] {
+        assert!(cells[1] != 0 && !row[3].is_empty(), "{text}: the token");
+        for (column, cell) in [(4, 2), (5, 4), (6, 6)] {
             assert!(filled(row[column], cells[cell], cells[cell + 1]), "{text}: {}: {cells:?}", row[column]);
         }
     }
@@ -250,37 +438,44 @@ fn last_function_s_first_item(text: &str) -> Vec<u32> {
     (0..raw::ITEM_BYTES / 4).map(|i| cell(raw::ITEMS_OFFSET + first * raw::ITEM_BYTES + i * 4)).collect()
 }
 
-/// The order of the function's parameters, in the C of the document and in the Rust of the declaration.
+/// The order of the functions' parameters, in the C of the document and in the Rust of the declarations.
 #[test]
 fn parameters_of_the_functions() {
-    for name in ["pitchsleet_read", "pitchsleet_check", "pitchsleet_recheck"] {
-        let of_document = DOCUMENT.split(&format!("{name}(\n")).nth(1).expect("the C declaration");
-        let of_declaration =
-            include_str!("../src/raw.rs").split(&format!("fn {name}(\n")).nth(1).expect("the Rust one");
-        assert_eq!(parameters(of_document, ')', c_parameter), parameters(of_declaration, ')', rust_parameter));
+    let declared: Vec<&str> = RAW.split("    fn pitchsleet_").skip(1).collect();
+    assert!(declared.len() >= 3, "read, check and recheck");
+    for declaration in declared {
+        let name = declaration.split('(').next().expect("a split has a first part");
+        let of_document = declarations_of_document();
+        let of_document = of_document.iter().find_map(|one| one.split_once(&format!(" pitchsleet_{name}(")));
+        let (_, of_document) = of_document.unwrap_or_else(|| panic!("the document has no pitchsleet_{name}"));
+        let (_, of_declaration) = declaration.split_once('(').expect("it has parameters");
+        assert_eq!(parameters(of_document, c_parameter), parameters(of_declaration, rust_parameter), "{name}");
     }
 }
 
-fn parameters(declaration: &str, end: char, each: fn(&str) -> (String, &'static str)) -> Vec<(String, &'static str)> {
-    let inside = declaration.split(end).next().expect("a split has a first part");
+fn parameters(declaration: &str, each: fn(&str) -> (String, &'static str)) -> Vec<(String, &'static str)> {
+    let inside = declaration.split(')').next().expect("a split has a first part");
     inside.split(',').map(str::trim).filter(|parameter| !parameter.is_empty()).map(each).collect()
 }
 
+/// `new` is a word of C++, so that C says `new_text` and `old_text` where Rust says `new` and `old`.
 fn c_parameter(parameter: &str) -> (String, &'static str) {
     let name = parameter.rsplit([' ', '*']).next().expect("a name");
     let ty = match parameter.strip_suffix(name).map(str::trim) {
         Some("const uint8_t *") => "*const u8",
         Some("uint8_t *") => "*mut u8",
+        Some("const uint32_t *") => "*const u32",
+        Some("uint32_t *") => "*mut u32",
         Some("size_t") => "usize",
         Some("uint32_t") => "u32",
         other => panic!("a type that the function doesn't take: {other:?}"),
     };
-    (name.to_owned(), ty)
+    (name.replace("_text", ""), ty)
 }
 
 fn rust_parameter(parameter: &str) -> (String, &'static str) {
     let (name, ty) = parameter.split_once(": ").expect("a name and a type");
-    let ty = ["*const u8", "*mut u8", "usize", "u32"].into_iter().find(|known| *known == ty);
+    let ty = ["*const u8", "*mut u8", "*const u32", "*mut u32", "usize", "u32"].into_iter().find(|known| *known == ty);
     (name.to_owned(), ty.expect("a type that C has"))
 }
 
@@ -290,7 +485,7 @@ fn kinds_of_tokens() {
     let rows = table("Kinds");
     assert_eq!(rows.len(), 38);
     for (row, expected) in rows.iter().zip(1..) {
-        let (kind, word) = (number(&row[0]), row[1].as_str());
+        let (kind, word) = (number(&row[0]), row[2].as_str());
         assert_eq!(kind, expected);
         let text = match word {
             "local" => "x",
@@ -311,7 +506,7 @@ fn kinds_of_tokens() {
             value if value.identifier().is_some() => "name",
             _ => "",
         };
-        assert_eq!(row[2], carries, "{word}");
+        assert_eq!(row[3], carries, "{word}");
     }
 }
 
@@ -348,11 +543,11 @@ fn refusals() {
 /// A refusal at no token: its number, line, place and message.
 fn assert_row(row: &[String], expected: usize, refusal: &Refusal) {
     assert_eq!((number(&row[0]), refusal.number() as usize), (expected, expected));
-    for (cell, found) in [(&row[1], refusal.line() as usize), (&row[2], refusal.place())] {
+    for (cell, found) in [(&row[2], refusal.line() as usize), (&row[3], refusal.place())] {
         // A cell that is no number says of what the line or the place is.
         assert!(cell.parse().is_ok_and(|said: usize| said == found) || cell.starts_with("of "), "{expected}: {cell}");
     }
-    let words = row[3].replace("'c'. with the byte itself for c", "'$'.");
+    let words = row[4].replace("'c'. with the byte itself for c", "'$'.");
     let message = format!("[line {}] Error : {words}\n", refusal.line());
     assert_eq!(refusal.message(), message.as_bytes());
 }
@@ -413,7 +608,7 @@ fn refusals_of_check() {
         assert_eq!((number(&row[0]), refusal.number() as usize), (*expected, *expected));
         assert!(text[refusal.place()..].starts_with(token), "{expected}: {}", &text[refusal.place()..]);
         // What the document's words stand for in these texts.
-        let words = row[2].split(" with the token ").next().expect("a split has a first part");
+        let words = row[3].split(" with the token ").next().expect("a split has a first part");
         let words = match expected {
             5 => words.replace("'t'", "';'"),
             13 => words.replace("NAME", ".a"),
