@@ -3,8 +3,8 @@
  * answer and, behind all, how much stack the calls of each function took at most.
  *
  * What the functions on cells and those on bytes write must be alike, in every cell and in the whole message, and zero
- * behind; of the first text a slice that is one short must be answered with 30, and nothing written. The slices of bytes
- * stand at odd addresses. The exit status is 1 where something of this isn't so, and a line says what.
+ * behind; of the first text a slice that is one short must be answered with 30, and nothing written. The slices of
+ * bytes stand at odd addresses. The exit status is 1 where something of this isn't so, and a line says what.
  */
 #define _POSIX_C_SOURCE 200809L
 #include <inttypes.h>
