@@ -218,6 +218,39 @@ fn sizes_of_the_slices() {
     assert_eq!(at["LIMIT_BLOCKS"], at["LIMIT_LABELS"] + 1);
 }
 
+/// Every constant of the crate's declarations is one of the document's, in bytes where a record's cell or width is meant.
+/// What is worked out from others there is passed over.
+#[test]
+fn constants_of_the_crate() {
+    let at = constants();
+    let one = |name: &str| at.get(name).copied();
+    let in_bytes = |name: &str| one(name).map(|cells| cells * CELL);
+    let of_document = |name: &str| match name {
+        "TEXT_BYTES" => one("LIMIT_BYTES"),
+        "OUT_BYTES" => one("READ_OUT_BYTES"),
+        "LONGEST_NAME" => one("LIMIT_NAME_BYTES"),
+        "FORMALS" => one("LIMIT_FORMALS"),
+        "FUNCTION_RECORDS_OFFSET" => Some(at["FUNCTIONS_OFFSET"] + at["FUNCTIONS_FIRST"] * CELL),
+        "BLOCK_SUCCESSORS" => in_bytes("BLOCK_SUCCESSOR"),
+        name if ["_BYTES", "_CELLS", "_OFFSET"].iter().any(|end| name.ends_with(end)) => {
+            let record = name.strip_suffix("_BYTES").and_then(|record| in_bytes(&format!("{record}_WIDTH")));
+            let width = name.strip_suffix("_CELLS").and_then(|record| one(&format!("{record}_WIDTH")));
+            one(name).or(record).or(width)
+        }
+        name => one(&format!("{name}_ROOM")).or(in_bytes(name)),
+    };
+    let declared = RAW.lines().filter_map(|line| line.strip_prefix("pub const "));
+    let declared = declared.filter_map(|line| line.trim_end_matches(';').split_once(": usize = "));
+    let mut held = 0;
+    for (name, value) in declared {
+        if let Ok(value) = value.replace('_', "").parse() {
+            assert_eq!(of_document(name), Some(value), "{name}");
+            held += 1;
+        }
+    }
+    assert!(held > 50, "only {held} are read out of the crate's declarations");
+}
+
 /// The slices of cells, which follow each other in `out`; each holds its records, and `functions` their count too.
 #[test]
 fn slices_of_cells() {
@@ -438,7 +471,7 @@ fn last_function_s_first_item(text: &str) -> Vec<u32> {
     (0..raw::ITEM_BYTES / 4).map(|i| cell(raw::ITEMS_OFFSET + first * raw::ITEM_BYTES + i * 4)).collect()
 }
 
-/// The order of the functions' parameters, in the C of the document and in the Rust of the declarations.
+/// The order of the functions' parameters, in the C of the document and in the Rust of the crate's declarations.
 #[test]
 fn parameters_of_the_functions() {
     let declared: Vec<&str> = RAW.split("    fn pitchsleet_").skip(1).collect();
