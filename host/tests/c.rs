@@ -6,6 +6,7 @@ mod support;
 mod compiler;
 
 use std::fs;
+use std::io::{self, Write};
 use std::path::{Path, PathBuf};
 use std::process::{Command, Output};
 
@@ -209,6 +210,6 @@ fn all_six_functions_from_c() {
         most.iter_mut().zip(used).for_each(|(most, used)| *most = used.max(*most));
     }
     for ((name, bound), most) in stacks().iter().zip(most) {
-        println!("{name}: {most} bytes of stack at most, and less than {bound} KiB as the document says");
+        writeln!(io::stderr(), "c: {name}: {most} bytes of stack at most, of {bound} KiB").expect("standard error");
     }
 }

@@ -1,5 +1,6 @@
 //! `./package` at the repository's root: what is packed is whole, works by itself, and is the same bytes each time.
 use std::fs;
+use std::io::{self, Write};
 use std::path::{Path, PathBuf};
 use std::process::{Command, Output};
 
@@ -114,7 +115,8 @@ fn works_by_itself(folder: &Path) {
     assert_eq!(commands.len(), 6, "{commands:?}");
     let has_compiler = sh(folder, "cc --version").status.success();
     if !has_compiler {
-        println!("passed over: there is no cc, so that the package's C program isn't built");
+        // Not by `println!`, whose output a passing test keeps to itself.
+        writeln!(io::stderr(), "package: there is no cc: its C program is passed over").expect("standard error");
     }
     for command in commands {
         let is_c = command.starts_with("cc ") || command.starts_with("./walk ");

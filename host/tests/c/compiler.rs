@@ -1,5 +1,6 @@
 //! The machine's C compiler, for the tests that build a program against the header and the archive.
 use std::ffi::OsStr;
+use std::io::{self, Write};
 use std::path::{Path, PathBuf};
 use std::process::Command;
 
@@ -25,7 +26,10 @@ impl Compiler {
             machine.is_ok_and(|machine| machine.stdout.starts_with(b"x86_64"))
         });
         if found.is_none() {
-            println!("passed over: there is no compiler of {language} for x86-64 among {}", names.join(", "));
+            // Not by `println!`, whose output a passing test keeps to itself.
+            let names = names.join(", ");
+            writeln!(io::stderr(), "c: passed over: there is no compiler of {language} for x86-64 among {names}")
+                .expect("standard error");
         }
         found.map(|name| Self(name))
     }
