@@ -1,8 +1,8 @@
 //! The headers of an accepted text, which a new function is held to.
 use core::fmt::{self, Debug, Formatter};
 
-use crate::raw::{self, FUNCTION_BYTES, TABLE_BYTES};
-use crate::records::{cell, index, record};
+use crate::raw::{self, CELL_BYTES, FUNCTION_CELLS, TABLE_BYTES, TABLE_CELLS};
+use crate::records::{cell, function_records, index, record};
 
 /// The headers of an accepted text: the text, and the table of its functions as a check wrote it.
 ///
@@ -22,13 +22,13 @@ use crate::records::{cell, index, record};
 #[derive(Clone, PartialEq, Eq)]
 pub struct Headers {
     text: Box<str>,
-    // As check wrote it, byte for byte: what recheck promises of it rests on that.
-    table: Box<[u8; TABLE_BYTES]>,
+    // As check wrote it, cell for cell: what recheck promises of it rests on that.
+    table: Box<[u32; TABLE_CELLS]>,
 }
 
 impl Headers {
     /// A copy of a text and of its table.
-    pub(crate) fn new(text: &str, table: &[u8; TABLE_BYTES]) -> Self {
+    pub(crate) fn new(text: &str, table: &[u32; TABLE_CELLS]) -> Self {
         Self { text: text.into(), table: Box::new(*table) }
     }
 
@@ -77,15 +77,25 @@ impl Headers {
         &self.text
     }
 
-    /// The table as a check wrote it, for [`raw::recheck`].
+    /// The table as a check wrote it, for [`raw::recheck_cells`].
     #[must_use]
-    pub fn table(&self) -> &[u8; TABLE_BYTES] {
+    pub fn table_cells(&self) -> &[u32; TABLE_CELLS] {
         &self.table
     }
 
-    fn row(&self, number: usize) -> Option<&[u8; FUNCTION_BYTES]> {
-        let rows = &self.table[raw::FUNCTION_RECORDS_OFFSET - raw::FUNCTIONS_OFFSET..];
-        record(&rows[..self.len() * FUNCTION_BYTES], number)
+    /// The same table as bytes, for [`raw::recheck`]: each cell as four, the lowest first. They are made anew by each call.
+    #[must_use]
+    pub fn table(&self) -> [u8; TABLE_BYTES] {
+        let mut bytes = [0; TABLE_BYTES];
+        let (places, _) = bytes.as_chunks_mut::<CELL_BYTES>();
+        for (place, cell) in places.iter_mut().zip(&self.table[..]) {
+            *place = cell.to_le_bytes();
+        }
+        bytes
+    }
+
+    fn row(&self, number: usize) -> Option<&[u32; FUNCTION_CELLS]> {
+        record(function_records(&self.table, self.len()), number)
     }
 }
 

@@ -1,5 +1,5 @@
 //! Operations of a block.
-use crate::raw::{self, ARGUMENT_BYTES, ITEM_BYTES};
+use crate::raw::{self, ARGUMENT_CELLS, CELL_BYTES, ITEM_CELLS};
 use crate::reader::Tokens;
 use crate::records::{cell, index, record};
 use crate::token::{Identifier, TokenValue};
@@ -87,15 +87,15 @@ pub enum OperationValue<'a> {
 
 impl<'a> Operation<'a> {
     /// The operation of an item record, whose token and arguments stand elsewhere.
-    pub(crate) fn from_record(record: &'a [u8; ITEM_BYTES], tokens: &Tokens<'a>, arguments: &'a [u8]) -> Self {
+    pub(crate) fn from_record(record: &'a [u32; ITEM_CELLS], tokens: &Tokens<'a>, arguments: &'a [u32]) -> Self {
         let token = index(record, raw::ITEM_TOKEN);
         let word = tokens.get(token).expect("an operation's token is one of the text's").value;
         let result = Variable::from_cells(record, raw::ITEM_RESULT);
         let left = Variable::from_cells(record, raw::ITEM_LEFT);
-        let labels = [0, 4].map(|offset| Identifier(index(record, raw::ITEM_RIGHT + offset)));
+        let labels = [0, CELL_BYTES].map(|offset| Identifier(index(record, raw::ITEM_RIGHT + offset)));
         let call = |result| {
-            let [first, count] = [0, 4].map(|offset| index(record, raw::ITEM_RIGHT + offset));
-            let records = &arguments[first * ARGUMENT_BYTES..][..count * ARGUMENT_BYTES];
+            let [first, count] = [0, CELL_BYTES].map(|offset| index(record, raw::ITEM_RIGHT + offset));
+            let records = &arguments[first * ARGUMENT_CELLS..][..count * ARGUMENT_CELLS];
             OperationValue::Call { callee: left, result, arguments: Arguments { records } }
         };
         let ret = |value| OperationValue::Return { value, added: word != TokenValue::Return };
@@ -192,14 +192,14 @@ impl<'a> Operation<'a> {
 /// The arguments of a call.
 #[derive(Clone, Copy, Debug)]
 pub struct Arguments<'a> {
-    records: &'a [u8],
+    records: &'a [u32],
 }
 
 impl<'a> Arguments<'a> {
     /// How many there are: at most 16.
     #[must_use]
     pub fn len(&self) -> usize {
-        self.records.len() / ARGUMENT_BYTES
+        self.records.len() / ARGUMENT_CELLS
     }
 
     /// Whether there is none.
@@ -211,12 +211,12 @@ impl<'a> Arguments<'a> {
     /// The argument at an index.
     #[must_use]
     pub fn get(&self, index: usize) -> Option<Variable> {
-        record::<ARGUMENT_BYTES>(self.records, index).map(|record| Variable::from_cells(record, 0))
+        record::<ARGUMENT_CELLS>(self.records, index).map(|record| Variable::from_cells(record, 0))
     }
 
     /// The arguments, in order.
     pub fn iter(&self) -> impl ExactSizeIterator<Item = Variable> + DoubleEndedIterator + Clone + use<'a> {
-        let (records, _) = self.records.as_chunks::<ARGUMENT_BYTES>();
+        let (records, _) = self.records.as_chunks::<ARGUMENT_CELLS>();
         records.iter().map(|record| Variable::from_cells(record, 0))
     }
 }

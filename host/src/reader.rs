@@ -4,7 +4,8 @@ use core::fmt::{self, Debug, Formatter};
 use crate::headers::Headers;
 use crate::iter::Iter;
 use crate::raw::{
-    self, CHECK_OUT_BYTES, CheckAnswer, MESSAGE_BYTES, NAME_BYTES, NAMES_OFFSET, OUT_BYTES, TOKEN_BYTES, TOKENS_OFFSET,
+    self, ARGUMENTS_CELLS, BLOCKS_CELLS, CheckAnswer, FUNCTIONS_CELLS, ITEMS_CELLS, MESSAGE_BYTES, NAME_CELLS,
+    NAMES_CELLS, PREDECESSORS_CELLS, Slices, TOKEN_CELLS, TOKENS_CELLS,
 };
 use crate::records::{cell, record};
 use crate::refusal::Refusal;
@@ -30,15 +31,58 @@ use crate::unit::Unit;
 /// ```
 #[derive(Clone)]
 pub struct Reader {
-    out: Box<[u8]>,
+    buffers: Buffers,
     message: Box<[u8; MESSAGE_BYTES]>,
+}
+
+/// A buffer for each kind of record: they are lent to the proved functions as they are.
+#[derive(Clone)]
+pub(crate) struct Buffers {
+    tokens: Box<[u32; TOKENS_CELLS]>,
+    names: Box<[u32; NAMES_CELLS]>,
+    pub(crate) functions: Box<[u32; FUNCTIONS_CELLS]>,
+    pub(crate) items: Box<[u32; ITEMS_CELLS]>,
+    pub(crate) arguments: Box<[u32; ARGUMENTS_CELLS]>,
+    pub(crate) blocks: Box<[u32; BLOCKS_CELLS]>,
+    pub(crate) predecessors: Box<[u32; PREDECESSORS_CELLS]>,
+}
+
+impl Buffers {
+    fn new() -> Self {
+        Self {
+            tokens: zeros(),
+            names: zeros(),
+            functions: zeros(),
+            items: zeros(),
+            arguments: zeros(),
+            blocks: zeros(),
+            predecessors: zeros(),
+        }
+    }
+
+    fn slices(&mut self) -> Slices<'_> {
+        Slices {
+            tokens: &mut self.tokens[..],
+            names: &mut self.names[..],
+            functions: &mut self.functions[..],
+            items: &mut self.items[..],
+            arguments: &mut self.arguments[..],
+            blocks: &mut self.blocks[..],
+            predecessors: &mut self.predecessors[..],
+        }
+    }
+}
+
+/// Cells on the heap, which are never on the stack before.
+fn zeros<const CELLS: usize>() -> Box<[u32; CELLS]> {
+    vec![0; CELLS].try_into().expect("as many as were asked for")
 }
 
 impl Reader {
     /// A reader with its buffers.
     #[must_use]
     pub fn new() -> Self {
-        Self { out: vec![0; CHECK_OUT_BYTES].into_boxed_slice(), message: Box::new([0; MESSAGE_BYTES]) }
+        Self { buffers: Buffers::new(), message: Box::new([0; MESSAGE_BYTES]) }
     }
 
     /// The tokens and names of a text, or why it is refused.
@@ -66,11 +110,12 @@ impl Reader {
     /// A [`Refusal`] with its number, line, place and message, where the text is no sequence of tokens or is over a limit.
     #[allow(clippy::result_large_err, reason = "a refusal carries its message, so that refused texts allocate nothing")]
     pub fn read<'a>(&'a mut self, text: &'a [u8]) -> Result<Tokens<'a>, Refusal> {
-        let answer = raw::read(text, &mut self.out[..OUT_BYTES], &mut self.message[..]);
+        let Slices { tokens, names, .. } = self.buffers.slices();
+        let answer = raw::read_cells(text, tokens, names, &mut self.message[..]);
         if answer.number != 0 {
             return Err(Refusal::new(answer.number, answer.line, answer.place, &self.message));
         }
-        Ok(Tokens::new(text, &self.out, answer.tokens, answer.names))
+        Ok(Tokens::new(text, &self.buffers, answer.tokens, answer.names))
     }
 
     /// The functions of a text, with their blocks, edges and typed operations, or why it is refused.
@@ -100,7 +145,7 @@ impl Reader {
     /// is not well typed, or is over a limit.
     #[allow(clippy::result_large_err, reason = "a refusal carries its message, so that refused texts allocate nothing")]
     pub fn check<'a>(&'a mut self, text: &'a [u8]) -> Result<Unit<'a>, Refusal> {
-        let answer = raw::check(text, &mut self.out, &mut self.message[..]);
+        let answer = raw::check_cells(text, self.buffers.slices(), &mut self.message[..]);
         self.unit(text, &answer)
     }
 
@@ -144,8 +189,8 @@ impl Reader {
     pub fn recheck<'a>(&'a mut self, headers: &Headers, number: usize, new: &'a [u8]) -> Result<Unit<'a>, Refusal> {
         // A number beyond 32 bits is no function's, and neither is the highest.
         let number = u32::try_from(number).unwrap_or(u32::MAX);
-        let (old, table) = (headers.text().as_bytes(), &headers.table()[..]);
-        let answer = raw::recheck(old, table, number, new, &mut self.out, &mut self.message[..]);
+        let (old, table) = (headers.text().as_bytes(), headers.table_cells());
+        let answer = raw::recheck_cells(old, table, number, new, self.buffers.slices(), &mut self.message[..]);
         self.unit(new, &answer)
     }
 
@@ -155,8 +200,8 @@ impl Reader {
         if answer.number != 0 {
             return Err(Refusal::new(answer.number, answer.line, answer.place, &self.message));
         }
-        let tokens = Tokens::new(text, &self.out, answer.tokens, answer.names);
-        Ok(Unit::new(tokens, &self.out, answer))
+        let tokens = Tokens::new(text, &self.buffers, answer.tokens, answer.names);
+        Ok(Unit::new(tokens, &self.buffers, answer))
     }
 }
 
@@ -194,17 +239,17 @@ impl Debug for Reader {
 #[derive(Clone, Copy)]
 pub struct Tokens<'a> {
     text: &'a str,
-    tokens: &'a [u8],
-    names: &'a [u8],
+    tokens: &'a [u32],
+    names: &'a [u32],
 }
 
 impl<'a> Tokens<'a> {
     /// The records of an accepted text: so many tokens and names.
-    fn new(text: &'a [u8], out: &'a [u8], tokens: u32, names: u32) -> Self {
+    fn new(text: &'a [u8], buffers: &'a Buffers, tokens: u32, names: u32) -> Self {
         Self {
             text: str::from_utf8(text).expect("an accepted text is ASCII"),
-            tokens: &out[TOKENS_OFFSET..][..tokens as usize * TOKEN_BYTES],
-            names: &out[NAMES_OFFSET..][..names as usize * NAME_BYTES],
+            tokens: &buffers.tokens[..tokens as usize * TOKEN_CELLS],
+            names: &buffers.names[..names as usize * NAME_CELLS],
         }
     }
 
@@ -212,13 +257,13 @@ impl<'a> Tokens<'a> {
     #[must_use]
     #[allow(clippy::len_without_is_empty, reason = "it is never empty")]
     pub fn len(&self) -> usize {
-        self.tokens.len() / TOKEN_BYTES
+        self.tokens.len() / TOKEN_CELLS
     }
 
     /// The token at an index.
     #[must_use]
     pub fn get(&self, index: usize) -> Option<Token<'a>> {
-        let record = record::<TOKEN_BYTES>(self.tokens, index)?;
+        let record = record::<TOKEN_CELLS>(self.tokens, index)?;
         let kind = cell(record, raw::TOKEN_KIND);
         let value = TokenValue::from_cells(kind, cell(record, raw::TOKEN_VALUE));
         let value = value.expect("a token's kind is 1 to 38");
@@ -235,7 +280,7 @@ impl<'a> Tokens<'a> {
     /// The name with a number; none for a number that this text gives to no name.
     #[must_use]
     pub fn name(&self, identifier: Identifier) -> Option<Name<'a>> {
-        let record = record::<NAME_BYTES>(self.names, identifier.0)?;
+        let record = record::<NAME_CELLS>(self.names, identifier.0)?;
         let place = cell(record, raw::NAME_PLACE) as usize;
         let length = cell(record, raw::NAME_LENGTH) as usize;
         Some(Name { identifier, place, spelling: &self.text[place..][..length] })
@@ -245,7 +290,7 @@ impl<'a> Tokens<'a> {
     #[must_use]
     pub fn names(&self) -> impl ExactSizeIterator<Item = Name<'a>> + DoubleEndedIterator + Clone + use<'a> {
         let tokens = *self;
-        let count = self.names.len() / NAME_BYTES;
+        let count = self.names.len() / NAME_CELLS;
         (0..count).map(move |number| tokens.name(Identifier(number)).expect("the count is the table's"))
     }
 

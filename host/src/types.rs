@@ -1,6 +1,7 @@
 //! Types, and names that have one.
 use core::fmt::{self, Display, Formatter};
 
+use crate::raw::CELL_BYTES;
 use crate::records::{cell, index};
 use crate::token::Identifier;
 
@@ -57,7 +58,7 @@ pub struct Variable {
 
 impl Variable {
     /// The variable of two cells, from an offset of a record on.
-    pub(crate) fn from_cells(record: &[u8], offset: usize) -> Self {
-        Self { name: Identifier(index(record, offset)), ty: Type::from_cell(cell(record, offset + 4)) }
+    pub(crate) fn from_cells(record: &[u32], offset: usize) -> Self {
+        Self { name: Identifier(index(record, offset)), ty: Type::from_cell(cell(record, offset + CELL_BYTES)) }
     }
 }

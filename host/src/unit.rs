@@ -5,10 +5,11 @@ use core::ops::Range;
 use crate::headers::Headers;
 use crate::operation::Operation;
 use crate::raw::{
-    self, ARGUMENT_BYTES, BLOCK_BYTES, CheckAnswer, FUNCTION_BYTES, ITEM_BYTES, PREDECESSOR_BYTES, TABLE_BYTES,
+    self, ARGUMENT_CELLS, BLOCK_CELLS, CELL_BYTES, CheckAnswer, FUNCTION_CELLS, ITEM_CELLS, PREDECESSOR_CELLS,
+    TABLE_CELLS,
 };
-use crate::reader::Tokens;
-use crate::records::{cell, index, record};
+use crate::reader::{Buffers, Tokens};
+use crate::records::{cell, function_records, index, record};
 use crate::token::{Identifier, Name, Token};
 use crate::types::{Type, Variable};
 
@@ -48,26 +49,25 @@ const LABEL: u32 = 1;
 #[derive(Clone, Copy)]
 pub struct Unit<'a> {
     tokens: Tokens<'a>,
-    table: &'a [u8; TABLE_BYTES],
-    functions: &'a [u8],
-    items: &'a [u8],
-    arguments: &'a [u8],
-    blocks: &'a [u8],
-    predecessors: &'a [u8],
+    table: &'a [u32; TABLE_CELLS],
+    functions: &'a [u32],
+    items: &'a [u32],
+    arguments: &'a [u32],
+    blocks: &'a [u32],
+    predecessors: &'a [u32],
 }
 
 impl<'a> Unit<'a> {
     /// The records of an accepted text, as many as the answer counts.
-    pub(crate) fn new(tokens: Tokens<'a>, out: &'a [u8], answer: &CheckAnswer) -> Self {
-        let records = |offset: usize, count: u32, bytes: usize| &out[offset..][..count as usize * bytes];
+    pub(crate) fn new(tokens: Tokens<'a>, buffers: &'a Buffers, answer: &CheckAnswer) -> Self {
         Self {
             tokens,
-            table: out[raw::FUNCTIONS_OFFSET..].first_chunk().expect("the table is inside its slice"),
-            functions: records(raw::FUNCTION_RECORDS_OFFSET, answer.functions, FUNCTION_BYTES),
-            items: records(raw::ITEMS_OFFSET, answer.items, ITEM_BYTES),
-            arguments: records(raw::ARGUMENTS_OFFSET, answer.arguments, ARGUMENT_BYTES),
-            blocks: records(raw::BLOCKS_OFFSET, answer.blocks, BLOCK_BYTES),
-            predecessors: records(raw::PREDECESSORS_OFFSET, answer.predecessors, PREDECESSOR_BYTES),
+            table: &buffers.functions,
+            functions: function_records(&buffers.functions, answer.functions as usize),
+            items: &buffers.items[..answer.items as usize * ITEM_CELLS],
+            arguments: &buffers.arguments[..answer.arguments as usize * ARGUMENT_CELLS],
+            blocks: &buffers.blocks[..answer.blocks as usize * BLOCK_CELLS],
+            predecessors: &buffers.predecessors[..answer.predecessors as usize * PREDECESSOR_CELLS],
         }
     }
 
@@ -87,13 +87,13 @@ impl<'a> Unit<'a> {
     #[must_use]
     #[allow(clippy::len_without_is_empty, reason = "a unit is more than its functions")]
     pub fn len(&self) -> usize {
-        self.functions.len() / FUNCTION_BYTES
+        self.functions.len() / FUNCTION_CELLS
     }
 
     /// The function at an index.
     #[must_use]
     pub fn function(&self, index: usize) -> Option<Function<'a>> {
-        let record = record::<FUNCTION_BYTES>(self.functions, index)?;
+        let record = record::<FUNCTION_CELLS>(self.functions, index)?;
         Some(Function { unit: *self, record })
     }
 
@@ -125,7 +125,7 @@ impl Debug for Unit<'_> {
 #[derive(Clone, Copy)]
 pub struct Function<'a> {
     unit: Unit<'a>,
-    record: &'a [u8; FUNCTION_BYTES],
+    record: &'a [u32; FUNCTION_CELLS],
 }
 
 impl<'a> Function<'a> {
@@ -199,7 +199,7 @@ impl<'a> Function<'a> {
     /// Its formals, in order: at most 16.
     #[must_use]
     pub fn formals(&self) -> impl ExactSizeIterator<Item = Variable> + DoubleEndedIterator + Clone + use<'a> {
-        let (formals, _) = self.record[raw::FUNCTION_FORMALS..].as_chunks::<8>();
+        let (formals, _) = self.record[raw::FUNCTION_FORMALS / CELL_BYTES..].as_chunks::<2>();
         let formals = &formals[..index(self.record, raw::FUNCTION_FORMAL_COUNT)];
         formals.iter().map(|formal| Variable::from_cells(formal, 0))
     }
@@ -218,7 +218,7 @@ impl<'a> Function<'a> {
             return None;
         }
         let first = index(self.record, raw::FUNCTION_BLOCKS);
-        let record = record::<BLOCK_BYTES>(self.unit.blocks, first + number)?;
+        let record = record::<BLOCK_CELLS>(self.unit.blocks, first + number)?;
         Some(Block { function: *self, number, record })
     }
 
@@ -271,7 +271,7 @@ pub struct Label {
 pub struct Block<'a> {
     function: Function<'a>,
     number: usize,
-    record: &'a [u8; BLOCK_BYTES],
+    record: &'a [u32; BLOCK_CELLS],
 }
 
 impl<'a> Block<'a> {
@@ -287,7 +287,7 @@ impl<'a> Block<'a> {
         let unit = self.function.unit;
         let (first, count) = (self.first_operation(), index(self.record, raw::BLOCK_OPERATION_COUNT));
         (first..first + count).map(move |at| {
-            let record = record::<ITEM_BYTES>(unit.items, at).expect("a block's operations are in the table");
+            let record = record::<ITEM_CELLS>(unit.items, at).expect("a block's operations are in the table");
             Operation::from_record(record, &unit.tokens, unit.arguments)
         })
     }
@@ -296,7 +296,7 @@ impl<'a> Block<'a> {
     #[must_use]
     pub fn successors(&self) -> Edges<'a> {
         let count = index(self.record, raw::BLOCK_SUCCESSOR_COUNT);
-        Edges { cells: &self.record[raw::BLOCK_SUCCESSORS..][..count * 4] }
+        Edges { cells: &self.record[raw::BLOCK_SUCCESSORS / CELL_BYTES..][..count] }
     }
 
     /// The blocks that this one may come after, by their numbers: one entry for each edge, in the edges' order.
@@ -304,7 +304,7 @@ impl<'a> Block<'a> {
     pub fn predecessors(&self) -> Edges<'a> {
         let first = index(self.record, raw::BLOCK_PREDECESSORS);
         let count = index(self.record, raw::BLOCK_PREDECESSOR_COUNT);
-        Edges { cells: &self.function.unit.predecessors[first * PREDECESSOR_BYTES..][..count * PREDECESSOR_BYTES] }
+        Edges { cells: &self.function.unit.predecessors[first..][..count] }
     }
 
     /// Whether it isn't block 0 and no edge enters it. A block that only dead blocks lead to, or only itself, is not
@@ -318,7 +318,7 @@ impl<'a> Block<'a> {
     pub fn labels(&self) -> impl Iterator<Item = Label> + Clone + use<'a> {
         // They stand right before its first operation: back from there as long as there are labels, and then forward.
         let (items, number) = (self.function.unit.items, self.number);
-        let item = move |at: usize| record::<ITEM_BYTES>(items, at).expect("the function's items are in the table");
+        let item = move |at: usize| record::<ITEM_CELLS>(items, at).expect("the function's items are in the table");
         let is_label = move |at: &usize| cell(item(*at), raw::ITEM_KIND) == LABEL;
         let end = self.first_operation();
         let count = (self.function.first_item()..end).rev().take_while(is_label).count();
@@ -349,14 +349,14 @@ impl Debug for Block<'_> {
 /// Blocks at the other ends of a block's edges, by their numbers.
 #[derive(Clone, Copy)]
 pub struct Edges<'a> {
-    cells: &'a [u8],
+    cells: &'a [u32],
 }
 
 impl<'a> Edges<'a> {
     /// How many edges there are.
     #[must_use]
     pub fn len(&self) -> usize {
-        self.cells.len() / 4
+        self.cells.len()
     }
 
     /// Whether there is none.
@@ -368,14 +368,13 @@ impl<'a> Edges<'a> {
     /// The block at the other end of the edge with an index.
     #[must_use]
     pub fn get(&self, index: usize) -> Option<usize> {
-        record::<4>(self.cells, index).map(|bytes| u32::from_le_bytes(*bytes) as usize)
+        self.cells.get(index).map(|&block| block as usize)
     }
 
     /// The blocks, in the edges' order.
     #[must_use]
     pub fn iter(&self) -> impl ExactSizeIterator<Item = usize> + DoubleEndedIterator + Clone + use<'a> {
-        let (cells, _) = self.cells.as_chunks::<4>();
-        cells.iter().map(|bytes| u32::from_le_bytes(*bytes) as usize)
+        self.cells.iter().map(|&block| block as usize)
     }
 
     /// The blocks as a list of their own.
