@@ -44,7 +44,7 @@ fn main() -> ExitCode {
         let answered = reader.check(&text).map_or_else(|refusal| refusal.number(), |_| 0);
         assert_eq!(answered, number, "{name}");
         let tokens = reader.read(&text).map_or(0, |tokens| tokens.len());
-        let rust = oracle::time(&text);
+        let rust = oracle::time(oracle::Program::Original, &text);
         let read = Row {
             floor: floor(OUT_BYTES),
             ours: shortest(|| reader.read(black_box(&text)).is_ok()),

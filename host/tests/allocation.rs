@@ -1,9 +1,13 @@
-//! No call of a reader allocates, whether the text is accepted or refused.
+//! No call of a reader allocates, nor one of the C functions, whether the text is accepted or refused.
+mod support;
+
 use std::alloc::{GlobalAlloc, Layout, System};
 use std::cell::Cell;
 use std::hint::black_box;
 
-use pitchsleet::{Reader, Refusal, Unit};
+use pitchsleet::{Reader, Refusal, Unit, raw};
+use support::lent_cells::LentCells;
+use support::records::SIZES;
 
 /// The system's allocator, with a count of what each thread asks of it.
 struct Counting;
@@ -29,6 +33,10 @@ unsafe impl GlobalAlloc for Counting {
 #[global_allocator]
 static ALLOCATOR: Counting = Counting;
 
+/// Texts that are accepted, and that are refused by reading, by typing, for a byte above 127 and for their length.
+const TEXTS: [&[u8]; 7] = [b"@f { x: int = const 5; }", PROGRAM, b"@f { ret x; }", b"$", b"\x80", b"", &[b' '; 20_000]];
+const PROGRAM: &[u8] = b"@f(a: int): int { .l: b: int = call @f a; br c .l .m; .m: ret b; }";
+
 #[test]
 fn no_allocation_per_call() {
     let before_the_buffers = ASKED.get();
@@ -36,10 +44,7 @@ fn no_allocation_per_call() {
     let headers = reader.check(b"@f(a: int): int { ret a; }").expect("accepted").headers();
     let before = ASKED.get();
     assert!(before_the_buffers < before, "the count works");
-    let program = b"@f(a: int): int { .l: b: int = call @f a; br c .l .m; .m: ret b; }";
-    let texts: [&[u8]; 7] =
-        [b"@f { x: int = const 5; }", program, b"@f { ret x; }", b"$", b"\x80", b"", &[b' '; 20_000]];
-    for text in texts {
+    for text in TEXTS {
         match reader.read(text) {
             Ok(tokens) => {
                 black_box(tokens.iter().map(|token| token.spelling.len()).sum::<usize>());
@@ -54,8 +59,30 @@ fn no_allocation_per_call() {
             look_at(reader.recheck(&headers, number, text));
         }
     }
-    assert!(reader.recheck(&headers, 0, program).is_ok());
+    assert!(reader.recheck(&headers, 0, PROGRAM).is_ok());
     black_box((headers.names().map(str::len).sum::<usize>(), headers.position("@f"), headers.line(0)));
+    black_box((headers.table(), headers.table_cells()));
+    assert_eq!(ASKED.get(), before);
+}
+
+#[test]
+fn no_allocation_in_the_c_functions() {
+    let old = b"@f(a: int): int { ret a; }";
+    let headers = Reader::new().check(old).expect("accepted").headers();
+    let (table, table_cells) = (headers.table(), headers.table_cells());
+    let (mut out, mut message) = (vec![0; raw::CHECK_OUT_BYTES], vec![0; raw::MESSAGE_BYTES]);
+    let mut cells = LentCells::new(SIZES, raw::MESSAGE_BYTES);
+    let before = ASKED.get();
+    for text in TEXTS {
+        black_box(raw::read(text, &mut out, &mut message));
+        black_box(raw::check(text, &mut out, &mut message));
+        black_box(raw::recheck(old, &table, 0, text, &mut out, &mut message));
+        black_box(raw::recheck(old, &table, 1, text, &mut out, &mut message));
+        black_box(cells.read(text));
+        black_box(cells.check(text));
+        black_box(cells.recheck(old, table_cells, 0, text));
+        black_box(cells.recheck(old, table_cells, 1, text));
+    }
     assert_eq!(ASKED.get(), before);
 }
 

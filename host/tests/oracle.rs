@@ -1,8 +1,13 @@
-//! The oracle itself: what the Rust original says of texts whose answers are known. Passed over, with a line that says so,
-//! where the Rust files are not to be had.
+//! The oracle itself: what the Rust original says of texts whose answers are known; and the repaired one, which is there
+//! for its times, against the original. Passed over, with a line that says so, where the Rust files are not to be had.
 mod support;
 
-use support::oracle::{self, Depth, Oracle, RustOperation, RustSaid};
+use std::fs;
+use std::path::{Path, PathBuf};
+use std::process::Command;
+
+use support::oracle::{self, Depth, Oracle, Program, RustOperation, RustSaid};
+use support::{edges, fixed, texts};
 
 fn ask(depth: Depth, texts: &[&str]) -> Option<Vec<RustSaid>> {
     let texts: Vec<Vec<u8>> = texts.iter().map(|text| text.as_bytes().to_vec()).collect();
@@ -86,6 +91,71 @@ fn an_accepted_text_has_every_field() {
 
 #[test]
 fn a_text_is_timed() {
-    let Some((read, check)) = oracle::time(b"@f { nop; }") else { return };
-    assert!(read > 0 && check > 0, "{read} and {check} nanoseconds");
+    for program in [Program::Original, Program::Repaired] {
+        let Some((read, check)) = oracle::time(program, b"@f { nop; }") else { return };
+        assert!(read > 0 && check > 0, "{program:?}: {read} and {check} nanoseconds");
+    }
+}
+
+// ---- the repaired one --------------------------------------------------------------------------------------------------
+
+/// How many generated texts are answered by both.
+const TEXTS: u64 = 2_000;
+
+/// What is timed beside the original answers as the original does, in every field: read, the edges of every rule and limit;
+/// checked, the fixed texts; and generated ones.
+#[test]
+fn the_repaired_program_answers_as_the_original() {
+    let fixed = fixed::all().into_iter().map(|(_, text)| text).collect();
+    let kinds = [(Depth::Read, [edges::edges(), edges::limits()].concat()), (Depth::Check, fixed)];
+    for (depth, mut texts) in kinds {
+        texts.extend(texts::generated(depth, 1, 0..TEXTS));
+        let Some(mut original) = Oracle::start(depth) else { return };
+        let mut repaired = Oracle::start_timed(Program::Repaired, depth).expect("the files are there");
+        let answers = original.ask(&texts).into_iter().zip(repaired.ask(&texts));
+        for ((original, repaired), text) in answers.zip(&texts) {
+            assert!(original == repaired, "{depth:?}, {}:\n{original:?}\n{repaired:?}", text.escape_ascii());
+        }
+    }
+}
+
+/// The edit that repairs it finds its two places, each exactly once, or nothing is built.
+#[test]
+fn what_cannot_be_repaired_is_not_built() {
+    let Some(source) = rust_files() else { return };
+    let look = "chars().nth(self.current)";
+    let lexer = fs::read_to_string(source.join(LEXER)).expect("the lexer");
+    let lexers = [
+        (lexer.replacen(look, "chars().nth(self.start)", 1), "stands 0 times"),
+        (lexer.replacen(&format!("{look} =="), "chars().next() ==", 1), "stands 0 times"),
+        (format!("{lexer}// {look}.map_or\n"), "stands 2 times"),
+        (format!("{lexer}// chars()\n"), "something else counts characters"),
+    ];
+    for (number, (text, says)) in lexers.iter().enumerate() {
+        let folder = Path::new(env!("CARGO_TARGET_TMPDIR")).join(format!("unrepaired-{number}"));
+        let copy = folder.join("src");
+        for file in ["utils/src/lib.rs", "analysis/src/cfg.rs", "bril-lib/src/ir.rs", "bril-lib/src/parser.rs", LEXER] {
+            fs::create_dir_all(copy.join(file).parent().expect("a folder")).expect("a folder");
+            let text =
+                if file == LEXER { text.clone().into_bytes() } else { fs::read(source.join(file)).expect("a file") };
+            fs::write(copy.join(file), text).expect("a file");
+        }
+        let mut script = Command::new(oracle::script());
+        let script = script.args(["--timed", "--repaired"]).arg(folder.join("build")).env("PITCHSLEET_RUST_SRC", copy);
+        let ended = script.output().expect("oracle/build.sh runs");
+        let said = String::from_utf8_lossy(&ended.stderr);
+        assert!(!ended.status.success() && ended.stdout.is_empty(), "it was built: {said}");
+        assert!(said.contains(says), "{says}: {said}");
+        fs::remove_dir_all(folder).expect("the copy goes");
+    }
+}
+
+const LEXER: &str = "bril-lib/src/lexer.rs";
+
+/// The folder of the Rust files, as oracle/build.sh finds it.
+fn rust_files() -> Option<PathBuf> {
+    let root = Path::new(env!("CARGO_MANIFEST_DIR")).join("..");
+    let named = std::env::var_os("PITCHSLEET_RUST_SRC").filter(|name| !name.is_empty());
+    let folder = root.join(named.unwrap_or_else(|| "../shared/docs/src".into()));
+    folder.is_dir().then_some(folder)
 }

@@ -11,7 +11,7 @@ use support::records::Cells;
 
 /// What check writes for a text that is accepted.
 fn accepted(text: &str) -> Written<'_> {
-    let written = Written::by_check(&mut Lent::new(), text.as_bytes());
+    let written = Written::by_check(&mut Lent::new(), text.as_bytes()).unwrap_or_else(|why| panic!("{text}: {why}"));
     assert_eq!(written.answer.number, 0, "refused: {text}");
     written
 }

@@ -21,13 +21,13 @@ pub struct Written<'t> {
 }
 
 impl<'t> Written<'t> {
-    pub fn by_check(lent: &mut Lent, text: &'t [u8]) -> Self {
-        Self::new(text, lent.check(text))
+    pub fn by_check(lent: &mut Lent, text: &'t [u8]) -> Result<Self, String> {
+        Ok(Self::new(text, lent.check(text)?))
     }
 
     /// What recheck writes for a new text in the place of a function of this one.
-    fn by_recheck<'n>(&self, lent: &mut Lent, number: usize, new: &'n [u8]) -> Written<'n> {
-        Written::new(new, lent.recheck(self.text, &self.table, number as u32, new))
+    fn by_recheck<'n>(&self, lent: &mut Lent, number: usize, new: &'n [u8]) -> Result<Written<'n>, String> {
+        Ok(Written::new(new, lent.recheck(self.text, &self.table, number as u32, new)?))
     }
 
     fn new(text: &'t [u8], (answer, out): (CheckAnswer, &[u8])) -> Self {
@@ -77,15 +77,15 @@ pub struct Held {
 /// replaced function must give what check gave for it, whatever the new one is.
 pub fn hold_to_demand_3(lent: &mut Lent, edit: &Edit) -> Result<Held, String> {
     let Edit { old, number, new, .. } = edit;
-    let before = Written::by_check(lent, old);
+    let before = Written::by_check(lent, old)?;
     if *number >= before.functions() {
         return Err(format!("the old text is {}, with {} functions", before.verdict(), before.functions()));
     }
     replaced_as_before(lent, &before, *number)?;
     let Range { start, end } = before.bytes_of(*number);
     let edited = [&old[..start], new, &old[end..]].concat();
-    let alone = before.by_recheck(lent, *number, new);
-    let fresh = Written::by_check(lent, &edited);
+    let alone = before.by_recheck(lent, *number, new)?;
+    let fresh = Written::by_check(lent, &edited)?;
     let fails = fails(alone.verdict(), fresh.verdict())?;
     if fails.is_none() {
         same_answers(&before, &alone, &fresh, start)?;
@@ -99,7 +99,7 @@ pub fn hold_to_demand_3(lent: &mut Lent, edit: &Edit) -> Result<Held, String> {
 
 /// A function in its own place: accepted, and read as check has read it.
 fn replaced_as_before(lent: &mut Lent, before: &Written<'_>, number: usize) -> Result<(), String> {
-    let again = before.by_recheck(lent, number, &before.text[before.bytes_of(number)]);
+    let again = before.by_recheck(lent, number, &before.text[before.bytes_of(number)])?;
     if again.functions() != 1 {
         return Err(format!("recheck says of the replaced function itself: {}", again.verdict()));
     }

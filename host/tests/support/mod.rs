@@ -17,6 +17,7 @@ pub mod fixed;
 pub mod fixed_reads;
 pub mod grammar;
 pub mod json;
+pub mod lent_cells;
 pub mod model;
 pub mod oracle;
 pub mod programs;

@@ -14,6 +14,16 @@ pub enum Depth {
     Check,
 }
 
+/// Which program is asked.
+#[derive(Clone, Copy, Debug, PartialEq, Eq)]
+pub enum Program {
+    /// The Rust original, unchanged.
+    Original,
+    /// The same, but for the lexer's look at a character, which doesn't count from the text's first one: for times, and
+    /// built for them.
+    Repaired,
+}
+
 /// What the Rust says of a text. It knows no numbers and no places.
 #[derive(Debug, PartialEq, Eq)]
 pub enum RustSaid {
@@ -79,7 +89,17 @@ pub struct Oracle {
 impl Oracle {
     /// The process; none where the Rust files are not to be had, of which the build has said so.
     pub fn start(depth: Depth) -> Option<Self> {
-        let mut process = Command::new(program()?)
+        static ORIGINAL: OnceLock<Option<PathBuf>> = OnceLock::new();
+        Some(Self::run(ORIGINAL.get_or_init(|| build(&[])).as_deref()?, depth))
+    }
+
+    /// The same of the program that is timed.
+    pub fn start_timed(program: Program, depth: Depth) -> Option<Self> {
+        Some(Self::run(timed(program)?, depth))
+    }
+
+    fn run(program: &Path, depth: Depth) -> Self {
+        let mut process = Command::new(program)
             .args((depth == Depth::Read).then_some("--read"))
             .stdin(Stdio::piped())
             .stdout(Stdio::piped())
@@ -87,7 +107,7 @@ impl Oracle {
             .expect("the oracle runs");
         let input = process.stdin.take();
         let output = BufReader::new(process.stdout.take().expect("it is piped"));
-        Some(Self { process, input, output })
+        Self { process, input, output }
     }
 
     /// The answers to texts, in their order.
@@ -208,10 +228,8 @@ fn token(token: &Json) -> RustToken {
 
 /// How long the Rust takes for a text that is read, and for one that is checked, in nanoseconds; none where the Rust files
 /// are not to be had.
-pub fn time(text: &[u8]) -> Option<(u64, u64)> {
-    static TIMED: OnceLock<Option<PathBuf>> = OnceLock::new();
-    let program = TIMED.get_or_init(|| build(&["--timed"])).as_deref()?;
-    let mut process = Command::new(program)
+pub fn time(program: Program, text: &[u8]) -> Option<(u64, u64)> {
+    let mut process = Command::new(timed(program)?)
         .arg("--time")
         .stdin(Stdio::piped())
         .stdout(Stdio::piped())
@@ -224,15 +242,24 @@ pub fn time(text: &[u8]) -> Option<(u64, u64)> {
     Some((nanoseconds("read_ns"), nanoseconds("check_ns")))
 }
 
-/// The program, built by oracle/build.sh once in a run of tests.
-fn program() -> Option<&'static Path> {
-    static PROGRAM: OnceLock<Option<PathBuf>> = OnceLock::new();
-    PROGRAM.get_or_init(|| build(&[])).as_deref()
+/// A program as it is timed, built by oracle/build.sh once in a run of tests.
+fn timed(program: Program) -> Option<&'static Path> {
+    static ORIGINAL: OnceLock<Option<PathBuf>> = OnceLock::new();
+    static REPAIRED: OnceLock<Option<PathBuf>> = OnceLock::new();
+    let built = match program {
+        Program::Original => ORIGINAL.get_or_init(|| build(&["--timed"])),
+        Program::Repaired => REPAIRED.get_or_init(|| build(&["--timed", "--repaired"])),
+    };
+    built.as_deref()
+}
+
+/// The script that builds them.
+pub fn script() -> PathBuf {
+    Path::new(env!("CARGO_MANIFEST_DIR")).join("../oracle/build.sh")
 }
 
 fn build(words: &[&str]) -> Option<PathBuf> {
-    let script = Path::new(env!("CARGO_MANIFEST_DIR")).join("../oracle/build.sh");
-    let built = Command::new(script).args(words).stderr(Stdio::inherit()).output().expect("oracle/build.sh runs");
+    let built = Command::new(script()).args(words).stderr(Stdio::inherit()).output().expect("oracle/build.sh runs");
     assert!(built.status.success(), "oracle/build.sh failed");
     let path = String::from_utf8(built.stdout).expect("a path");
     let path = path.trim_end();
