@@ -14,9 +14,10 @@ use crate::unit::Unit;
 
 /// Reads, checks and rechecks texts, one after the other, in buffers of its own.
 ///
-/// The buffers are taken once, by [`Reader::new`]: 252,228 bytes for the records and 512 for a message. No call of
-/// [`Reader::read`], [`Reader::check`] or [`Reader::recheck`] allocates: the room that they need is on the stack, less
-/// than 76 KiB for a reading, less than 264 KiB for a check, less than 284 KiB for a recheck.
+/// The buffers are taken once, by [`Reader::new`]: 252,228 bytes for the records and 512 for a message. They are lent to
+/// the proved functions, which write their cells there and nowhere else. No call of [`Reader::read`], [`Reader::check`] or
+/// [`Reader::recheck`] allocates: the room that they need beside is on the stack, less than 4 KiB for a reading, less than
+/// 16 KiB for a check, less than 28 KiB for a recheck.
 ///
 /// ```
 /// use pitchsleet::Reader;

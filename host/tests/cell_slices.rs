@@ -328,6 +328,32 @@ fn a_refusal_leaves_the_records_zero() {
     }
 }
 
+/// The stack that a call takes at most, as `Reader`'s documentation says, with what the thread itself needs.
+#[test]
+fn stack_of_a_call() {
+    let many = |count: usize, each: &dyn Fn(usize) -> String| (0..count).map(each).collect::<String>();
+    let functions = many(64, &|i| format!("@f{i}(a: int) {{ nop; }}\n"));
+    let mut lent = exact();
+    assert_eq!(lent.check(functions.as_bytes()).number, 0);
+    let table = lent.slices[2].clone();
+    let loops = many(255, &|i| format!(".l{i}: br q .l{} .l{};", (i + 1) % 255, i / 2));
+    let calls = many(64, &|i| format!("call @f{i} a;"));
+    let bodies = [loops, calls, "ret x;".to_owned(), "$".to_owned(), many(16_000, &|_| "\n".to_owned())];
+    for text in bodies.map(|body| format!("@f63(a: int) {{ {body} }}").into_bytes()) {
+        let (functions, table) = (functions.clone().into_bytes(), table.clone());
+        runs_in(4, text.clone(), |lent, text| lent.read(text).number);
+        runs_in(16, text.clone(), |lent, text| lent.check(text).number);
+        runs_in(28, text, move |lent, text| lent.recheck(&functions, &table, 63, text).number);
+    }
+}
+
+fn runs_in(kibibytes: usize, text: Vec<u8>, call: impl FnOnce(&mut LentCells, &[u8]) -> u32 + Send + 'static) {
+    let mut lent = exact();
+    let thread = std::thread::Builder::new().stack_size((kibibytes + 8) * 1024);
+    let number = thread.spawn(move || call(&mut lent, &text)).expect("a thread").join().expect("no panic");
+    assert_ne!(number, 30);
+}
+
 fn only_a_refusal(answer: CheckAnswer, expected: u32) {
     let CheckAnswer { number, line, place, .. } = answer;
     assert_eq!(answer, CheckAnswer { number, line, place, ..CheckAnswer::default() });

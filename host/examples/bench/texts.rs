@@ -1,6 +1,7 @@
 //! The texts of the benchmark.
 use std::fmt::Write;
 
+use pitchsleet::Reader;
 use pitchsleet::raw::{NAMES, TEXT_BYTES, TOKENS};
 
 use crate::table::grouped;
@@ -158,20 +159,14 @@ fn call_last(count: usize, length: usize, differ: Differ) -> Vec<u8> {
 
 /// A function that goes on with an operation of so many tokens as long as there is room for it.
 fn filled(mut text: String, tokens: usize, operation: &str) -> Vec<u8> {
-    // The closing brace and the end token are still to come.
-    let mut count = pieces(&text) + 2;
+    // The end token is counted; the closing brace is still to come.
+    let mut count = Reader::new().read(text.as_bytes()).expect("inside the limits").len() + 1;
     while count + tokens <= TOKENS && text.len() + operation.len() < TEXT_BYTES {
         text.push_str(operation);
         count += tokens;
     }
     text.push('}');
     text.into_bytes()
-}
-
-/// How many tokens these texts have: words, and signs.
-fn pieces(text: &str) -> usize {
-    let words = text.split(|c: char| !c.is_ascii_alphanumeric() && !matches!(c, '@' | '_'));
-    words.filter(|word| !word.is_empty()).count() + text.matches(['{', '}', '(', ')', ':', ';', ',', '=']).count()
 }
 
 /// A name with a number, of at least three bytes. No word begins with its letter.
