@@ -432,7 +432,8 @@ pub struct Slices<'a> {
 /// Reads a text into records, as cells, and a message: the same as [`read`], without a copy.
 ///
 /// `tokens` needs [`TOKENS_CELLS`], `names` [`NAMES_CELLS`] and `message` [`MESSAGE_BYTES`]; where one is shorter the
-/// answer's number is 30 and nothing is written. What is longer is filled with zeros. The call allocates nothing.
+/// answer's number is 30 and nothing is written. What is longer is filled with zeros. The call allocates nothing and takes
+/// less than 4 KiB of stack.
 ///
 /// ```
 /// use pitchsleet::raw;
@@ -468,7 +469,7 @@ pub fn read_cells(text: &[u8], tokens: &mut [u32], names: &mut [u32], message: &
 /// as [`check`], without a copy.
 ///
 /// `message` needs [`MESSAGE_BYTES`], and each of the slices its size; where one is shorter the answer's number is 30 and
-/// nothing is written. What is longer is filled with zeros. The call allocates nothing.
+/// nothing is written. What is longer is filled with zeros. The call allocates nothing and takes less than 16 KiB of stack.
 ///
 /// ```
 /// use pitchsleet::raw;
@@ -520,7 +521,7 @@ pub fn check_cells(text: &[u8], slices: Slices<'_>, message: &mut [u8]) -> Check
 ///
 /// `table` is what [`check_cells`] wrote for the old text to its `functions`: [`TABLE_CELLS`]. A shorter one is refused
 /// with 42, and so is one with a cell out of the ranges that docs/INTERFACE.md gives; of a longer one no more is read. The
-/// slices and `message` are as for [`check_cells`]. The call allocates nothing.
+/// slices and `message` are as for [`check_cells`]. The call allocates nothing and takes less than 28 KiB of stack.
 ///
 /// ```
 /// use pitchsleet::{Reader, raw};

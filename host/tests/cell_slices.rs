@@ -184,6 +184,14 @@ const SHORT: CheckAnswer = CheckAnswer {
     predecessors: 0,
 };
 
+/// The crate's sizes are those that the tests have from the document.
+#[test]
+fn sizes_of_the_slices() {
+    assert_eq!(SIZES, support::records::SIZES);
+    assert_eq!(SIZES.iter().sum::<usize>() * raw::CELL_BYTES, raw::CHECK_OUT_BYTES);
+    assert_eq!(TABLE_CELLS * raw::CELL_BYTES, raw::TABLE_BYTES);
+}
+
 #[test]
 fn read_with_slices_of_each_length() {
     let texts: Vec<_> = texts().into_iter().map(|(text, _, number)| (text, number)).collect();

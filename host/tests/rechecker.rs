@@ -1,6 +1,10 @@
 //! The safe interface of rechecking: headers, spans, and what `Reader::recheck` gives for new functions, one after the
 //! other.
-use pitchsleet::{Headers, OperationValue, Reader, Refusal, Type};
+mod support;
+
+use pitchsleet::{Headers, OperationValue, Reader, Refusal, Type, raw};
+use support::lent_cells::LentCells;
+use support::records::SIZES;
 
 /// Four functions of four types, with comments between and within. The last two stand on lines 3 and 5 of the file,
 /// which are counted as 2 and 4, since the comment behind `@v` runs through a newline.
@@ -60,6 +64,20 @@ fn headers_are_a_value_of_their_own() {
 }
 
 /// Of functions with one name the first is found, as a call would.
+/// The table is what both C functions wrote, as cells and as bytes.
+#[test]
+fn the_table_is_what_check_wrote() {
+    for text in [OLD, "", "@f { nop; }"] {
+        let headers = headers_of(text);
+        let (mut out, mut message) = (vec![1; raw::CHECK_OUT_BYTES], [1; raw::MESSAGE_BYTES]);
+        assert_eq!(raw::check(text.as_bytes(), &mut out, &mut message).number, 0);
+        assert!(headers.table() == out[raw::FUNCTIONS_OFFSET..][..raw::TABLE_BYTES]);
+        let mut lent = LentCells::new(SIZES, raw::MESSAGE_BYTES);
+        assert_eq!(lent.check(text.as_bytes()).number, 0);
+        assert!(headers.table_cells()[..] == lent.slices[2]);
+    }
+}
+
 #[test]
 fn the_first_of_a_name_is_found() {
     let headers = headers_of("@a { nop; } @f { nop; } @g { nop; } @f { ret; }");
