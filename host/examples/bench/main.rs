@@ -32,7 +32,7 @@ const LASTS: Duration = Duration::from_millis(1000);
 const ROUNDS: u32 = 5;
 
 /// And for so long where the worst of many texts is looked for.
-const LOOKS: Duration = Duration::from_millis(50);
+const LOOKS: Duration = Duration::from_millis(30);
 
 // The aims. All but the last but one speak of ordinary rules.
 

@@ -100,61 +100,84 @@ fn rule(number: usize) -> String {
 
 // ---- the worst ---------------------------------------------------------------------------------------------------------
 
-/// Where names of one length differ from each other.
+/// Names of one length, which differ in two bytes, and then one of them again and again.
 #[derive(Clone, Copy)]
-enum Differ {
-    AtTheEnd,
-    InFront,
+struct Names {
+    count: usize,
+    length: usize,
+    /// Whether they differ in their last bytes, or behind the letter that they begin with.
+    differ_last: bool,
+    /// Whether it is the last one that comes again, or the first.
+    again_last: bool,
 }
 
-const DIFFER: [(Differ, &str); 2] = [(Differ::AtTheEnd, "last"), (Differ::InFront, "first")];
+impl Names {
+    /// So many names of this length, of each kind.
+    fn of(count: usize, length: usize) -> impl Iterator<Item = Self> {
+        let kinds = [(true, true), (true, false), (false, true), (false, false)];
+        kinds.into_iter().map(move |(differ_last, again_last)| Self { count, length, differ_last, again_last })
+    }
 
-/// Texts that are full of names of one length, which differ in two bytes: one of these may be the worst that is accepted.
+    /// The name with a number. No word begins with its letter.
+    fn spelled(&self, number: usize) -> String {
+        const LETTERS: &[u8] = b"abcdefghijklmnopqrstuvwxyzABCDEFGHIJKLMNOPQRSTUVWXYZ0123456789_";
+        let two = [number / LETTERS.len(), number % LETTERS.len()].map(|at| char::from(LETTERS[at]));
+        let two: String = two.iter().collect();
+        let rest = "v".repeat(self.length - 3);
+        if self.differ_last { format!("v{rest}{two}") } else { format!("v{two}{rest}") }
+    }
+
+    /// The one that comes again and again.
+    fn again(&self) -> String {
+        self.spelled(if self.again_last { self.count - 1 } else { 0 })
+    }
+
+    fn titled(&self, word: &str) -> String {
+        let which = |is_last: bool| if is_last { "last" } else { "first" };
+        let (differ, again) = (which(self.differ_last), which(self.again_last));
+        let count = grouped(self.count as u64);
+        format!("{count} names of {}, {differ} 2 bytes differ, the {again} again, {word}", self.length)
+    }
+
+    /// Names alone, one after the other, in a text that is full of them. A check refuses it, once it is read.
+    fn alone(self) -> Text {
+        let words = (TEXT_BYTES / (self.length + 1)).min(TOKENS - 1);
+        let again = (self.count..words).map(|_| self.again());
+        let names: Vec<String> = (0..self.count).map(|number| self.spelled(number)).chain(again).collect();
+        Text::new(self.titled("alone"), names.join(" ").into_bytes(), 0, 7)
+    }
+
+    /// The names are printed, and then one again, as often as there is room for.
+    fn printed(self) -> Text {
+        let print = |name: String| format!("print {name};");
+        let names: String = (0..self.count).map(|number| print(self.spelled(number))).collect();
+        Text::new(self.titled("printed"), filled(format!("@f{{{names}"), 3, &print(self.again())), 0, 0)
+    }
+
+    /// The names are formals, printed and one set, and then one is handed over, sixteen times a call, as often as there is
+    /// room for.
+    fn called(self) -> Text {
+        let last = self.count - 1;
+        let formals: Vec<String> = (0..16).map(|number| format!("{}:int", self.spelled(number))).collect();
+        let names: String = (16..last).map(|number| format!("print {};", self.spelled(number))).collect();
+        let front = format!("@f({}){{{names}{}:int=const 1;", formals.join(","), self.spelled(last));
+        let arguments = format!(" {}", self.again()).repeat(16);
+        Text::new(self.titled("called"), filled(front, 19, &format!("call @f{arguments};")), 0, 0)
+    }
+}
+
+/// Texts of which one may be the worst that is accepted.
 pub fn full_of_names() -> impl Iterator<Item = Text> {
     let room = TEXT_BYTES - "@f{}".len();
     let printed = (5..16).map(move |length| ((room / (length + "print ;".len())).min(NAMES - 1), length));
     let called = (3..10).flat_map(|length| [450, 550, 650, 700, 750, 800, 850, 900].map(|count| (count, length)));
-    let printed = printed.map(|of| (of, print_all as Make, "printed"));
-    let called = called.map(|of| (of, call_last as Make, "called"));
-    printed.chain(called).flat_map(|((count, length), make, word)| {
-        DIFFER.map(|differ| Text::new(title(count, length, differ.1, word), make(count, length, differ.0), 0, 0))
-    })
+    let printed = printed.flat_map(|(count, length)| Names::of(count, length)).map(Names::printed);
+    printed.chain(called.flat_map(|(count, length)| Names::of(count, length)).map(Names::called))
 }
 
-type Make = fn(usize, usize, Differ) -> Vec<u8>;
-
-/// Names alone, one after the other, in a text that is full of them: one of these may be the worst that is read. A check
-/// refuses them, once they are read.
+/// Texts of which one may be the worst that is read.
 pub fn names_alone() -> impl Iterator<Item = Text> {
-    (3..16).flat_map(|length| {
-        DIFFER.map(|(differ, which)| {
-            let words = (TEXT_BYTES / (length + 1)).min(TOKENS - 1);
-            let names = (0..words).map(|number| spelled(number.min(NAMES - 1), length, differ) + " ");
-            Text::new(title(NAMES, length, which, "alone"), names.collect::<String>().into_bytes(), 0, 7)
-        })
-    })
-}
-
-fn title(count: usize, length: usize, which: &str, word: &str) -> String {
-    format!("{} names of {length} bytes, the {which} 2 differ, {word}", grouped(count as u64))
-}
-
-/// Some names are printed, and then the last one, as often as there is room for.
-fn print_all(count: usize, length: usize, differ: Differ) -> Vec<u8> {
-    let print = |number: usize| format!("print {};", spelled(number, length, differ));
-    let names: String = (0..count).map(print).collect();
-    filled(format!("@f{{{names}"), 3, &print(count - 1))
-}
-
-/// Some names are printed, all but those of the formals, and then the last one is handed over, sixteen times a call, as
-/// often as there is room for.
-fn call_last(count: usize, length: usize, differ: Differ) -> Vec<u8> {
-    let name = |number: usize| spelled(number, length, differ);
-    let formals: Vec<String> = (0..16).map(|number| format!("{}:int", name(number))).collect();
-    let names: String = (16..count - 1).map(|number| format!("print {};", name(number))).collect();
-    let last = name(count - 1);
-    let arguments = format!(" {last}").repeat(16);
-    filled(format!("@f({}){{{names}{last}:int=const 1;", formals.join(",")), 19, &format!("call @f{arguments};"))
+    (3..16).flat_map(|length| Names::of(NAMES, length)).map(Names::alone)
 }
 
 /// A function that goes on with an operation of so many tokens as long as there is room for it.
@@ -167,16 +190,4 @@ fn filled(mut text: String, tokens: usize, operation: &str) -> Vec<u8> {
     }
     text.push('}');
     text.into_bytes()
-}
-
-/// A name with a number, of at least three bytes. No word begins with its letter.
-fn spelled(number: usize, length: usize, differ: Differ) -> String {
-    const LETTERS: &[u8] = b"abcdefghijklmnopqrstuvwxyzABCDEFGHIJKLMNOPQRSTUVWXYZ0123456789_";
-    let two: String =
-        [number / LETTERS.len(), number % LETTERS.len()].map(|at| char::from(LETTERS[at])).iter().collect();
-    let rest = "v".repeat(length - 3);
-    match differ {
-        Differ::AtTheEnd => format!("v{rest}{two}"),
-        Differ::InFront => format!("v{two}{rest}"),
-    }
 }
