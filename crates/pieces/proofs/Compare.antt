@@ -1,4 +1,4 @@
--- Bytes compared one after the other: one byte more, the end, and lists of two lengths. Parts by length and by ends.
+-- Bytes compared from the back: one byte more, none left, and lists of two lengths. Parts by length and by ends.
 use Prim.Native.Nat.{ℕ, zero, suc, _+_, _-_, _≤_, _<_}
 use mathlib.Core.Path.{_≡_, refl, sym, ap, _∙_}
 use mathlib.Core.List.{List, [], _∷_, _++_}
@@ -86,7 +86,7 @@ pub same-part : (a b : List ℕ) (i m j n : ℕ) {q : Bool} → m ≡ n
     → q ≡ sameBytes (slice i (i + n) a) (slice j (j + n) b) → q ≡ sameBytes (slice i (i + m) a) (slice j (j + n) b)
 same-part a b i m j n e h = rw e h
 
--- two whole lists as parts of themselves
+-- two lists, each as a part of itself
 pub same-whole : (x y : List ℕ) {q : Bool} → length x ≡ length y
     → q ≡ sameBytes (slice 0 (0 + length y) x) (slice 0 (0 + length y) y) → q ≡ sameBytes x y
 same-whole x y e h = rw (zero-add, take-all (length y) x (omega (arith, e)), take-length y) at h

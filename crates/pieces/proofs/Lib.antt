@@ -6,7 +6,7 @@ pub mod Picked
 pub mod Digits
 -- a number counted no higher than 2147483649 gives the same answers
 pub mod Capping
--- bytes compared one after the other
+-- bytes compared, from the back
 pub mod Compare
 -- the 25 words by their lengths and first letters
 pub mod Words

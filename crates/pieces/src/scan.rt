@@ -56,6 +56,8 @@ fn is_name_part(b: u8) -> bool
     b == b'_'
 }
 
+const LAST_ASCII: u8 = 127;
+
 fn larger(a: u8, b: u8) -> u8
     ensures { λ r. ⌜ r ≡ pick (ltb a b) b a ⌝ }
 {
@@ -75,7 +77,7 @@ pub fn is_ascii(text: &[u8]) -> bool
         most = larger(most, text[i]);
         i += 1;
     }
-    most <= 127
+    most <= LAST_ASCII
 }
 
 // The byte at a place, or 0 past the end, as in the Rust.
