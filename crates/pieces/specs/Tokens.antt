@@ -1,11 +1,9 @@
 -- Token values with the Rust's names, the kind that a token's cell holds for each, the 25 words and the eight tokens of
 -- one byte.
-use Prim.Native.Nat.{ℕ, zero, suc, _+_, _*_}
+use Prim.Native.Nat.{ℕ}
 use mathlib.Core.List.{List, [], _∷_}
 use mathlib.Core.Bool.{Bool, true, false}
-use lib.Dec.{eqb, leb}
-use lib.ListN.{getD}
-use lib.Seq.{slice}
+use lib.Dec.{eqb}
 use Prim.Native.String.{String}
 use Rattle.utils.specs.Bytes.{pick, bytes, sameBytes}
 use Rattle.pieces.specs.declared.TokenValue.{TokenValue}
@@ -191,24 +189,6 @@ wordIn (w ∷ ws) s = let more = wordIn ws s in pick (sameBytes (w .spelling) s)
 -- The value of a word of the language, or nothing: then the letters are a local's name.
 abbrev pub keyword : List ℕ → OptionValue
 keyword s = wordIn words s
-
--- The code keeps the words in rows of seven bytes: kind, length, and five for the letters. `rowsFrom n k t`: n rows
--- from row k on. That the rows are `words` is the law `keywords-are-words`.
-abbrev pub rowAt : List ℕ → ℕ → Word
-rowAt t k =
-    record {
-      spelling = slice (k * 7 + 2) (k * 7 + 2 + getD t (k * 7 + 1) 0) t;
-      value = valueOf (getD t (k * 7) 0) 0;
-    }
-
-unfoldable pub rowsFrom : ℕ → ℕ → List ℕ → List Word
-rowsFrom zero k t = []
-rowsFrom (suc n) k t = rowAt t k ∷ rowsFrom n (k + 1) t
-
--- no word is longer than its room
-unfoldable pub rowsFit : ℕ → ℕ → List ℕ → Bool
-rowsFit zero k t = true
-rowsFit (suc n) k t = let more = rowsFit n (k + 1) t in pick (leb (getD t (k * 7 + 1) 0) 5) more false
 
 -- The tokens of one byte.
 unfoldable pub symbol : ℕ → OptionValue

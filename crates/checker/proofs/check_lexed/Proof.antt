@@ -8,7 +8,6 @@ use borrow.Author.Needs.{needs}
 use Rattle.lexer.specs.Decoded.{tokensOf}
 use Rattle.body.specs.Room.{Within}
 use Rattle.messages.specs.Messages.{ShortNames}
-use Rattle.functions.specs.Answer.{slices}
 use Rattle.unit.specs.Outcome.{Counted}
 use Rattle.checker.proofs.Ends.{ends-accepted, ends-refused}
 use Rattle.checker.proofs.Lexed.{tokens-few, names-few, used-tokens, used-names, within, short}

@@ -1,6 +1,5 @@
 -- Each slice is cleared behind its count, and the message where there is none.
-use mathlib.Core.Path.{_≡_, ap, _∙_}
-use mathlib.Core.List.{List}
+use mathlib.Core.Path.{ap, _∙_}
 use Prim.Native.Nat.{ℕ}
 use lib.ListN.{length, take}
 use denote.Ref.{now}

@@ -1,8 +1,7 @@
 -- The loop's state is `Lexing`; proofs/Turns.antt says what each answer of next_token makes of it.
 use borrow.Author.Needs.{needs}
 use native.Mathlib.Omega.{arith}
-use Prim.Native.Nat.{_-_, _≤_}
-use mathlib.Core.Path.{refl}
+use Prim.Native.Nat.{_-_}
 use lib.ListN.{length}
 use denote.Ref.{now}
 use Rattle.lexer.proofs.Turns.{Lexing, start, ready, tokens-room, tokens-long, names-long, skipped, skipped-less}

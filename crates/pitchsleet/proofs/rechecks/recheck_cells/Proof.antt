@@ -1,6 +1,5 @@
 -- Arrays of exactly these sizes have room for a recheck, and the bytes of the cells that it counts are `bytesOf` it
 -- (`out-of`).
-use Rattle.functions.specs.Answer.{slices}
 use Rattle.recheck.specs.Recheck.{recheckOf}
 use Rattle.recheck.proofs.Numbers.{silent}
 use Rattle.pitchsleet.proofs.Checks.{out-of, sizes-reached}
