@@ -475,7 +475,7 @@ fn last_function_s_first_item(text: &str) -> Vec<u32> {
 #[test]
 fn parameters_of_the_functions() {
     let declared: Vec<&str> = RAW.split("    fn pitchsleet_").skip(1).collect();
-    assert!(declared.len() >= 3, "read, check and recheck");
+    assert_eq!(declared.len(), 6, "read, check and recheck, on bytes and on cells");
     for declaration in declared {
         let name = declaration.split('(').next().expect("a split has a first part");
         let of_document = declarations_of_document();

@@ -46,7 +46,8 @@ module _ {line : ℕ} {text t n : List ℕ} {r : ReadAnswer} (v : Lexed line tex
 
   -- an acceptance, with so many records and these slices
   pub accepted-as : (k k′ : Counts) (u w : Slices) → k ≡ k′ → fronts k′ u ≡ w
-      → ChecksInto (checking (accepted (read .answer .tokens) (read .answer .names) k′) [] (read .tokens) (read .names) w)
+      → ChecksInto
+      (checking (accepted (read .answer .tokens) (read .answer .names) k′) [] (read .tokens) (read .names) w)
       m₀ (accepted (r .tokens) (r .names) k) m t n u
   unfolding pick
   accepted-as k k′ u w e q =

@@ -1,5 +1,5 @@
--- What is stored one function behind the other is the list form (crates/functions/specs/Laid.antt), over what the slices
--- held before.
+-- What is stored one function behind the other is the list form (crates/functions/specs/Laid.antt), over what the
+-- slices held before.
 use Prim.Native.Nat.{ℕ, _+_, _*_, _-_, _≤_}
 use mathlib.Core.Path.{_≡_, refl, sym, ap, _∙_}
 use mathlib.Core.List.{List, [], _∷_, _++_, append-assoc, append-nil}

@@ -92,8 +92,8 @@ Held (Outcome.done ts ns) t₀ n₀ t n = (t ≡ over t₀ (tokensCells ts)) × 
 Held (Outcome.refused r) t₀ n₀ t n = Unit
 Held Outcome.cut t₀ n₀ t n = Unit
 
--- A reading before the rest of each slice is cleared: the cells that the answer counts stand in front. A refusal has its
--- message; an acceptance has none, and the message's slice is not yet cleared.
+-- A reading before the rest of each slice is cleared: the cells that the answer counts stand in front. A refusal has
+-- its message; an acceptance has none, and the message's slice is not yet cleared.
 pub record ReadsInto (o : Reading) (m₀ : List ℕ) (r : ReadAnswer) (t n m : List ℕ) : Type 0 where
   pub answer : r ≡ o .answer
   pub tokens : take (r .tokens * tokenWidth) t ≡ o .tokens

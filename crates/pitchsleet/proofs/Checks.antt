@@ -128,8 +128,8 @@ sizes-reached m t n f i a b p z h =
 pub out-of : (x : Checking) → (x .answer .number ≡ 0 → x .message ≡ []) → (t n f i a b p : List ℕ)
     → Sizes t n (slices f i a b p) → (r : CheckAnswer) (m₀ m m′ o₀ o : List ℕ)
     → ChecksInto x m₀ r m t n (slices f i a b p) → length m ≡ length m₀
-    → o ≡ padTo (length o₀) (frontBytes r t n (slices f i a b p)) → m′ ≡ pick (eqb (r .number) 0) (padTo (length m) []) m
-    → export r o m′ ≡ exported o₀ m₀ x
+    → o ≡ padTo (length o₀) (frontBytes r t n (slices f i a b p))
+    → m′ ≡ pick (eqb (r .number) 0) (padTo (length m) []) m → export r o m′ ≡ exported o₀ m₀ x
 out-of x silent t n f i a b p z r m₀ m m′ o₀ o h lm d g =
     let number = ap (λ (y : CheckAnswer). y .number) (h .answer) in
     let message =

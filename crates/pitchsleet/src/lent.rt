@@ -1,5 +1,5 @@
-// The C functions on lent cells: what `lexer::read`, `checker::check` and `recheck::recheck` promise, for a host that keeps
-// slices of cells. Nothing is copied.
+// The C functions on lent cells: what `lexer::read`, `checker::check` and `recheck::recheck` promise, for a host that
+// keeps slices of cells. Nothing is copied.
 ghost use Rattle.functions.specs.Answer.{slices};
 ghost use Rattle.lexer.specs.Read.{Reads};
 ghost use Rattle.checker.specs.Promise.{Checks};

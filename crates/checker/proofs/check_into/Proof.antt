@@ -36,8 +36,8 @@ check-lexed-requires c κs =
     let read = to-read test in
     let s = to-start read in
     let kept = read .read-into .kept in (
-      is-lexed 1 (now (s .args .text)) (now (s .args .message)) (read .read-into .result) _ _ _ (read .read-into .ensures)
-          (test .if1 .taken),
+      is-lexed 1 (now (s .args .text)) (now (s .args .message)) (read .read-into .result) _ _ _
+          (read .read-into .ensures) (test .if1 .taken),
       record {
         message-long = omega (arith, s .pre .message-long, kept .1 .1 .1 .1 .0);
         tokens-long = omega (arith, s .pre .tokens-long, kept .1 .1 .0);

@@ -36,7 +36,8 @@ returns c =
     let kept = read .read-into .kept in
     by-parts (rw (sym (gate .fits2 .ensures .0) ∙ test .if1 .taken)
     (finished 1 (now (a .text)) (now (a .tokens)) (now (a .names)) (now (a .message)) _ _ _ (read .read-into .result)
-    _ _ _ (read .read-into .ensures) (kept .1 .1 .0) (kept .1 .1 .1 .0) (kept .1 .1 .1 .1 .0) (cleared .finish .ensures)))
+    _ _ _ (read .read-into .ensures) (kept .1 .1 .0) (kept .1 .1 .1 .0) (kept .1 .1 .1 .1 .0)
+    (cleared .finish .ensures)))
 
 returns-2 : tie.Need-returns-2
 unfolding readDef pick

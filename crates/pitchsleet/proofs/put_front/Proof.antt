@@ -34,7 +34,8 @@ returns c =
     let test : tie.Then1 = search in
     let a = s .args in
     stored .put-cells .ensures
-    ∙ ap (λ (l : List ℕ). sets (now (a .out)) (a .at) (le32s l)) (none-behind (now (a .cells)) (a .n) (test .if1 .taken))
+    ∙ ap (λ (l : List ℕ). sets (now (a .out)) (a .at) (le32s l))
+    (none-behind (now (a .cells)) (a .n) (test .if1 .taken))
 
 returns-2 : tie.Need-returns-2
 returns-2 c =

@@ -54,8 +54,8 @@ returns-2 c =
     let a = to-start (tested .before) .args in
     let pre = to-start (tested .before) .pre in
     let ends = not-whole (now (a .old)) (now (a .table)) (a .number) (now (a .new)) (now (a .message))
-    (now (a .message)) (now (a .tokens)) (now (a .names)) (a .r) (pre .0) (pre .1) _ _ (used-tokens (pre .1)) (used-names (pre .1))
-    (sym (is-whole .ensures) ∙ tested .if1 .left) in
+    (now (a .message)) (now (a .tokens)) (now (a .names)) (a .r) (pre .0) (pre .1) _ _ (used-tokens (pre .1))
+    (used-names (pre .1)) (sym (is-whole .ensures) ∙ tested .if1 .left) in
     refused-with _ 40 _ _ (now (a .message)) _ _ _ _
     (ends ∙ ap (λ (k : ℕ). refusedWith 40 k 0) (sym (cell .cell-at .ensures))) (λ z. omega (arith, z))
     (told .refuse-all .ensures .0) (told .refuse-all .ensures .1)

@@ -25,7 +25,8 @@ returns c =
     ∷ getD (now (a .names)) (a .h .name .0 * 2 + 1) 0 ∷ tokenAt ts (a .token) .line .0 ∷ [] in
     let ys : List ℕ =
     a .h .ret ∷ a .h .ty ∷ a .n .items ∷ a .b .items ∷ a .n .blocks ∷ a .b .blocks ∷ a .h .formals ∷ [] in
-    let room : 14 + a .n .functions * 45 + 32 - (14 + a .n .functions * 45 + a .h .formals * 2) ≡ 32 - a .h .formals * 2 =
+    let here = 14 + a .n .functions * 45 in
+    let room : here + 32 - (here + a .h .formals * 2) ≡ 32 - a .h .formals * 2 =
     omega arith in
     cleared .clear-part .ensures
     ∙ rw (

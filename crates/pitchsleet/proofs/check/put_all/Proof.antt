@@ -147,13 +147,15 @@ returns c =
     let p₁ = store-1 p₂ in
     let a = start p₁ .args in
     let pre = start p₁ .pre in
+    let rows = now (a .functions) in
     fronts-stored (a .r) (now (a .tokens)) (now (a .names)) (now (a .functions)) (now (a .items)) (now (a .arguments))
     (now (a .blocks)) (now (a .predecessors)) (pre .0) (now (a .out)) (p₁ .put-front .last .0)
     (p₂ .put-front2 .last .0) (p₃ .put-front3 .last .0) (p₄ .put-front4 .last .0) (p₅ .put-front5 .last .0)
     (p₆ .put-front6 .last .0) (p .put-front7 .last .0) _ (pre .1) (p₁ .put-front .ensures) (p₂ .put-front2 .ensures)
-    (p₃ .put-front3 .ensures ∙ ap (λ (k : ℕ). sets (p₂ .put-front2 .last .0) 73728 (le32s (padTo (length (now (a .functions)))
-    (take k (now (a .functions)))))) (used-2 p₃ .rows-used .ensures)) (p₄ .put-front4 .ensures) (p₅ .put-front5 .ensures) (p₆ .put-front6 .ensures)
-    (p .put-front7 .ensures)
+    (p₃ .put-front3 .ensures
+    ∙ ap (λ (k : ℕ). sets (p₂ .put-front2 .last .0) 73728 (le32s (padTo (length rows) (take k rows))))
+    (used-2 p₃ .rows-used .ensures))
+    (p₄ .put-front4 .ensures) (p₅ .put-front5 .ensures) (p₆ .put-front6 .ensures) (p .put-front7 .ensures)
     (clear-part .ensures ∙ ap (λ (x : ℕ). sets (p .put-front7 .last .0) 252228 (replicate (x - 252228) 0)) (kept-7 p))
 
 pub put-all-spec : {M : Type 1} → statement M
