@@ -7,6 +7,8 @@ pub mod Sound
 pub mod Records
 -- the names that cells hold
 pub mod Parts
+-- names whose prints differ differ; what is kept of names
+pub mod Prints
 -- an answer by cases
 pub mod Cases
 -- decoding undoes the laying out, whatever zeros follow

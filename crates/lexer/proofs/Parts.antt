@@ -1,5 +1,5 @@
 -- The names that cells hold: the first of a run and how many there are; and the cells of one token or name more.
-use Prim.Native.Nat.{ℕ, suc, _+_, _-_, _*_, _≤_, _<_}
+use Prim.Native.Nat.{ℕ, zero, suc, _+_, _-_, _*_, _≤_, _<_}
 use mathlib.Core.Path.{_≡_, refl, sym, ap, _∙_}
 use mathlib.Core.List.{List, [], _∷_, _++_}
 use mathlib.Core.Bool.{Bool, true, false}
@@ -58,6 +58,17 @@ module _ (text names : List ℕ) (count k : ℕ) (below : k < count) (table : Ta
           → indexOf w (spellings text (partsOf (drop ((k + 1) * 2) (take (count * 2) names)))) (k + 1) ≡ f
       unfolding indexOf spellings pick
       name-later e = sym (sym here ∙ rw (step, ← same, e))
+
+-- a name of the table lies in the text
+pub record-within : (text names : List ℕ) (count k : ℕ) → k < count → Table text names count
+    → getD names (k * 2) 0 + getD names (k * 2 + 1) 0 ≤ length text
+record-within text names count k below table = name-within text names count k below table (all k (omega arith))
+  where
+    all : (j : ℕ) → j ≤ count → Within (length text) (partsOf (drop (j * 2) (take (count * 2) names)))
+    all zero h = table .within
+    all (suc j) h =
+        let e : suc j ≡ j + 1 = omega arith in
+        rw e (names-within text names count j (omega arith) table (all j (omega arith)))
 
 -- One token or name more.
 

@@ -1,10 +1,11 @@
 -- What the reader's loop does at one turn: a piece, its name numbered, and the names' cells that it adds.
 -- `numberedFrom` says the same of all pieces; that turns add up to it is shown in `proofs/Turns.antt`.
-use Prim.Native.Nat.{ℕ, _+_, _*_, _≤_, _<_}
+use Prim.Native.Nat.{ℕ, _+_, _*_, _%_, _≤_, _<_}
+use mathlib.Core.Path.{_≡_}
 use mathlib.Core.List.{List, [], _∷_}
 use lib.Dec.{ltb}
-use lib.ListN.{length, take}
-use lib.Seq.{sets}
+use lib.ListN.{length, getD, take}
+use lib.Seq.{sets, slice}
 use Rattle.utils.specs.Bytes.{pick}
 use Rattle.pieces.specs.Tokens.{tokenCells}
 use Rattle.pieces.specs.Pieces.{token}
@@ -43,6 +44,26 @@ pub record Table (text cells : List ℕ) (count : ℕ) : Type 0 where
   pub room : namesSize ≤ length cells
   pub small : length text < 4294967296
   pub within : Within (length text) (firstNames count cells)
+
+-- A number that equal spellings share. The code keeps it for each name beside the table, and looks at a name's bytes
+-- only where it agrees. No answer depends on how it is chosen.
+unfoldable pub printFrom : ℕ → List ℕ → ℕ
+printFrom sum [] = sum
+printFrom sum (b ∷ s) = printFrom ((sum * 9 + b) % 4294967296) s
+
+abbrev pub printOf : List ℕ → ℕ
+printOf s = printFrom 0 s
+
+-- the spelling of the name that record k of the cells holds
+abbrev pub spelledAt : List ℕ → List ℕ → ℕ → List ℕ
+spelledAt text cells k =
+    let place = getD cells (k * nameWidth) 0 in
+    slice place (place + getD cells (k * nameWidth + 1) 0) text
+
+-- they are kept of the first `count` names
+pub record Prints (text cells : List ℕ) (count : ℕ) (prints : List ℕ) : Type 0 where
+  pub room : mostNames ≤ length prints
+  pub each : (k : ℕ) → k < count → getD prints k 0 ≡ printOf (spelledAt text cells k)
 
 -- what a name adds to the names' cells
 abbrev pub newCells : Name → Identified → List ℕ

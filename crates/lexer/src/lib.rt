@@ -15,7 +15,7 @@ ghost use Rattle.pieces.specs.Tokens.{tokenCells};
 ghost use Rattle.utils.specs.Limits.{mostBytes, mostTokens, messageSize};
 ghost use Rattle.lexer.specs.Sizes.{tokenWidth, tokensSize, namesSize};
 ghost use Rattle.lexer.specs.Numbered.{atToken, identified, named, numbered};
-ghost use Rattle.lexer.specs.Steps.{firstNames, Table, newCells};
+ghost use Rattle.lexer.specs.Steps.{firstNames, Table, newCells, Prints};
 ghost use Rattle.lexer.specs.Steps.{nextName, nextOf, addedBy, pushed};
 ghost use Rattle.lexer.specs.Read.{lexedFrom, resultOf, Held, readFrom, ReadsInto, Finishes};
 ghost use Rattle.lexer.specs.Read.{sized, IfSized, Reads};
@@ -100,14 +100,22 @@ fn named(name: Name, i: Identifier) -> Token
 }
 
 // A name with its number in the table.
-fn number_name(text: &[u8], names: &mut [u32], count: usize, name: Name, next: Cursor) -> Next
-    requires { ⌜ Table (now text) (now names) count × (name .place + name .len ≤ length (now text)) ⌝ }
+fn number_name(
+    text: &[u8],
+    names: &mut [u32],
+    prints: &[u32],
+    count: usize,
+    name: Name,
+    next: Cursor,
+) -> Next
+    requires { ⌜ Table (now text) (now names) count × Prints (now text) (now names) count (now prints)
+        × (name .place + name .len ≤ length (now text)) ⌝ }
     ensures { λ r. ⌜ r ≡ nextName count name next
         (identified (now (text .entry)) (firstNames count (now (names .entry))) name) ⌝ }
     ensures { λ r. ⌜ now (names .exit) ≡ sets (now (names .entry)) (count * 2)
         (newCells name (identified (now (text .entry)) (firstNames count (now (names .entry))) name)) ⌝ }
 {
-    match names::get_identifier(text, names, count, name) {
+    match names::get_identifier(text, names, prints, count, name) {
         Identified::Known(i) => Next::Token(named(name, i), next, count),
         Identified::New(i) => Next::Token(named(name, i), next, count + 1),
         Identified::Refused(refusal) => Next::Refused(refusal),
@@ -115,8 +123,8 @@ fn number_name(text: &[u8], names: &mut [u32], count: usize, name: Name, next: C
 }
 
 // A piece, with its name numbered.
-fn next_token(text: &[u8], names: &mut [u32], count: usize, at: Cursor) -> Next
-    requires { ⌜ Table (now text) (now names) count
+fn next_token(text: &[u8], names: &mut [u32], prints: &[u32], count: usize, at: Cursor) -> Next
+    requires { ⌜ Table (now text) (now names) count × Prints (now text) (now names) count (now prints)
         × (at .place ≤ length (now text)) × (at .line < 4294967295) ⌝ }
     ensures { λ r. ⌜ r ≡ nextOf (now (text .entry)) (firstNames count (now (names .entry))) count
         (pieceAt (now (text .entry)) (at .place) (at .line)) ⌝ }
@@ -127,7 +135,7 @@ fn next_token(text: &[u8], names: &mut [u32], count: usize, at: Cursor) -> Next
     match reader::lex_at(text, at.place, at.line) {
         Lexed::Skipped(next) => Next::Skipped(next),
         Lexed::Token(token, next) => Next::Token(token, next, count),
-        Lexed::Name(name, next) => number_name(text, names, count, name, next),
+        Lexed::Name(name, next) => number_name(text, names, prints, count, name, next),
         Lexed::End(end) => Next::End(Token {
             value: TokenValue::EndOfFile,
             line: Location(end.line),
@@ -168,11 +176,12 @@ fn lex_all(text: &[u8], line: u32, tokens: &mut [u32], names: &mut [u32]) -> Lex
     ensures { λ r. ⌜ Held (numbered (now (text .entry)) line)
         (now (tokens .entry)) (now (names .entry)) (now (tokens .exit)) (now (names .exit)) ⌝ }
 {
+    let mut prints = [0u32; limits::NAMES];
     let mut count: usize = 0;
     let mut known: usize = 0;
     let mut at = Cursor { place: 0, line };
     loop {
-        match next_token(text, names, known, at) {
+        match next_token(text, names, &prints, known, at) {
             Next::Skipped(next) => {
                 at = next;
             }
@@ -180,6 +189,7 @@ fn lex_all(text: &[u8], line: u32, tokens: &mut [u32], names: &mut [u32]) -> Lex
                 if !push_token(tokens, count, token) {
                     return LexResult::Refused(too_many(token));
                 }
+                names::keep_print(text, names, &mut prints, known, then);
                 count += 1;
                 known = then;
                 at = next;

@@ -10,13 +10,15 @@ use Rattle.lexer.proofs.next_token.Tie as tie
 
 number-name-requires : tie.Need-number-name-requires
 number-name-requires c κs =
-    let lex-at = c .before .before .before .before .lex-at in
-    let name = c .before .before .name in
-    let a = c .before .before .before .before .before .before .before .args in
-    let pre = c .before .before .before .before .before .before .before .pre in
+    let s : tie.Start = search in
+    let a = s .args in
+    let pre = s .pre in
+    let lexed : tie.After-lex-at = search in
+    let met : tie.After-name = search in
     let past =
-    rw (← lex-at .ensures, name .given .1) at (piece-past (now (a .text)) (a .at .place) (a .at .line) (pre .1)) in
-    (pre .0, omega (arith, past .name-end, past .within))
+    rw (← lexed .lex-at .ensures, met .name .given .1) at
+    (piece-past (now (a .text)) (a .at .place) (a .at .line) (pre .2)) in
+    (pre .0, pre .1, omega (arith, past .name-end, past .within))
 
 pub next-token-spec : {M : Type 1} → statement M
 unfolding nextOf addedBy

@@ -13,35 +13,23 @@ use Rattle.lexer.proofs.names.lookup.Statement.{statement}
 use Rattle.lexer.proofs.names.lookup.Tie as tie
 
 abbrev Inv-loop : tie.InvT-loop
-Inv-loop text names count place len k₀ k = (k ≤ count)
+Inv-loop text names prints count place len print k₀ k = (k ≤ count)
     × (indexOf (slice place (place + len) text) (spellings text (partsOf (drop (k * 2) (take (count * 2) names)))) k
     ≡ indexOf (slice place (place + len) text) (spellings text (partsOf (take (count * 2) names))) 0)
     × Within (length text) (partsOf (drop (k * 2) (take (count * 2) names)))
 
 abbrev μ-loop : tie.MeasureT-loop
-μ-loop text names count place len k₀ k = count - k
+μ-loop text names prints count place len print k₀ k = count - k
 
 loop-holds : tie.Need-loop-holds Inv-loop μ-loop
 loop-holds c =
-    let pre = c .before .before .pre in
-    (omega arith, refl, pre .0 .within)
+    let s : tie.Start Inv-loop μ-loop = search in
+    (omega arith, refl, s .pre .0 .within)
 
-cast-a : tie.Need-cast-a Inv-loop μ-loop
-cast-a c =
-    let shared-slice-known3 = c .shared-slice-known3 in
-    let loop = c .before .before .loop in
-    omega (arith, shared-slice-known3 .given (loop .k * 2))
-
-cast-n : tie.Need-cast-n Inv-loop μ-loop
-cast-n c =
-    let shared-slice-known4 = c .shared-slice-known4 in
-    let loop = c .before .before .before .loop in
-    omega (arith, shared-slice-known4 .given (loop .k * 2 + 1))
-
-same-name-requires : tie.Need-same-name-requires Inv-loop μ-loop
-same-name-requires c κs =
-    let pre = c .before .before .before .before .before .before .pre in
-    (search name-within, pre .1)
+is-name-requires : tie.Need-is-name-requires Inv-loop μ-loop
+is-name-requires c κs =
+    let s : tie.Start Inv-loop μ-loop = search in
+    (search needs, s .pre .0, s .pre .1, search name-within, s .pre .2, s .pre .3)
 
 loop-again : tie.Need-loop-again Inv-loop μ-loop
 loop-again c = (omega arith, search name-later, search names-within)
@@ -49,7 +37,8 @@ loop-again c = (omega arith, search name-later, search names-within)
 returns-2 : tie.Need-returns-2 Inv-loop μ-loop
 unfolding indexOf spellings partsOf
 returns-2 c =
-    let a = c .before .before .before .before .args in
+    let s : tie.Start Inv-loop μ-loop = search in
+    let a = s .args in
     let loop = c .before .loop in
     let z : length (take (a .count * 2) (now (a .names))) ≤ loop .k * 2 = rw length-take (omega arith) in
     rw (← loop .inv .1, drop-of-length-le (take (a .count * 2) (now (a .names))) z)
@@ -57,6 +46,5 @@ returns-2 c =
 pub lookup-spec : {M : Type 1} → statement M
 lookup-spec =
     tie.close
-    (tie.spec Inv-loop μ-loop loop-holds (λ c. search needs) (λ c. search needs) (λ c. search needs)
-    (λ c. search needs) cast-a (λ c. search needs) (λ c. search needs) cast-n same-name-requires (λ c. search needs)
-    (λ c. search name-here) (λ c. search needs) (λ c. search needs) loop-again returns-2)
+    (tie.spec Inv-loop μ-loop loop-holds is-name-requires (λ c. search needs) (λ c. search name-here)
+    (λ c. search needs) (λ c. search needs) loop-again returns-2)
