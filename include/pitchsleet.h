@@ -282,7 +282,7 @@ struct pitchsleet_check_answer {
     uint32_t number, line, place, tokens, names, functions, items, arguments, blocks, predecessors;
 };
 
-/* Reads a text into cells. Stack: less than 4 KiB. */
+/* Reads a text into cells. Stack: less than 8 KiB. */
 struct pitchsleet_read_answer pitchsleet_read_cells(
     const uint8_t *text, size_t text_len,
     uint32_t *tokens, size_t tokens_len,
@@ -322,7 +322,7 @@ struct pitchsleet_check_answer pitchsleet_recheck_cells(
     uint32_t *predecessors, size_t predecessors_len,
     uint8_t *message, size_t message_len);
 
-/* Reads a text into bytes. Stack: less than 76 KiB. */
+/* Reads a text into bytes. Stack: less than 80 KiB. */
 struct pitchsleet_read_answer pitchsleet_read(
     const uint8_t *text, size_t text_len,
     uint8_t *out, size_t out_len,

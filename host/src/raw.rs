@@ -318,7 +318,7 @@ unsafe extern "C" {
 /// Reads a text into records and a message.
 ///
 /// `out` needs [`OUT_BYTES`] and `message` [`MESSAGE_BYTES`]; where one is shorter the answer's number is 30 and nothing
-/// is written. What is longer is filled with zeros. The call allocates nothing and takes less than 76 KiB of stack.
+/// is written. What is longer is filled with zeros. The call allocates nothing and takes less than 80 KiB of stack.
 ///
 /// ```
 /// use pitchsleet::raw;
@@ -433,7 +433,7 @@ pub struct Slices<'a> {
 ///
 /// `tokens` needs [`TOKENS_CELLS`], `names` [`NAMES_CELLS`] and `message` [`MESSAGE_BYTES`]; where one is shorter the
 /// answer's number is 30 and nothing is written. What is longer is filled with zeros. The call allocates nothing and takes
-/// less than 4 KiB of stack.
+/// less than 8 KiB of stack.
 ///
 /// ```
 /// use pitchsleet::raw;

@@ -16,7 +16,7 @@ use crate::unit::Unit;
 ///
 /// The buffers are taken once, by [`Reader::new`]: 252,228 bytes for the records and 512 for a message. They are lent to
 /// the proved functions, which write their cells there and nowhere else. No call of [`Reader::read`], [`Reader::check`] or
-/// [`Reader::recheck`] allocates: the room that they need beside is on the stack, less than 4 KiB for a reading, less than
+/// [`Reader::recheck`] allocates: the room that they need beside is on the stack, less than 8 KiB for a reading, less than
 /// 16 KiB for a check, less than 28 KiB for a recheck.
 ///
 /// ```

@@ -349,7 +349,7 @@ fn stack_of_a_call() {
     let bodies = [loops, calls, "ret x;".to_owned(), "$".to_owned(), many(16_000, &|_| "\n".to_owned())];
     for text in bodies.map(|body| format!("@f63(a: int) {{ {body} }}").into_bytes()) {
         let (functions, table) = (functions.clone().into_bytes(), table.clone());
-        runs_in(4, text.clone(), |lent, text| lent.read(text).number);
+        runs_in(8, text.clone(), |lent, text| lent.read(text).number);
         runs_in(16, text.clone(), |lent, text| lent.check(text).number);
         runs_in(28, text, move |lent, text| lent.recheck(&functions, &table, 63, text).number);
     }
