@@ -32,8 +32,8 @@
  *   to their ends, the whole message too.
  * - number 30: a lent slice is shorter than its size, which stands below. Nothing was written. With slices of these
  *   sizes or longer it is never given.
- * - any other number: refused, at a line and a place, which is the index of a byte in the text. Only `message` holds
- *   something, and all other slices are zero. THE MESSAGE'S LENGTH IS ONE PAST ITS NEWLINE, which it always has, and
+ * - any other number: refused, at a line and a place, which is the index of a byte in the text, or the text's length
+ *   where it is the end that is refused. Only `message` holds something, and all other slices are zero. THE MESSAGE'S LENGTH IS ONE PAST ITS NEWLINE, which it always has, and
  *   not the place of its first zero: it may hold a zero byte, or another control character, of the text.
  */
 #ifndef PITCHSLEET_H
@@ -111,7 +111,7 @@
 #define PITCHSLEET_TOKEN_KIND 0                    /* one of TOKEN_KIND_.. */
 #define PITCHSLEET_TOKEN_VALUE 1                   /* a name's number, an integer's 32 bits, or 0 */
 #define PITCHSLEET_TOKEN_LINE 2                    /* from 1; newlines in comments are not counted */
-#define PITCHSLEET_TOKEN_PLACE 3                   /* the index of its first byte in the text */
+#define PITCHSLEET_TOKEN_PLACE 3                   /* the index of its first byte; of the end token the text's length */
 
 /* The cells of a name. Its number is its index. Its spelling is the bytes of the text from its place. */
 #define PITCHSLEET_NAME_PLACE 0                    /* where it first appears */
@@ -150,8 +150,8 @@
 #define PITCHSLEET_ITEM_LEFT_TYPE 5                /* of a callee TYPE_FUNCTION + its function type's number */
 #define PITCHSLEET_ITEM_RIGHT 6                    /* BINARY: the right operand */
 #define PITCHSLEET_ITEM_RIGHT_TYPE 7
-#define PITCHSLEET_ITEM_LABEL 6                    /* LABEL, JUMP; BRANCH: where the condition is true */
-#define PITCHSLEET_ITEM_SECOND_LABEL 7             /* BRANCH: where it is false */
+#define PITCHSLEET_ITEM_LABEL 6                    /* LABEL, JUMP; BRANCH: the first label */
+#define PITCHSLEET_ITEM_SECOND_LABEL 7             /* BRANCH: the second label */
 #define PITCHSLEET_ITEM_ARGUMENTS 6                /* calls: the first argument */
 #define PITCHSLEET_ITEM_ARGUMENT_COUNT 7
 
@@ -268,7 +268,7 @@
 #define PITCHSLEET_REFUSED_TOO_MANY_LABELS 38      /* more than LIMIT_LABELS labels */
 #define PITCHSLEET_REFUSED_NOT_ONE_FUNCTION 40     /* the new text is not one function, from its @ to its } */
 #define PITCHSLEET_REFUSED_HEADER_CHANGED 41       /* the new function has another name or other types */
-#define PITCHSLEET_REFUSED_BAD_TABLE 42            /* no function has the number, or the table is not the old text's */
+#define PITCHSLEET_REFUSED_BAD_TABLE 42            /* too long an old text, no such function, or cells that no table has */
 
 #ifdef __cplusplus
 extern "C" {

@@ -12,7 +12,7 @@ pub(crate) fn function_records(table: &[u32; TABLE_CELLS], count: usize) -> &[u3
     &table[(FUNCTION_RECORDS_OFFSET - FUNCTIONS_OFFSET) / CELL_BYTES..][..count * FUNCTION_CELLS]
 }
 
-/// The cell at an offset, which is in bytes, as the document has it.
+/// The cell at an offset in bytes, as `raw` has it.
 pub(crate) fn cell(record: &[u32], offset: usize) -> u32 {
     record[offset / CELL_BYTES]
 }

@@ -141,9 +141,6 @@ fn check_lexed(
     }
 }
 
-// The number of a text's first line.
-const FIRST_LINE: u32 = 1;
-
 // The check of a text, into the front of slices that have their sizes. Nothing is cleared yet.
 pub fn check_into(
     text: &[u8],
@@ -163,7 +160,7 @@ pub fn check_into(
         (slices (now (functions .exit)) (now (items .exit)) (now (arguments .exit)) (now (blocks .exit))
         (now (predecessors .exit))) ⌝ }
 {
-    let r = lexer::read_into(text, FIRST_LINE, tokens, names, message);
+    let r = lexer::read_into(text, lexer::FIRST_LINE, tokens, names, message);
     if r.number == numbers::ACCEPTED {
         return check_lexed(
             text,

@@ -49,7 +49,7 @@ pub record Table (text cells : List ℕ) (count : ℕ) : Type 0 where
 -- only where it agrees. No answer depends on how it is chosen.
 unfoldable pub printFrom : ℕ → List ℕ → ℕ
 printFrom sum [] = sum
-printFrom sum (b ∷ s) = printFrom ((sum * 9 + b) % 4294967296) s
+printFrom sum (b ∷ s) = printFrom ((sum * 129 + b) % 4294967296) s
 
 abbrev pub printOf : List ℕ → ℕ
 printOf s = printFrom 0 s

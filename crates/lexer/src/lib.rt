@@ -303,13 +303,16 @@ fn finish(r: ReadAnswer, tokens: &mut [u32], names: &mut [u32], message: &mut [u
     finish_message(r.number, message);
 }
 
+// The number of a text's first line.
+pub const FIRST_LINE: u32 = 1;
+
 // Document 01's reading of any text: tokens and names as cells, or a refusal and its message.
 pub fn read(text: &[u8], tokens: &mut [u32], names: &mut [u32], message: &mut [u8]) -> ReadAnswer
     ensures { λ r. ⌜ Reads (now (text .entry)) (now (tokens .entry)) (now (names .entry)) (now (message .entry))
         r (now (tokens .exit)) (now (names .exit)) (now (message .exit)) ⌝ }
 {
     if fits(tokens.len(), names.len(), message.len()) {
-        let r = read_into(text, 1, tokens, names, message);
+        let r = read_into(text, FIRST_LINE, tokens, names, message);
         finish(r, tokens, names, message);
         return r;
     }

@@ -18,8 +18,9 @@ use crate::tokens;
 use utils::limits;
 use utils::put_cells;
 
-// A byte counts so many times as much as the one behind it; and how many prints there are.
-const FACTOR: u64 = 9;
+// A byte counts so many times as much as the one behind it, more than any two bytes of names differ by; and how many
+// prints there are.
+const FACTOR: u64 = 129;
 
 const PRINTS: u64 = 4294967296;
 

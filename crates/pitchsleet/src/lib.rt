@@ -101,7 +101,7 @@ fn read_out(
     ensures { λ r. ⌜ export r (now (out .exit)) (now (message .exit))
         ≡ exported (now (out .entry)) (now (message .entry)) (readOf (now (text .entry))) ⌝ }
 {
-    let answer = lexer::read_into(text, 1, tokens, names, message);
+    let answer = lexer::read_into(text, lexer::FIRST_LINE, tokens, names, message);
     put_front(out, 0, tokens, answer.tokens as usize * TOKEN_CELLS);
     put_front(
         out,

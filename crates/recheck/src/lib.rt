@@ -29,7 +29,7 @@ use utils::cell_at;
 use utils::numbers;
 
 // A refusal at no token: its message and its answer.
-fn refuse_all(number: u32, line: Location, message: &mut [u8]) -> CheckAnswer
+fn refuse_plain(number: u32, line: Location, message: &mut [u8]) -> CheckAnswer
     requires { ⌜ messageSize ≤ length (now message) ⌝ }
     ensures { λ res. ⌜ (res ≡ refusedWith number (line .0) 0 .answer)
         × (now (message .exit) ≡ padTo (length (now (message .entry))) (refusedWith number (line .0) 0 .message)) ⌝ }
@@ -129,7 +129,7 @@ fn recheck_lexed<'t, 'c>(
         );
     }
     let line = Location(cell_at(table, columns::LINE + number as usize * columns::ROW));
-    refuse_all(numbers::NOT_ONE_FUNCTION, line, message)
+    refuse_plain(numbers::NOT_ONE_FUNCTION, line, message)
 }
 
 // The recheck of a new text, into the front of slices that have their sizes. Nothing is cleared yet.
@@ -155,7 +155,7 @@ pub fn recheck_into<'t>(
         (now (predecessors .exit))) ⌝ }
 {
     if !table::is_table(old, table, number) {
-        return refuse_all(numbers::BAD_TABLE, Location(0), message);
+        return refuse_plain(numbers::BAD_TABLE, Location(0), message);
     }
     let line = cell_at(table, columns::LINE + number as usize * columns::ROW);
     let r = lexer::read_into(new, line, tokens, names, message);

@@ -14,7 +14,7 @@ use Rattle.recheck.proofs.recheck_into.Tie as tie
 
 -- From the ends back to the calls, and to the start.
 
-abbrev to-then : tie.After-refuse-all → tie.Then1
+abbrev to-then : tie.After-refuse-plain → tie.Then1
 to-then c = search
 
 abbrev to-read : tie.Then2 → tie.After-read-into
@@ -40,13 +40,13 @@ to-start c = search
 
 returns : tie.Need-returns
 returns c =
-    let told : tie.After-refuse-all = search in
+    let told : tie.After-refuse-plain = search in
     let tested = to-then told in
     let a = to-start (tested .before) .args in
     refused-with _ 42 0 _ (now (a .message)) _ _ _ _
     (bad-table (now (a .old)) (now (a .table)) (a .number) (now (a .new))
     (sym (tested .before .is-table .ensures) ∙ not-true _ (tested .if1 .taken)))
-    (λ z. omega (arith, z)) (told .refuse-all .ensures .0) (told .refuse-all .ensures .1)
+    (λ z. omega (arith, z)) (told .refuse-plain .ensures .0) (told .refuse-plain .ensures .1)
 
 read-into-requires : tie.Need-read-into-requires
 read-into-requires c κs =

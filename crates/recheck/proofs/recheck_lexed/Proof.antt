@@ -19,7 +19,7 @@ use Rattle.recheck.proofs.recheck_lexed.Tie as tie
 abbrev to-start : tie.After-is-whole → tie.Start
 to-start c = search
 
-abbrev to-cell-at : tie.After-refuse-all → tie.After-cell-at
+abbrev to-cell-at : tie.After-refuse-plain → tie.After-cell-at
 to-cell-at c = search
 
 part-is-whole-end : tie.Need-part-is-whole-end
@@ -47,7 +47,7 @@ returns c =
 
 returns-2 : tie.Need-returns-2
 returns-2 c =
-    let told : tie.After-refuse-all = search in
+    let told : tie.After-refuse-plain = search in
     let cell = to-cell-at told in
     let tested = cell .before in
     let is-whole = tested .before .is-whole in
@@ -58,7 +58,7 @@ returns-2 c =
     (used-names (pre .1)) (sym (is-whole .ensures) ∙ tested .if1 .left) in
     refused-with _ 40 _ _ (now (a .message)) _ _ _ _
     (ends ∙ ap (λ (k : ℕ). refusedWith 40 k 0) (sym (cell .cell-at .ensures))) (λ z. omega (arith, z))
-    (told .refuse-all .ensures .0) (told .refuse-all .ensures .1)
+    (told .refuse-plain .ensures .0) (told .refuse-plain .ensures .1)
 
 pub recheck-lexed-spec : {M : Type 1} → statement M
 recheck-lexed-spec =
