@@ -2,7 +2,7 @@
 use core::fmt::{self, Debug, Formatter};
 
 use crate::raw::{self, CELL_BYTES, FUNCTION_CELLS, TABLE_BYTES, TABLE_CELLS};
-use crate::records::{cell, function_records, index, record};
+use crate::records::{function_records, index, record};
 
 /// The headers of an accepted text: the text, and the table of its functions as a check wrote it.
 ///
@@ -55,7 +55,7 @@ impl Headers {
     /// comments are not counted.
     #[must_use]
     pub fn line(&self, number: usize) -> Option<u32> {
-        self.row(number).map(|row| cell(row, raw::FUNCTION_LINE))
+        self.row(number).map(|row| row[raw::FUNCTION_LINE])
     }
 
     /// The names of the functions, in the order of the text. One may be there twice.

@@ -7,27 +7,27 @@ use crate::token::Token;
 
 /// The tokens of a text, in order; [`Tokens::iter`] gives it.
 #[derive(Clone, Debug)]
-pub struct Iter<'a> {
-    tokens: Tokens<'a>,
+pub struct Iter<'r, 't> {
+    tokens: Tokens<'r, 't>,
     left: Range<usize>,
 }
 
-impl<'a> Iter<'a> {
-    pub(crate) fn new(tokens: Tokens<'a>) -> Self {
+impl<'r, 't> Iter<'r, 't> {
+    pub(crate) fn new(tokens: Tokens<'r, 't>) -> Self {
         let left = 0..tokens.len();
         Self { tokens, left }
     }
 }
 
-impl<'a> Iterator for Iter<'a> {
-    type Item = Token<'a>;
+impl<'t> Iterator for Iter<'_, 't> {
+    type Item = Token<'t>;
 
-    fn next(&mut self) -> Option<Token<'a>> {
+    fn next(&mut self) -> Option<Token<'t>> {
         let index = self.left.next()?;
         self.tokens.get(index)
     }
 
-    fn nth(&mut self, skipped: usize) -> Option<Token<'a>> {
+    fn nth(&mut self, skipped: usize) -> Option<Token<'t>> {
         let index = self.left.nth(skipped)?;
         self.tokens.get(index)
     }
@@ -37,12 +37,12 @@ impl<'a> Iterator for Iter<'a> {
     }
 }
 
-impl DoubleEndedIterator for Iter<'_> {
+impl DoubleEndedIterator for Iter<'_, '_> {
     fn next_back(&mut self) -> Option<Self::Item> {
         let index = self.left.next_back()?;
         self.tokens.get(index)
     }
 }
 
-impl ExactSizeIterator for Iter<'_> {}
-impl FusedIterator for Iter<'_> {}
+impl ExactSizeIterator for Iter<'_, '_> {}
+impl FusedIterator for Iter<'_, '_> {}

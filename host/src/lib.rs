@@ -33,7 +33,7 @@
 //! let headers = unit.headers();
 //! let main = headers.position("@main").expect("there is one");
 //! let unit = reader.recheck(&headers, main, b"@main { v: int = const 6; print v; }")?;
-//! assert_eq!(unit.len(), 1);
+//! assert_eq!(unit.function_count(), 1);
 //! # Ok::<(), pitchsleet::Refusal>(())
 //! ```
 //!
@@ -43,7 +43,8 @@
 //! byte for byte. Some of them surprise:
 //!
 //! - A newline adds one to the line, but not inside a comment: neither one that ends a `#` or `//` comment nor one between
-//!   `/*` and `*/`. So a [`Token::line`] may be less than the line that an editor shows. [`Token::place`] is exact.
+//!   `/*` and `*/`. So a [`Token::line`] may be less than the line that an editor shows. [`Token::place`] is exact, and
+//!   [`Lines`] makes a file's line and column of it.
 //! - A number above 2147483647 is no token and no error: it is dropped.
 //! - After a star in a comment the next byte is passed over whatever it is, so `/***/` is not closed.
 //! - All bytes must be ASCII, in comments too.
@@ -52,17 +53,24 @@
 //!   refused.
 //! - Two labels in a row, but at a function's start, leave an empty block between them, which is refused.
 //!
+//! Where an accepted text has such a trap in it, [`Unit::warnings`] tells.
+//!
 //! # Limits
 //!
 //! A text has at most 16,384 bytes, 4,096 tokens with the end of the text, and 1,024 names of at most 64 bytes with their
 //! sigil; at most 64 functions of at most 16 formals and 255 labels each; and a call has at most 16 arguments.
-//! What is over a limit is refused with a number of its own ([`Refusal`] has them all).
+//! What is over a limit is refused with a number of its own ([`RefusalKind`] has them all).
 #![warn(missing_docs)]
 #![deny(unsafe_code, unsafe_op_in_unsafe_fn)]
 
+#[macro_use]
+mod each;
 mod headers;
 mod iter;
+mod lines;
 mod operation;
+mod operator;
+mod owned;
 mod printable;
 pub mod raw;
 mod reader;
@@ -71,13 +79,18 @@ mod refusal;
 mod token;
 mod types;
 mod unit;
+mod warning;
 
 pub use headers::Headers;
 pub use iter::Iter;
-pub use operation::{Arguments, Operation, OperationValue};
+pub use lines::{Lines, Position};
+pub use operation::{Arguments, ArgumentsIter, Operation, OperationValue};
+pub use operator::{BinaryOperator, Constant, UnaryOperator};
+pub use owned::OwnedUnit;
 pub use printable::Printable;
 pub use reader::{Reader, Tokens};
-pub use refusal::Refusal;
+pub use refusal::{Refusal, RefusalKind};
 pub use token::{Identifier, Name, Token, TokenValue};
 pub use types::{Type, Variable};
-pub use unit::{Block, Edges, Function, Label, Unit};
+pub use unit::{Block, Edges, EdgesIter, Function, Label, Unit};
+pub use warning::{Warning, WarningKind};

@@ -1,27 +1,30 @@
 //! Operations of a block.
-use crate::raw::{self, ARGUMENT_CELLS, CELL_BYTES, ITEM_CELLS};
+use core::fmt::{self, Debug, Formatter};
+
+use crate::operator::{BinaryOperator, Constant, UnaryOperator};
+use crate::raw::{self, ARGUMENT_CELLS, ITEM_CELLS};
 use crate::reader::Tokens;
-use crate::records::{cell, index, record};
+use crate::records::{index, record};
 use crate::token::{Identifier, TokenValue};
 use crate::types::Variable;
 
 /// An operation of a block: what it does, and the token that stands for it.
-#[derive(Clone, Copy, Debug)]
-pub struct Operation<'a> {
+#[derive(Clone, Copy, Debug, PartialEq, Eq)]
+pub struct Operation<'r> {
     /// The index of its token among the text's: that of its word, or of the value of a constant. An added `ret` has the
     /// token of the operation before it.
     pub token: usize,
     /// What it does.
-    pub value: OperationValue<'a>,
+    pub value: OperationValue<'r>,
 }
 
 /// What an operation does.
-#[derive(Clone, Copy, Debug)]
-pub enum OperationValue<'a> {
+#[derive(Clone, Copy, Debug, PartialEq, Eq)]
+pub enum OperationValue<'r> {
     /// A result of two operands.
     Binary {
-        /// [`TokenValue::Add`] or another of the twelve.
-        operator: TokenValue,
+        /// What is made of them.
+        operator: BinaryOperator,
         /// What is set.
         result: Variable,
         /// The first operand.
@@ -31,8 +34,8 @@ pub enum OperationValue<'a> {
     },
     /// A result of one operand.
     Unary {
-        /// [`TokenValue::Identity`] or [`TokenValue::Not`].
-        operator: TokenValue,
+        /// What is made of it.
+        operator: UnaryOperator,
         /// What is set.
         result: Variable,
         /// The operand.
@@ -40,8 +43,8 @@ pub enum OperationValue<'a> {
     },
     /// A result that is a constant.
     Const {
-        /// [`TokenValue::Integer`], [`TokenValue::True`] or [`TokenValue::False`].
-        value: TokenValue,
+        /// The constant.
+        value: Constant,
         /// What is set.
         result: Variable,
     },
@@ -52,7 +55,7 @@ pub enum OperationValue<'a> {
         /// What is set, where the function has a result.
         result: Option<Variable>,
         /// What it is called with.
-        arguments: Arguments<'a>,
+        arguments: Arguments<'r>,
     },
     /// A value is printed.
     Print {
@@ -85,27 +88,32 @@ pub enum OperationValue<'a> {
     },
 }
 
-impl<'a> Operation<'a> {
+impl<'r> Operation<'r> {
     /// The operation of an item record, whose token and arguments stand elsewhere.
-    pub(crate) fn from_record(record: &'a [u32; ITEM_CELLS], tokens: &Tokens<'a>, arguments: &'a [u32]) -> Self {
+    pub(crate) fn from_record(record: &[u32; ITEM_CELLS], tokens: &Tokens<'_, '_>, arguments: &'r [u32]) -> Self {
         let token = index(record, raw::ITEM_TOKEN);
         let word = tokens.get(token).expect("an operation's token is one of the text's").value;
         let result = Variable::from_cells(record, raw::ITEM_RESULT);
         let left = Variable::from_cells(record, raw::ITEM_LEFT);
-        let labels = [0, CELL_BYTES].map(|offset| Identifier(index(record, raw::ITEM_RIGHT + offset)));
+        let last = [index(record, raw::ITEM_RIGHT), index(record, raw::ITEM_RIGHT + 1)];
+        let labels = last.map(Identifier);
         let call = |result| {
-            let [first, count] = [0, CELL_BYTES].map(|offset| index(record, raw::ITEM_RIGHT + offset));
+            let [first, count] = last;
             let records = &arguments[first * ARGUMENT_CELLS..][..count * ARGUMENT_CELLS];
             OperationValue::Call { callee: left, result, arguments: Arguments { records } }
         };
         let ret = |value| OperationValue::Return { value, added: word != TokenValue::Return };
-        let value = match cell(record, raw::ITEM_KIND) {
+        let value = match record[raw::ITEM_KIND] {
             2 => {
+                let operator = BinaryOperator::of(word).expect("a binary operation's word is one of the twelve");
                 let right = Variable::from_cells(record, raw::ITEM_RIGHT);
-                OperationValue::Binary { operator: word, result, left, right }
+                OperationValue::Binary { operator, result, left, right }
             }
-            3 => OperationValue::Unary { operator: word, result, operand: left },
-            4 => OperationValue::Const { value: word, result },
+            3 => {
+                let operator = UnaryOperator::of(word).expect("a unary operation's word is id or not");
+                OperationValue::Unary { operator, result, operand: left }
+            }
+            4 => OperationValue::Const { value: Constant::of(word).expect("a constant's token is its value"), result },
             5 => call(None),
             6 => call(Some(result)),
             7 => OperationValue::Print { operand: left },
@@ -157,7 +165,7 @@ impl<'a> Operation<'a> {
     }
 
     /// The values that it uses, in order: operands, arguments, the condition of a `br`.
-    pub fn operands(&self) -> impl Iterator<Item = Variable> + Clone + use<'a> {
+    pub fn operands(&self) -> impl Iterator<Item = Variable> + Clone + use<'r> {
         let (one, two, arguments) = match self.value {
             OperationValue::Binary { left, right, .. } => (Some(left), Some(right), None),
             OperationValue::Unary { operand, .. } | OperationValue::Print { operand } => (Some(operand), None, None),
@@ -166,7 +174,7 @@ impl<'a> Operation<'a> {
             OperationValue::Call { arguments, .. } => (None, None, Some(arguments)),
             OperationValue::Const { .. } | OperationValue::Nop | OperationValue::Jump { .. } => (None, None, None),
         };
-        one.into_iter().chain(two).chain(arguments.into_iter().flat_map(|arguments| arguments.iter()))
+        one.into_iter().chain(two).chain(arguments.into_iter().flatten())
     }
 
     /// The labels that it jumps to, in order: those of the block's successors.
@@ -187,15 +195,36 @@ impl<'a> Operation<'a> {
             OperationValue::Jump { .. } | OperationValue::Branch { .. } | OperationValue::Return { .. }
         )
     }
+
+    /// Whether it isn't written in the text: a `ret` that was added to a block of a void function.
+    #[must_use]
+    pub fn is_added(&self) -> bool {
+        matches!(self.value, OperationValue::Return { added: true, .. })
+    }
 }
 
 /// The arguments of a call.
-#[derive(Clone, Copy, Debug)]
-pub struct Arguments<'a> {
-    records: &'a [u32],
+///
+/// ```
+/// use pitchsleet::{OperationValue, Reader};
+///
+/// let mut reader = Reader::new();
+/// let unit = reader.check(b"@f(a: int, b: bool) { call @f a b; }")?;
+/// let operation = unit.functions().flat_map(|f| f.blocks()).flat_map(|b| b.operations()).next();
+/// if let Some(OperationValue::Call { arguments, .. }) = operation.map(|operation| operation.value) {
+///     for argument in arguments {
+///         println!("{}: {}", unit.spelling(argument.name), argument.ty);
+///     }
+///     assert_eq!(arguments.len(), 2);
+/// }
+/// # Ok::<(), pitchsleet::Refusal>(())
+/// ```
+#[derive(Clone, Copy, PartialEq, Eq)]
+pub struct Arguments<'r> {
+    records: &'r [u32],
 }
 
-impl<'a> Arguments<'a> {
+impl<'r> Arguments<'r> {
     /// How many there are: at most 16.
     #[must_use]
     pub fn len(&self) -> usize {
@@ -215,8 +244,21 @@ impl<'a> Arguments<'a> {
     }
 
     /// The arguments, in order.
-    pub fn iter(&self) -> impl ExactSizeIterator<Item = Variable> + DoubleEndedIterator + Clone + use<'a> {
-        let (records, _) = self.records.as_chunks::<ARGUMENT_CELLS>();
-        records.iter().map(|record| Variable::from_cells(record, 0))
+    #[must_use]
+    pub fn iter(&self) -> ArgumentsIter<'r> {
+        let (records, _) = self.records.as_chunks();
+        ArgumentsIter { records: records.iter() }
     }
+}
+
+impl Debug for Arguments<'_> {
+    fn fmt(&self, f: &mut Formatter<'_>) -> fmt::Result {
+        f.debug_list().entries(self).finish()
+    }
+}
+
+each! {
+    /// The arguments of a call, in order; [`Arguments::iter`] gives it.
+    ArgumentsIter of Arguments: records of [u32; ARGUMENT_CELLS] as Variable,
+    |record| Variable::from_cells(record, 0)
 }

@@ -9,8 +9,8 @@
 //! - [`read`], [`check`] and [`recheck`] take one slice of bytes, `out`, with all records in it, a cell as four bytes, the
 //!   lowest first. They make the cells on their stack and copy them out.
 //!
-//! Offsets in a record are in bytes. [`CELL_BYTES`] of them are a cell: in a slice of cells a token's line is cell
-//! `TOKEN_LINE / CELL_BYTES` of its [`TOKEN_CELLS`].
+//! Where something stands in a record, and how large one is, is in cells: a token's line is cell [`TOKEN_LINE`] of its
+//! [`TOKEN_CELLS`]. Where a slice stands in `out` (`.._OFFSET`) is in bytes, [`CELL_BYTES`] to a cell.
 //!
 //! The crate's only `unsafe` code stands here, and a test holds every number below against the document.
 #![allow(unsafe_code)]
@@ -25,20 +25,18 @@ pub const CELL_BYTES: usize = 4;
 pub const TOKENS: usize = 4_096;
 /// Where the first token record stands in `out`.
 pub const TOKENS_OFFSET: usize = 0;
-/// The size of a token record: four cells.
-pub const TOKEN_BYTES: usize = 16;
 /// The size of a token record, in cells.
-pub const TOKEN_CELLS: usize = TOKEN_BYTES / CELL_BYTES;
+pub const TOKEN_CELLS: usize = 4;
 /// The size of `tokens` in cells: the room of all token records. A shorter slice is refused with 30.
 pub const TOKENS_CELLS: usize = 16_384;
 /// Where a token record has its kind.
 pub const TOKEN_KIND: usize = 0;
 /// Where a token record has its value: a name's number, or the 32 bits of an integer.
-pub const TOKEN_VALUE: usize = 4;
+pub const TOKEN_VALUE: usize = 1;
 /// Where a token record has its line.
-pub const TOKEN_LINE: usize = 8;
+pub const TOKEN_LINE: usize = 2;
 /// Where a token record has its place in the text.
-pub const TOKEN_PLACE: usize = 12;
+pub const TOKEN_PLACE: usize = 3;
 
 /// The most names that a text may have.
 pub const NAMES: usize = 1_024;
@@ -46,16 +44,14 @@ pub const NAMES: usize = 1_024;
 pub const LONGEST_NAME: usize = 64;
 /// Where the first name record stands in `out`.
 pub const NAMES_OFFSET: usize = 65_536;
-/// The size of a name record: two cells.
-pub const NAME_BYTES: usize = 8;
 /// The size of a name record, in cells.
-pub const NAME_CELLS: usize = NAME_BYTES / CELL_BYTES;
+pub const NAME_CELLS: usize = 2;
 /// The size of `names` in cells: the room of all name records. A shorter slice is refused with 30.
 pub const NAMES_CELLS: usize = 2_048;
 /// Where a name record has the place of the name's first appearance.
 pub const NAME_PLACE: usize = 0;
 /// Where a name record has the name's length.
-pub const NAME_LENGTH: usize = 4;
+pub const NAME_LENGTH: usize = 1;
 
 /// The size of [`read`]'s `out`. A shorter slice is refused with 30.
 pub const OUT_BYTES: usize = 73_728;
@@ -72,73 +68,67 @@ pub const FUNCTIONS_OFFSET: usize = 73_728;
 pub const TABLE_BYTES: usize = 11_524;
 /// The size of a header table in cells, [`recheck_cells`]'s `table`: that of the `functions` which [`check_cells`] fills.
 pub const TABLE_CELLS: usize = FUNCTIONS_CELLS;
-/// Where the first function record stands.
-pub const FUNCTION_RECORDS_OFFSET: usize = 73_732;
-/// The size of a function record: 45 cells.
-pub const FUNCTION_BYTES: usize = 180;
+/// Where the first function record stands in `functions`, behind the count, in cells.
+pub const FUNCTIONS_FIRST: usize = 1;
 /// The size of a function record, in cells.
-pub const FUNCTION_CELLS: usize = FUNCTION_BYTES / CELL_BYTES;
+pub const FUNCTION_CELLS: usize = 45;
 /// The size of `functions` in cells: the count of functions, and behind it the room of all function records. A shorter
 /// slice is refused with 30.
 pub const FUNCTIONS_CELLS: usize = 2_881;
 /// Where a function record has the index of its name's token.
 pub const FUNCTION_TOKEN: usize = 0;
 /// Where a function record has its name's number.
-pub const FUNCTION_NAME: usize = 4;
+pub const FUNCTION_NAME: usize = 1;
 /// Where a function record has the index of its closing brace's token.
-pub const FUNCTION_END: usize = 8;
+pub const FUNCTION_END: usize = 2;
 /// Where a function record has its name's place in the text.
-pub const FUNCTION_PLACE: usize = 12;
+pub const FUNCTION_PLACE: usize = 3;
 /// Where a function record has its name's length.
-pub const FUNCTION_LENGTH: usize = 16;
+pub const FUNCTION_LENGTH: usize = 4;
 /// Where a function record has its name's line.
-pub const FUNCTION_LINE: usize = 20;
+pub const FUNCTION_LINE: usize = 5;
 /// Where a function record has its result type.
-pub const FUNCTION_RESULT: usize = 24;
+pub const FUNCTION_RESULT: usize = 6;
 /// Where a function record has its function type's number.
-pub const FUNCTION_TYPE: usize = 28;
+pub const FUNCTION_TYPE: usize = 7;
 /// Where a function record has its first item.
-pub const FUNCTION_ITEMS: usize = 32;
+pub const FUNCTION_ITEMS: usize = 8;
 /// Where a function record has its count of items.
-pub const FUNCTION_ITEM_COUNT: usize = 36;
+pub const FUNCTION_ITEM_COUNT: usize = 9;
 /// Where a function record has its first block.
-pub const FUNCTION_BLOCKS: usize = 40;
+pub const FUNCTION_BLOCKS: usize = 10;
 /// Where a function record has its count of blocks.
-pub const FUNCTION_BLOCK_COUNT: usize = 44;
+pub const FUNCTION_BLOCK_COUNT: usize = 11;
 /// Where a function record has its count of formals.
-pub const FUNCTION_FORMAL_COUNT: usize = 48;
+pub const FUNCTION_FORMAL_COUNT: usize = 12;
 /// Where a function record has its first formal: a name and a type, and then the next one's.
-pub const FUNCTION_FORMALS: usize = 52;
+pub const FUNCTION_FORMALS: usize = 13;
 
 /// The most items that a text may have: operations, those that were added with them, and labels.
 pub const ITEMS: usize = 3_072;
 /// Where the first item record stands in `out`.
 pub const ITEMS_OFFSET: usize = 85_252;
-/// The size of an item record: eight cells.
-pub const ITEM_BYTES: usize = 32;
 /// The size of an item record, in cells.
-pub const ITEM_CELLS: usize = ITEM_BYTES / CELL_BYTES;
+pub const ITEM_CELLS: usize = 8;
 /// The size of `items` in cells: the room of all item records. A shorter slice is refused with 30.
 pub const ITEMS_CELLS: usize = 24_576;
 /// Where an item record has its kind.
 pub const ITEM_KIND: usize = 0;
 /// Where an item record has the index of its token.
-pub const ITEM_TOKEN: usize = 4;
+pub const ITEM_TOKEN: usize = 1;
 /// Where an item record has its result, a name and a type.
-pub const ITEM_RESULT: usize = 8;
+pub const ITEM_RESULT: usize = 2;
 /// Where an item record has its first operand or its callee, a name and a type.
-pub const ITEM_LEFT: usize = 16;
+pub const ITEM_LEFT: usize = 4;
 /// Where an item record has its second operand, its labels, or the run of its arguments.
-pub const ITEM_RIGHT: usize = 24;
+pub const ITEM_RIGHT: usize = 6;
 
 /// The room for arguments.
 pub const ARGUMENTS: usize = 3_464;
 /// Where the first argument record stands in `out`.
 pub const ARGUMENTS_OFFSET: usize = 183_556;
-/// The size of an argument record: a name and a type.
-pub const ARGUMENT_BYTES: usize = 8;
 /// The size of an argument record, in cells.
-pub const ARGUMENT_CELLS: usize = ARGUMENT_BYTES / CELL_BYTES;
+pub const ARGUMENT_CELLS: usize = 2;
 /// The size of `arguments` in cells: the room of all argument records. A shorter slice is refused with 30.
 pub const ARGUMENTS_CELLS: usize = 6_928;
 
@@ -146,35 +136,31 @@ pub const ARGUMENTS_CELLS: usize = 6_928;
 pub const BLOCKS: usize = 1_024;
 /// Where the first block record stands in `out`.
 pub const BLOCKS_OFFSET: usize = 211_268;
-/// The size of a block record: eight cells.
-pub const BLOCK_BYTES: usize = 32;
 /// The size of a block record, in cells.
-pub const BLOCK_CELLS: usize = BLOCK_BYTES / CELL_BYTES;
+pub const BLOCK_CELLS: usize = 8;
 /// The size of `blocks` in cells: the room of all block records. A shorter slice is refused with 30.
 pub const BLOCKS_CELLS: usize = 8_192;
 /// Where a block record has its first operation, as an item's index.
 pub const BLOCK_OPERATIONS: usize = 0;
 /// Where a block record has its count of operations.
-pub const BLOCK_OPERATION_COUNT: usize = 4;
+pub const BLOCK_OPERATION_COUNT: usize = 1;
 /// Where a block record has its count of successors.
-pub const BLOCK_SUCCESSOR_COUNT: usize = 8;
+pub const BLOCK_SUCCESSOR_COUNT: usize = 2;
 /// Where a block record has its two successors.
-pub const BLOCK_SUCCESSORS: usize = 12;
+pub const BLOCK_SUCCESSORS: usize = 3;
 /// Where a block record has its first predecessor, as an index among all.
-pub const BLOCK_PREDECESSORS: usize = 20;
+pub const BLOCK_PREDECESSORS: usize = 5;
 /// Where a block record has its count of predecessors.
-pub const BLOCK_PREDECESSOR_COUNT: usize = 24;
+pub const BLOCK_PREDECESSOR_COUNT: usize = 6;
 /// Where a block record has its dead mark.
-pub const BLOCK_DEAD: usize = 28;
+pub const BLOCK_DEAD: usize = 7;
 
 /// The most predecessors that a text's blocks may have in all.
 pub const PREDECESSORS: usize = 2_048;
 /// Where the first predecessor stands in `out`.
 pub const PREDECESSORS_OFFSET: usize = 244_036;
-/// The size of a predecessor record: one cell.
-pub const PREDECESSOR_BYTES: usize = 4;
 /// The size of a predecessor record, in cells.
-pub const PREDECESSOR_CELLS: usize = PREDECESSOR_BYTES / CELL_BYTES;
+pub const PREDECESSOR_CELLS: usize = 1;
 /// The size of `predecessors` in cells: the room of all predecessors. A shorter slice is refused with 30.
 pub const PREDECESSORS_CELLS: usize = 2_048;
 
@@ -443,7 +429,7 @@ pub struct Slices<'a> {
 /// let answer = raw::read_cells(b"@f {\nnop; }", &mut tokens, &mut names, &mut message);
 /// assert_eq!((answer.number, answer.tokens, answer.names), (0, 6, 1));
 /// let nop = &tokens[2 * raw::TOKEN_CELLS..][..raw::TOKEN_CELLS];
-/// assert_eq!(nop[raw::TOKEN_LINE / raw::CELL_BYTES], 2);
+/// assert_eq!(nop[raw::TOKEN_LINE], 2);
 ///
 /// let answer = raw::read_cells(b"@f { nop; }", &mut tokens[1..], &mut names, &mut message);
 /// assert_eq!(answer.number, 30);
@@ -487,7 +473,7 @@ pub fn read_cells(text: &[u8], tokens: &mut [u32], names: &mut [u32], message: &
 /// };
 /// let answer = raw::check_cells(b"@f { nop; }", slices, &mut message);
 /// assert_eq!((answer.number, answer.functions, answer.blocks), (0, 1, 1));
-/// assert_eq!(blocks[raw::BLOCK_OPERATION_COUNT / raw::CELL_BYTES], 2, "nop, and the ret that is added");
+/// assert_eq!(blocks[raw::BLOCK_OPERATION_COUNT], 2, "nop, and the ret that is added");
 /// ```
 pub fn check_cells(text: &[u8], slices: Slices<'_>, message: &mut [u8]) -> CheckAnswer {
     let Slices { tokens, names, functions, items, arguments, blocks, predecessors } = slices;

@@ -7,7 +7,7 @@ use crate::raw::{
     self, ARGUMENTS_CELLS, BLOCKS_CELLS, CheckAnswer, FUNCTIONS_CELLS, ITEMS_CELLS, MESSAGE_BYTES, NAME_CELLS,
     NAMES_CELLS, PREDECESSORS_CELLS, Slices, TOKEN_CELLS, TOKENS_CELLS,
 };
-use crate::records::{cell, record};
+use crate::records::{index, record};
 use crate::refusal::Refusal;
 use crate::token::{Identifier, Name, Token, TokenValue};
 use crate::unit::Unit;
@@ -16,8 +16,8 @@ use crate::unit::Unit;
 ///
 /// The buffers are taken once, by [`Reader::new`]: 252,228 bytes for the records and 512 for a message. They are lent to
 /// the proved functions, which write their cells there and nowhere else. No call of [`Reader::read`], [`Reader::check`] or
-/// [`Reader::recheck`] allocates: the room that they need beside is on the stack, less than 8 KiB for a reading, less than
-/// 16 KiB for a check, less than 28 KiB for a recheck.
+/// [`Reader::recheck`] allocates anything but a refusal's message: the room that they need beside is on the stack, less than
+/// 8 KiB for a reading, less than 16 KiB for a check, less than 28 KiB for a recheck.
 ///
 /// ```
 /// use pitchsleet::Reader;
@@ -88,8 +88,8 @@ impl Reader {
 
     /// The tokens and names of a text, or why it is refused.
     ///
-    /// The text is bytes: any are taken, and those that are no Bril text are refused. What comes back borrows the reader
-    /// and the text, so the next call waits until it is dropped.
+    /// The text is bytes: any are taken, and those that are no Bril text are refused. What comes back borrows the reader,
+    /// so the next call waits until it is dropped; spellings borrow the text alone.
     ///
     /// ```
     /// use pitchsleet::{Identifier, Reader, TokenValue};
@@ -109,8 +109,7 @@ impl Reader {
     /// # Errors
     ///
     /// A [`Refusal`] with its number, line, place and message, where the text is no sequence of tokens or is over a limit.
-    #[allow(clippy::result_large_err, reason = "a refusal carries its message, so that refused texts allocate nothing")]
-    pub fn read<'a>(&'a mut self, text: &'a [u8]) -> Result<Tokens<'a>, Refusal> {
+    pub fn read<'r, 't>(&'r mut self, text: &'t [u8]) -> Result<Tokens<'r, 't>, Refusal> {
         let Slices { tokens, names, .. } = self.buffers.slices();
         let answer = raw::read_cells(text, tokens, names, &mut self.message[..]);
         if answer.number != 0 {
@@ -122,7 +121,8 @@ impl Reader {
     /// The functions of a text, with their blocks, edges and typed operations, or why it is refused.
     ///
     /// The text is bytes: any are taken, and those that are no well-typed Bril text are refused. What comes back borrows
-    /// the reader and the text, so the next call waits until it is dropped.
+    /// the reader, so the next call waits until it is dropped; spellings borrow the text alone, and
+    /// [`Unit::into_owned`](crate::Unit::into_owned) gives what borrows nothing.
     ///
     /// ```
     /// use pitchsleet::{Reader, Type};
@@ -144,8 +144,7 @@ impl Reader {
     ///
     /// A [`Refusal`] with its number, line, place and message, where the text can't be read, doesn't follow the grammar,
     /// is not well typed, or is over a limit.
-    #[allow(clippy::result_large_err, reason = "a refusal carries its message, so that refused texts allocate nothing")]
-    pub fn check<'a>(&'a mut self, text: &'a [u8]) -> Result<Unit<'a>, Refusal> {
+    pub fn check<'r, 't>(&'r mut self, text: &'t [u8]) -> Result<Unit<'r, 't>, Refusal> {
         let answer = raw::check_cells(text, self.buffers.slices(), &mut self.message[..]);
         self.unit(text, &answer)
     }
@@ -172,7 +171,7 @@ impl Reader {
     ///
     /// let new = b"@start(t: int): bool { l: int = call @limit; b: bool = lt t l; ret b; }";
     /// let unit = reader.recheck(&headers, number, new)?;
-    /// assert_eq!(unit.len(), 1);
+    /// assert_eq!(unit.function_count(), 1);
     ///
     /// let new = b"@start(t: int): bool { l: int = call @limit; ret l; }";
     /// let refusal = reader.recheck(&headers, number, new).unwrap_err();
@@ -186,8 +185,12 @@ impl Reader {
     ///
     /// A [`Refusal`] with its number, line, place and message: those of [`Reader::check`], 40 where the new text isn't
     /// one function, 41 where its header has changed, and 42 where no function has the number.
-    #[allow(clippy::result_large_err, reason = "a refusal carries its message, so that refused texts allocate nothing")]
-    pub fn recheck<'a>(&'a mut self, headers: &Headers, number: usize, new: &'a [u8]) -> Result<Unit<'a>, Refusal> {
+    pub fn recheck<'r, 't>(
+        &'r mut self,
+        headers: &Headers,
+        number: usize,
+        new: &'t [u8],
+    ) -> Result<Unit<'r, 't>, Refusal> {
         // A number beyond 32 bits is no function's, and neither is the highest.
         let number = u32::try_from(number).unwrap_or(u32::MAX);
         let (old, table) = (headers.text().as_bytes(), headers.table_cells());
@@ -196,8 +199,7 @@ impl Reader {
     }
 
     /// What a check or a recheck has answered to a text, with the records and the message that it wrote.
-    #[allow(clippy::result_large_err, reason = "a refusal carries its message, so that refused texts allocate nothing")]
-    fn unit<'a>(&'a self, text: &'a [u8], answer: &CheckAnswer) -> Result<Unit<'a>, Refusal> {
+    fn unit<'r, 't>(&'r self, text: &'t [u8], answer: &CheckAnswer) -> Result<Unit<'r, 't>, Refusal> {
         if answer.number != 0 {
             return Err(Refusal::new(answer.number, answer.line, answer.place, &self.message));
         }
@@ -237,16 +239,16 @@ impl Debug for Reader {
 /// assert_eq!(spellings, ["@f"]);
 /// # Ok::<(), pitchsleet::Refusal>(())
 /// ```
-#[derive(Clone, Copy)]
-pub struct Tokens<'a> {
-    text: &'a str,
-    tokens: &'a [u32],
-    names: &'a [u32],
+#[derive(Clone, Copy, PartialEq, Eq)]
+pub struct Tokens<'r, 't> {
+    pub(crate) text: &'t str,
+    pub(crate) tokens: &'r [u32],
+    pub(crate) names: &'r [u32],
 }
 
-impl<'a> Tokens<'a> {
+impl<'r, 't> Tokens<'r, 't> {
     /// The records of an accepted text: so many tokens and names.
-    fn new(text: &'a [u8], buffers: &'a Buffers, tokens: u32, names: u32) -> Self {
+    fn new(text: &'t [u8], buffers: &'r Buffers, tokens: u32, names: u32) -> Self {
         Self {
             text: str::from_utf8(text).expect("an accepted text is ASCII"),
             tokens: &buffers.tokens[..tokens as usize * TOKEN_CELLS],
@@ -263,33 +265,48 @@ impl<'a> Tokens<'a> {
 
     /// The token at an index.
     #[must_use]
-    pub fn get(&self, index: usize) -> Option<Token<'a>> {
-        let record = record::<TOKEN_CELLS>(self.tokens, index)?;
-        let kind = cell(record, raw::TOKEN_KIND);
-        let value = TokenValue::from_cells(kind, cell(record, raw::TOKEN_VALUE));
+    pub fn get(&self, at: usize) -> Option<Token<'t>> {
+        let record = record::<TOKEN_CELLS>(self.tokens, at)?;
+        let value = TokenValue::from_cells(record[raw::TOKEN_KIND], record[raw::TOKEN_VALUE]);
         let value = value.expect("a token's kind is 1 to 38");
-        let place = cell(record, raw::TOKEN_PLACE) as usize;
-        Some(Token { value, line: cell(record, raw::TOKEN_LINE), place, spelling: self.spelling(value, place) })
+        let place = index(record, raw::TOKEN_PLACE);
+        Some(Token { value, line: record[raw::TOKEN_LINE], place, spelling: self.written(value, place) })
+    }
+
+    /// The index of the token that begins at a place; none where no token does.
+    #[must_use]
+    pub fn at_place(&self, place: usize) -> Option<usize> {
+        let (records, _) = self.tokens.as_chunks::<TOKEN_CELLS>();
+        records.binary_search_by_key(&place, |record| index(record, raw::TOKEN_PLACE)).ok()
     }
 
     /// The tokens, from the first to the end of the text.
     #[must_use]
-    pub fn iter(&self) -> Iter<'a> {
+    pub fn iter(&self) -> Iter<'r, 't> {
         Iter::new(*self)
     }
 
     /// The name with a number; none for a number that this text gives to no name.
     #[must_use]
-    pub fn name(&self, identifier: Identifier) -> Option<Name<'a>> {
+    pub fn name(&self, identifier: Identifier) -> Option<Name<'t>> {
         let record = record::<NAME_CELLS>(self.names, identifier.0)?;
-        let place = cell(record, raw::NAME_PLACE) as usize;
-        let length = cell(record, raw::NAME_LENGTH) as usize;
+        let (place, length) = (index(record, raw::NAME_PLACE), index(record, raw::NAME_LENGTH));
         Some(Name { identifier, place, spelling: &self.text[place..][..length] })
+    }
+
+    /// The spelling of a name of this text.
+    ///
+    /// # Panics
+    ///
+    /// Where this text gives the number to no name: one that this text's own records hold never is.
+    #[must_use]
+    pub fn spelling(&self, identifier: Identifier) -> &'t str {
+        self.name(identifier).expect("the number is one of this text's names").spelling
     }
 
     /// The names, by their numbers.
     #[must_use]
-    pub fn names(&self) -> impl ExactSizeIterator<Item = Name<'a>> + DoubleEndedIterator + Clone + use<'a> {
+    pub fn names(&self) -> impl ExactSizeIterator<Item = Name<'t>> + DoubleEndedIterator + Clone + use<'r, 't> {
         let tokens = *self;
         let count = self.names.len() / NAME_CELLS;
         (0..count).map(move |number| tokens.name(Identifier(number)).expect("the count is the table's"))
@@ -297,11 +314,11 @@ impl<'a> Tokens<'a> {
 
     /// The text that was read.
     #[must_use]
-    pub fn text(&self) -> &'a str {
+    pub fn text(&self) -> &'t str {
         self.text
     }
 
-    fn spelling(&self, value: TokenValue, place: usize) -> &'a str {
+    fn written(&self, value: TokenValue, place: usize) -> &'t str {
         let rest = &self.text[place..];
         &rest[..self.length(value, rest)]
     }
@@ -326,25 +343,25 @@ fn integer_length(rest: &str) -> usize {
     1 + after_first.take_while(u8::is_ascii_digit).count()
 }
 
-impl<'a> IntoIterator for Tokens<'a> {
-    type Item = Token<'a>;
-    type IntoIter = Iter<'a>;
+impl<'r, 't> IntoIterator for Tokens<'r, 't> {
+    type Item = Token<'t>;
+    type IntoIter = Iter<'r, 't>;
 
-    fn into_iter(self) -> Iter<'a> {
+    fn into_iter(self) -> Iter<'r, 't> {
         self.iter()
     }
 }
 
-impl<'a> IntoIterator for &Tokens<'a> {
-    type Item = Token<'a>;
-    type IntoIter = Iter<'a>;
+impl<'r, 't> IntoIterator for &Tokens<'r, 't> {
+    type Item = Token<'t>;
+    type IntoIter = Iter<'r, 't>;
 
-    fn into_iter(self) -> Iter<'a> {
+    fn into_iter(self) -> Iter<'r, 't> {
         self.iter()
     }
 }
 
-impl Debug for Tokens<'_> {
+impl Debug for Tokens<'_, '_> {
     fn fmt(&self, f: &mut Formatter<'_>) -> fmt::Result {
         f.debug_list().entries(self).finish()
     }

@@ -2,10 +2,22 @@
 use core::error::Error;
 use core::fmt::{self, Debug, Display, Formatter};
 
+use crate::lines::{Lines, Position};
 use crate::printable::Printable;
 use crate::raw::MESSAGE_BYTES;
 
 /// Why a text was refused: a number, a line, a place, and a message.
+///
+/// ```
+/// use pitchsleet::{Reader, RefusalKind};
+///
+/// let text = b"# a rule\n@f {\n  ret x;\n}";
+/// let refusal = Reader::new().check(text).unwrap_err();
+/// assert_eq!((refusal.number(), refusal.kind()), (16, RefusalKind::Undefined));
+/// assert_eq!(refusal.message(), b"[line 2] Error at 'x': Undefined identifier.\n");
+/// let position = refusal.position(text).expect("it has a place");
+/// assert_eq!((position.line, position.column), (3, 3), "in the file, where all newlines count");
+/// ```
 ///
 /// | number | why | line and place |
 /// |---|---|---|
@@ -69,20 +81,25 @@ pub struct Refusal {
     number: u32,
     line: u32,
     place: u32,
-    message_length: usize,
-    // Kept here and not on the heap, so that a refused text allocates no more than an accepted one.
-    message: [u8; MESSAGE_BYTES],
+    // On the heap, so that a `Result` is small: what is accepted shouldn't carry the room of a message.
+    message: Box<[u8]>,
 }
 
 impl Refusal {
     pub(crate) fn new(number: u32, line: u32, place: u32, message: &[u8; MESSAGE_BYTES]) -> Self {
-        Self { number, line, place, message_length: length_of(message), message: *message }
+        Self { number, line, place, message: message[..length_of(message)].into() }
     }
 
     /// The refusal's number: one of those above.
     #[must_use]
     pub fn number(&self) -> u32 {
         self.number
+    }
+
+    /// What the number means.
+    #[must_use]
+    pub fn kind(&self) -> RefusalKind {
+        RefusalKind::of(self.number).expect("every refusal's number has a kind")
     }
 
     /// The line, from 1; newlines in comments are not counted. 0 where no line is meant, as where the text is too long
@@ -98,12 +115,19 @@ impl Refusal {
         self.place as usize
     }
 
+    /// The line and column of its place in the text that was refused, as an editor counts them. None where it is of no
+    /// place in the text: of 31 and 42.
+    #[must_use]
+    pub fn position(&self, text: &[u8]) -> Option<Position> {
+        self.kind().has_place().then(|| Lines::new(text).position(self.place()))
+    }
+
     /// The message, byte for byte that of the Rust original where it has one: `[line 1] Error : Unexpected token: '$'.`
     /// and a newline. It may hold a control character of the text, even a zero; [`Printable`] makes it fit to show. A
     /// token that is a name is called by its number there, as in `at 'local_3'`.
     #[must_use]
     pub fn message(&self) -> &[u8] {
-        &self.message[..self.message_length]
+        &self.message
     }
 }
 
@@ -136,3 +160,134 @@ impl Debug for Refusal {
 }
 
 impl Error for Refusal {}
+
+macro_rules! kinds {
+    ($($(#[$says:meta])* $variant:ident $number:literal,)*) => {
+        /// What a refusal's number means. The names are those of include/pitchsleet.h.
+        ///
+        /// ```
+        /// use pitchsleet::{Reader, RefusalKind};
+        ///
+        /// let refusal = Reader::new().check(b"@f { jmp .nowhere; }").unwrap_err();
+        /// let advice = match refusal.kind() {
+        ///     RefusalKind::MissingTarget => "a label is misspelt, or was renamed",
+        ///     kind if kind.is_limit() => "the rule must be made smaller",
+        ///     _ => "see the message",
+        /// };
+        /// assert_eq!(advice, "a label is misspelt, or was renamed");
+        /// ```
+        #[derive(Clone, Copy, Debug, PartialEq, Eq, Hash)]
+        #[non_exhaustive]
+        pub enum RefusalKind {
+            $($(#[$says])* $variant,)*
+        }
+
+        impl RefusalKind {
+            /// All of them, by rising numbers.
+            pub const ALL: &[Self] = &[$(Self::$variant,)*];
+
+            /// The kind with a number, as the functions of [`raw`](crate::raw) answer; none for 0 and for numbers that
+            /// refuse nothing.
+            #[must_use]
+            pub fn of(number: u32) -> Option<Self> {
+                match number {
+                    $($number => Some(Self::$variant),)*
+                    _ => None,
+                }
+            }
+
+            /// Its number.
+            #[must_use]
+            pub fn number(self) -> u32 {
+                match self {
+                    $(Self::$variant => $number,)*
+                }
+            }
+        }
+    };
+}
+
+kinds! {
+    /// A byte of the text is above 127.
+    NotAscii 1,
+    /// A `/*` comment is not closed.
+    CommentNotClosed 2,
+    /// A byte begins no token.
+    UnexpectedByte 3,
+    /// A `-` has no digits behind it, or the number is below -2147483648.
+    NumberExpected 4,
+    /// A certain token is missing; the message names it.
+    TokenExpected 5,
+    /// A local, a name without a sigil, is missing.
+    NoLocal 6,
+    /// A global, a name with an `@`, is missing.
+    NoGlobal 7,
+    /// A label, a name with a `.`, is missing.
+    NoLabel 8,
+    /// A type, `int` or `bool`, is missing.
+    NoType 9,
+    /// A number, `true` or `false` is missing behind `const`.
+    NoConstant 10,
+    /// Behind `=` stands no operation's word.
+    UnexpectedToken 11,
+    /// An operation stands behind its block's end, without a label between.
+    NoLabelFirst 12,
+    /// A label names a block of this function already.
+    DuplicateLabel 13,
+    /// A `jmp` or `br` goes to a label that the function doesn't have.
+    MissingTarget 14,
+    /// A name has another type already.
+    UnexpectedType 15,
+    /// A name is used that no operation before has set, or a function called that there isn't.
+    Undefined 16,
+    /// One type stands where another must be.
+    OtherType 17,
+    /// A value is taken from a void function, or returned by one.
+    VoidValue 18,
+    /// The value of a function that has one is not taken, or not returned.
+    NoValue 19,
+    /// A call has more or fewer arguments than the function has formals.
+    OtherCount 20,
+    /// A block of a function with a result doesn't end in `jmp`, `br` or `ret`.
+    NoTerminator 21,
+    /// A block has no operation.
+    EmptyBlock 22,
+    /// A lent slice is too short. A [`Reader`](crate::Reader) lends enough, so only [`raw`](crate::raw) has it.
+    ShortBuffer 30,
+    /// The text has more than 16,384 bytes.
+    TooManyBytes 31,
+    /// The text has more than 4,096 tokens, its end among them.
+    TooManyTokens 32,
+    /// The text has more than 1,024 names.
+    TooManyNames 33,
+    /// A name has more than 64 bytes.
+    NameTooLong 34,
+    /// The text has more than 64 functions.
+    TooManyFunctions 35,
+    /// A function has more than 16 formals.
+    TooManyFormals 36,
+    /// A call has more than 16 arguments.
+    TooManyArguments 37,
+    /// A function has more than 255 labels.
+    TooManyLabels 38,
+    /// A new text is not one function, from its `@` to its `}`.
+    NotOneFunction 40,
+    /// A new function has another name or other types than the one that it replaces.
+    HeaderChanged 41,
+    /// No function has the number, or the header table is not one of the old text.
+    BadTable 42,
+}
+
+impl RefusalKind {
+    /// Whether it is of a place in the text. Those that aren't are of the text as a whole, or not of it at all.
+    #[must_use]
+    pub fn has_place(self) -> bool {
+        !matches!(self, Self::ShortBuffer | Self::TooManyBytes | Self::BadTable)
+    }
+
+    /// Whether a limit is passed: a smaller text of the same kind would be accepted.
+    #[must_use]
+    pub fn is_limit(self) -> bool {
+        (Self::TooManyBytes.number()..=Self::TooManyLabels.number()).contains(&self.number())
+    }
+}

@@ -1,8 +1,7 @@
 //! Types, and names that have one.
 use core::fmt::{self, Display, Formatter};
 
-use crate::raw::CELL_BYTES;
-use crate::records::{cell, index};
+use crate::records::index;
 use crate::token::Identifier;
 
 /// A type, as in the Rust original.
@@ -57,8 +56,8 @@ pub struct Variable {
 }
 
 impl Variable {
-    /// The variable of two cells, from an offset of a record on.
-    pub(crate) fn from_cells(record: &[u32], offset: usize) -> Self {
-        Self { name: Identifier(index(record, offset)), ty: Type::from_cell(cell(record, offset + CELL_BYTES)) }
+    /// The variable of two cells of a record, the first and the one behind it.
+    pub(crate) fn from_cells(record: &[u32], first: usize) -> Self {
+        Self { name: Identifier(index(record, first)), ty: Type::from_cell(record[first + 1]) }
     }
 }

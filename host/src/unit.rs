@@ -4,12 +4,12 @@ use core::ops::Range;
 
 use crate::headers::Headers;
 use crate::operation::Operation;
+use crate::owned::OwnedUnit;
 use crate::raw::{
-    self, ARGUMENT_CELLS, BLOCK_CELLS, CELL_BYTES, CheckAnswer, FUNCTION_CELLS, ITEM_CELLS, PREDECESSOR_CELLS,
-    TABLE_CELLS,
+    self, ARGUMENT_CELLS, BLOCK_CELLS, CheckAnswer, FUNCTION_CELLS, ITEM_CELLS, PREDECESSOR_CELLS, TABLE_CELLS,
 };
 use crate::reader::{Buffers, Tokens};
-use crate::records::{cell, function_records, index, record};
+use crate::records::{function_records, index, record};
 use crate::token::{Identifier, Name, Token};
 use crate::types::{Type, Variable};
 
@@ -37,29 +37,29 @@ const LABEL: u32 = 1;
 ///         println!("  block {} goes to {:?}", block.number(), block.successors());
 ///         for operation in block.operations() {
 ///             if let OperationValue::Binary { operator, left, .. } = operation.value {
-///                 println!("    {} of {}s", operator.kind(), left.ty);
+///                 println!("    {operator} of {}s", left.ty);
 ///             }
 ///         }
 ///     }
 /// }
 /// let least = unit.function(0).expect("there is one");
-/// assert_eq!(least.block(0).map(|block| block.successors().to_vec()), Some(vec![1, 2]));
+/// assert_eq!(least.block(0).expect("a function has a block").successors(), [1, 2]);
 /// # Ok::<(), pitchsleet::Refusal>(())
 /// ```
-#[derive(Clone, Copy)]
-pub struct Unit<'a> {
-    tokens: Tokens<'a>,
-    table: &'a [u32; TABLE_CELLS],
-    functions: &'a [u32],
-    items: &'a [u32],
-    arguments: &'a [u32],
-    blocks: &'a [u32],
-    predecessors: &'a [u32],
+#[derive(Clone, Copy, PartialEq, Eq)]
+pub struct Unit<'r, 't> {
+    pub(crate) tokens: Tokens<'r, 't>,
+    pub(crate) table: &'r [u32; TABLE_CELLS],
+    pub(crate) functions: &'r [u32],
+    pub(crate) items: &'r [u32],
+    pub(crate) arguments: &'r [u32],
+    pub(crate) blocks: &'r [u32],
+    pub(crate) predecessors: &'r [u32],
 }
 
-impl<'a> Unit<'a> {
+impl<'r, 't> Unit<'r, 't> {
     /// The records of an accepted text, as many as the answer counts.
-    pub(crate) fn new(tokens: Tokens<'a>, buffers: &'a Buffers, answer: &CheckAnswer) -> Self {
+    pub(crate) fn new(tokens: Tokens<'r, 't>, buffers: &'r Buffers, answer: &CheckAnswer) -> Self {
         Self {
             tokens,
             table: &buffers.functions,
@@ -73,35 +73,46 @@ impl<'a> Unit<'a> {
 
     /// The tokens and names of the text.
     #[must_use]
-    pub fn tokens(&self) -> Tokens<'a> {
+    pub fn tokens(&self) -> Tokens<'r, 't> {
         self.tokens
     }
 
     /// The name with a number; none for a number that this text gives to no name.
     #[must_use]
-    pub fn name(&self, identifier: Identifier) -> Option<Name<'a>> {
+    pub fn name(&self, identifier: Identifier) -> Option<Name<'t>> {
         self.tokens.name(identifier)
+    }
+
+    /// The spelling of a name of this text.
+    ///
+    /// # Panics
+    ///
+    /// Where this text gives the number to no name: one that this unit's own records hold never is.
+    #[must_use]
+    pub fn spelling(&self, identifier: Identifier) -> &'t str {
+        self.tokens.spelling(identifier)
     }
 
     /// How many functions there are: at most 64, and none in a text without any.
     #[must_use]
-    #[allow(clippy::len_without_is_empty, reason = "a unit is more than its functions")]
-    pub fn len(&self) -> usize {
+    pub fn function_count(&self) -> usize {
         self.functions.len() / FUNCTION_CELLS
     }
 
     /// The function at an index.
     #[must_use]
-    pub fn function(&self, index: usize) -> Option<Function<'a>> {
+    pub fn function(&self, index: usize) -> Option<Function<'r, 't>> {
         let record = record::<FUNCTION_CELLS>(self.functions, index)?;
         Some(Function { unit: *self, record })
     }
 
     /// The functions, in the order of the text. Two may have the same name, if they have the same type.
     #[must_use]
-    pub fn functions(&self) -> impl ExactSizeIterator<Item = Function<'a>> + DoubleEndedIterator + Clone + use<'a> {
+    pub fn functions(
+        &self,
+    ) -> impl ExactSizeIterator<Item = Function<'r, 't>> + DoubleEndedIterator + Clone + use<'r, 't> {
         let unit = *self;
-        (0..self.len()).map(move |index| unit.function(index).expect("the count is the table's"))
+        (0..self.function_count()).map(move |index| unit.function(index).expect("the count is the table's"))
     }
 
     /// The text's headers, as a value of its own: what [`Reader::recheck`](crate::Reader::recheck) holds a new function
@@ -113,26 +124,32 @@ impl<'a> Unit<'a> {
     pub fn headers(&self) -> Headers {
         Headers::new(self.tokens.text(), self.table)
     }
+
+    /// The same as a value of its own, with a copy of the text and of all records.
+    #[must_use]
+    pub fn into_owned(self) -> OwnedUnit {
+        OwnedUnit::from(self)
+    }
 }
 
-impl Debug for Unit<'_> {
+impl Debug for Unit<'_, '_> {
     fn fmt(&self, f: &mut Formatter<'_>) -> fmt::Result {
         f.debug_list().entries(self.functions()).finish()
     }
 }
 
 /// A function of an accepted text.
-#[derive(Clone, Copy)]
-pub struct Function<'a> {
-    unit: Unit<'a>,
-    record: &'a [u32; FUNCTION_CELLS],
+#[derive(Clone, Copy, PartialEq, Eq)]
+pub struct Function<'r, 't> {
+    unit: Unit<'r, 't>,
+    record: &'r [u32; FUNCTION_CELLS],
 }
 
-impl<'a> Function<'a> {
+impl<'r, 't> Function<'r, 't> {
     /// Its name. [`Name::place`] is where the name first appears in the text, perhaps in a call; [`Function::place`] is
     /// where it stands here.
     #[must_use]
-    pub fn name(&self) -> Name<'a> {
+    pub fn name(&self) -> Name<'t> {
         let identifier = Identifier(index(self.record, raw::FUNCTION_NAME));
         self.unit.name(identifier).expect("a function's name is in the table")
     }
@@ -181,13 +198,13 @@ impl<'a> Function<'a> {
     /// The line of its name; newlines in comments are not counted.
     #[must_use]
     pub fn line(&self) -> u32 {
-        cell(self.record, raw::FUNCTION_LINE)
+        self.record[raw::FUNCTION_LINE]
     }
 
     /// The type of its result: [`Type::Int`], [`Type::Bool`], or [`Type::Void`] for none.
     #[must_use]
     pub fn result(&self) -> Type {
-        Type::from_cell(cell(self.record, raw::FUNCTION_RESULT))
+        Type::from_cell(self.record[raw::FUNCTION_RESULT])
     }
 
     /// Its own type, a [`Type::Fn`]: the types of its formals and of its result.
@@ -198,23 +215,22 @@ impl<'a> Function<'a> {
 
     /// Its formals, in order: at most 16.
     #[must_use]
-    pub fn formals(&self) -> impl ExactSizeIterator<Item = Variable> + DoubleEndedIterator + Clone + use<'a> {
-        let (formals, _) = self.record[raw::FUNCTION_FORMALS / CELL_BYTES..].as_chunks::<2>();
+    pub fn formals(&self) -> impl ExactSizeIterator<Item = Variable> + DoubleEndedIterator + Clone + use<'r, 't> {
+        let (formals, _) = self.record[raw::FUNCTION_FORMALS..].as_chunks::<2>();
         let formals = &formals[..index(self.record, raw::FUNCTION_FORMAL_COUNT)];
         formals.iter().map(|formal| Variable::from_cells(formal, 0))
     }
 
     /// How many blocks it has: 1 to 256.
     #[must_use]
-    #[allow(clippy::len_without_is_empty, reason = "it is never empty")]
-    pub fn len(&self) -> usize {
+    pub fn block_count(&self) -> usize {
         index(self.record, raw::FUNCTION_BLOCK_COUNT)
     }
 
     /// The block with a number; block 0 is the first that runs.
     #[must_use]
-    pub fn block(&self, number: usize) -> Option<Block<'a>> {
-        if self.len() <= number {
+    pub fn block(&self, number: usize) -> Option<Block<'r, 't>> {
+        if self.block_count() <= number {
             return None;
         }
         let first = index(self.record, raw::FUNCTION_BLOCKS);
@@ -224,17 +240,17 @@ impl<'a> Function<'a> {
 
     /// The blocks, by their numbers.
     #[must_use]
-    pub fn blocks(&self) -> impl ExactSizeIterator<Item = Block<'a>> + DoubleEndedIterator + Clone + use<'a> {
+    pub fn blocks(&self) -> impl ExactSizeIterator<Item = Block<'r, 't>> + DoubleEndedIterator + Clone + use<'r, 't> {
         let function = *self;
-        (0..self.len()).map(move |number| function.block(number).expect("the count is the table's"))
+        (0..self.block_count()).map(move |number| function.block(number).expect("the count is the table's"))
     }
 
     /// The labels, in the order of the text.
-    pub fn labels(&self) -> impl Iterator<Item = Label> + Clone + use<'a> {
+    pub fn labels(&self) -> impl Iterator<Item = Label> + Clone + use<'r, 't> {
         self.blocks().flat_map(|block| block.labels())
     }
 
-    fn token_at(&self, index: usize) -> Token<'a> {
+    fn token_at(&self, index: usize) -> Token<'t> {
         self.unit.tokens.get(index).expect("a function's tokens are the text's")
     }
 
@@ -244,7 +260,7 @@ impl<'a> Function<'a> {
     }
 }
 
-impl Debug for Function<'_> {
+impl Debug for Function<'_, '_> {
     fn fmt(&self, f: &mut Formatter<'_>) -> fmt::Result {
         f.debug_struct("Function")
             .field("name", &self.name())
@@ -267,14 +283,14 @@ pub struct Label {
 }
 
 /// A block of a function: operations that run one after the other, and the edges from it and to it.
-#[derive(Clone, Copy)]
-pub struct Block<'a> {
-    function: Function<'a>,
+#[derive(Clone, Copy, PartialEq, Eq)]
+pub struct Block<'r, 't> {
+    function: Function<'r, 't>,
     number: usize,
-    record: &'a [u32; BLOCK_CELLS],
+    record: &'r [u32; BLOCK_CELLS],
 }
 
-impl<'a> Block<'a> {
+impl<'r, 't> Block<'r, 't> {
     /// Its number, from 0 in each function.
     #[must_use]
     pub fn number(&self) -> usize {
@@ -283,7 +299,9 @@ impl<'a> Block<'a> {
 
     /// The operations, in order. The last one is a `jmp`, a `br` or a `ret`.
     #[must_use]
-    pub fn operations(&self) -> impl ExactSizeIterator<Item = Operation<'a>> + DoubleEndedIterator + Clone + use<'a> {
+    pub fn operations(
+        &self,
+    ) -> impl ExactSizeIterator<Item = Operation<'r>> + DoubleEndedIterator + Clone + use<'r, 't> {
         let unit = self.function.unit;
         let (first, count) = (self.first_operation(), index(self.record, raw::BLOCK_OPERATION_COUNT));
         (first..first + count).map(move |at| {
@@ -294,14 +312,14 @@ impl<'a> Block<'a> {
 
     /// The blocks that may come next, by their numbers: two for `br`, equal or not, one for `jmp`, none for `ret`.
     #[must_use]
-    pub fn successors(&self) -> Edges<'a> {
+    pub fn successors(&self) -> Edges<'r> {
         let count = index(self.record, raw::BLOCK_SUCCESSOR_COUNT);
-        Edges { cells: &self.record[raw::BLOCK_SUCCESSORS / CELL_BYTES..][..count] }
+        Edges { cells: &self.record[raw::BLOCK_SUCCESSORS..][..count] }
     }
 
     /// The blocks that this one may come after, by their numbers: one entry for each edge, in the edges' order.
     #[must_use]
-    pub fn predecessors(&self) -> Edges<'a> {
+    pub fn predecessors(&self) -> Edges<'r> {
         let first = index(self.record, raw::BLOCK_PREDECESSORS);
         let count = index(self.record, raw::BLOCK_PREDECESSOR_COUNT);
         Edges { cells: &self.function.unit.predecessors[first..][..count] }
@@ -311,15 +329,15 @@ impl<'a> Block<'a> {
     /// marked.
     #[must_use]
     pub fn is_dead(&self) -> bool {
-        cell(self.record, raw::BLOCK_DEAD) != 0
+        self.record[raw::BLOCK_DEAD] != 0
     }
 
     /// The labels that name it, in the order of the text.
-    pub fn labels(&self) -> impl Iterator<Item = Label> + Clone + use<'a> {
+    pub fn labels(&self) -> impl Iterator<Item = Label> + Clone + use<'r, 't> {
         // They stand right before its first operation: back from there as long as there are labels, and then forward.
         let (items, number) = (self.function.unit.items, self.number);
         let item = move |at: usize| record::<ITEM_CELLS>(items, at).expect("the function's items are in the table");
-        let is_label = move |at: &usize| cell(item(*at), raw::ITEM_KIND) == LABEL;
+        let is_label = move |at: &usize| item(*at)[raw::ITEM_KIND] == LABEL;
         let end = self.first_operation();
         let count = (self.function.first_item()..end).rev().take_while(is_label).count();
         (end - count..end).map(move |at| Label {
@@ -334,7 +352,7 @@ impl<'a> Block<'a> {
     }
 }
 
-impl Debug for Block<'_> {
+impl Debug for Block<'_, '_> {
     fn fmt(&self, f: &mut Formatter<'_>) -> fmt::Result {
         f.debug_struct("Block")
             .field("number", &self.number)
@@ -347,12 +365,26 @@ impl Debug for Block<'_> {
 }
 
 /// Blocks at the other ends of a block's edges, by their numbers.
-#[derive(Clone, Copy)]
-pub struct Edges<'a> {
-    cells: &'a [u32],
+///
+/// ```
+/// use pitchsleet::Reader;
+///
+/// let mut reader = Reader::new();
+/// let unit = reader.check(b"@f { .top: br again .top .end; .end: ret; }")?;
+/// let function = unit.function(0).expect("there is one");
+/// let top = function.block(0).expect("there are two");
+/// assert_eq!(top.successors(), [0, 1]);
+/// for number in top.successors() {
+///     println!("block 0 goes to block {number}");
+/// }
+/// # Ok::<(), pitchsleet::Refusal>(())
+/// ```
+#[derive(Clone, Copy, PartialEq, Eq)]
+pub struct Edges<'r> {
+    cells: &'r [u32],
 }
 
-impl<'a> Edges<'a> {
+impl<'r> Edges<'r> {
     /// How many edges there are.
     #[must_use]
     pub fn len(&self) -> usize {
@@ -373,8 +405,8 @@ impl<'a> Edges<'a> {
 
     /// The blocks, in the edges' order.
     #[must_use]
-    pub fn iter(&self) -> impl ExactSizeIterator<Item = usize> + DoubleEndedIterator + Clone + use<'a> {
-        self.cells.iter().map(|&block| block as usize)
+    pub fn iter(&self) -> EdgesIter<'r> {
+        EdgesIter { cells: self.cells.iter() }
     }
 
     /// The blocks as a list of their own.
@@ -388,4 +420,24 @@ impl Debug for Edges<'_> {
     fn fmt(&self, f: &mut Formatter<'_>) -> fmt::Result {
         f.debug_list().entries(self.iter()).finish()
     }
+}
+
+/// Equal to the same blocks in the same order.
+impl PartialEq<[usize]> for Edges<'_> {
+    fn eq(&self, blocks: &[usize]) -> bool {
+        self.iter().eq(blocks.iter().copied())
+    }
+}
+
+/// Equal to the same blocks in the same order.
+impl<const COUNT: usize> PartialEq<[usize; COUNT]> for Edges<'_> {
+    fn eq(&self, blocks: &[usize; COUNT]) -> bool {
+        *self == blocks[..]
+    }
+}
+
+each! {
+    /// The blocks at the other ends of a block's edges, in the edges' order; [`Edges::iter`] gives it.
+    EdgesIter of Edges: cells of u32 as usize,
+    |&block| block as usize
 }

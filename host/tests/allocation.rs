@@ -1,4 +1,4 @@
-//! No call of a reader allocates, nor one of the C functions, whether the text is accepted or refused.
+//! No call of a reader allocates, but for a refusal's message; and none of the C functions allocates anything.
 mod support;
 
 use std::alloc::{GlobalAlloc, Layout, System};
@@ -38,31 +38,35 @@ const TEXTS: [&[u8]; 7] = [b"@f { x: int = const 5; }", PROGRAM, b"@f { ret x; }
 const PROGRAM: &[u8] = b"@f(a: int): int { .l: b: int = call @f a; br c .l .m; .m: ret b; }";
 
 #[test]
-fn no_allocation_per_call() {
+fn no_allocation_but_a_refusal_s_message() {
     let before_the_buffers = ASKED.get();
     let mut reader = Reader::new();
     let headers = reader.check(b"@f(a: int): int { ret a; }").expect("accepted").headers();
     let before = ASKED.get();
     assert!(before_the_buffers < before, "the count works");
+    let mut refused = 0;
     for text in TEXTS {
         match reader.read(text) {
             Ok(tokens) => {
                 black_box(tokens.iter().map(|token| token.spelling.len()).sum::<usize>());
                 black_box(tokens.names().map(|name| name.spelling.len()).sum::<usize>());
+                black_box(tokens.at_place(0));
             }
             Err(refusal) => {
-                black_box(refusal.message());
+                black_box((refusal.message(), refusal.kind()));
+                refused += 1;
             }
         }
-        look_at(reader.check(text));
+        refused += look_at(reader.check(text));
         for number in [0, 1, usize::MAX] {
-            look_at(reader.recheck(&headers, number, text));
+            refused += look_at(reader.recheck(&headers, number, text));
         }
     }
     assert!(reader.recheck(&headers, 0, PROGRAM).is_ok());
     black_box((headers.names().map(str::len).sum::<usize>(), headers.position("@f"), headers.line(0)));
     black_box((headers.table(), headers.table_cells()));
-    assert_eq!(ASKED.get(), before);
+    assert!(refused > TEXTS.len(), "{refused}");
+    assert_eq!(ASKED.get(), before + refused, "each refusal has its message, and nothing else is asked for");
 }
 
 #[test]
@@ -86,16 +90,19 @@ fn no_allocation_in_the_c_functions() {
     assert_eq!(ASKED.get(), before);
 }
 
-fn look_at(answer: Result<Unit<'_>, Refusal>) {
+/// Looks at all of an answer; 1 where it is a refusal.
+fn look_at(answer: Result<Unit<'_, '_>, Refusal>) -> usize {
     match answer {
         Ok(unit) => {
             let blocks = unit.functions().flat_map(|function| function.blocks());
             black_box(blocks.clone().map(|block| block.successors().len() + block.labels().count()).sum::<usize>());
             black_box(blocks.flat_map(|b| b.operations()).map(|o| o.operands().count()).sum::<usize>());
             black_box(unit.functions().map(|function| function.span().len()).sum::<usize>());
+            0
         }
         Err(refusal) => {
-            black_box(refusal.message());
+            black_box((refusal.message(), refusal.kind()));
+            1
         }
     }
 }

@@ -63,6 +63,14 @@ impl Repository {
         fs::write(file, contents).expect("a file");
     }
 
+    /// The Rust crate, without its code.
+    fn add_host(&self) {
+        self.copy("host/Cargo.toml");
+        self.copy("host/build.rs");
+        self.write("host/src/lib.rs", "");
+        self.write("README.md", "");
+    }
+
     /// A program of the repository's own, which stands in front of the PATH.
     fn program(&self, name: &str, words: &str) {
         let name = format!("bin/{name}");
@@ -254,19 +262,27 @@ fn what_is_not_proved() {
     }
 }
 
+/// What tools/archive calls beside rt.
+const ITS_TOOLS: [&str; 11] =
+    ["sh", "dirname", "find", "head", "sha256sum", "cut", "sort", "mkdir", "touch", "mv", "rm"];
+
+/// A PATH with these tools of the machine, and no other.
+fn path_of(repository: &Repository, tools: &[&str]) -> PathBuf {
+    let alone = repository.path("tools-alone");
+    fs::create_dir_all(&alone).expect("a folder");
+    for tool in tools {
+        let path = std::env::var_os("PATH").expect("a PATH");
+        let found = std::env::split_paths(&path).map(|folder| folder.join(tool)).find(|file| file.exists());
+        std::os::unix::fs::symlink(found.expect("a usual tool"), alone.join(tool)).expect("a link");
+    }
+    alone
+}
+
 #[test]
 fn without_rt() {
     let repository = Repository::new("without");
-    fs::remove_file(repository.path("bin/rt")).expect("removed");
-    // The tools that it calls, and no rt.
-    let tools = repository.path("tools-alone");
-    fs::create_dir_all(&tools).expect("a folder");
-    for tool in ["sh", "dirname", "find", "head", "sha256sum", "cut", "sort", "mkdir", "touch", "mv", "rm"] {
-        let path = std::env::var_os("PATH").expect("a PATH");
-        let found = std::env::split_paths(&path).map(|folder| folder.join(tool)).find(|file| file.exists());
-        std::os::unix::fs::symlink(found.expect("a usual tool"), tools.join(tool)).expect("a link");
-    }
-    let output = Command::new(repository.path("tools/archive")).env("PATH", &tools).output().expect("it runs");
+    let path = path_of(&repository, &ITS_TOOLS);
+    let output = Command::new(repository.path("tools/archive")).env("PATH", &path).output().expect("it runs");
     assert_eq!(output.status.code(), Some(2));
     assert_eq!(said(&output), "pitchsleet: rt is needed to build it, and is not on the PATH\n");
 }
@@ -275,10 +291,7 @@ fn without_rt() {
 #[test]
 fn the_build_script() {
     let repository = Repository::new("build");
-    repository.copy("host/Cargo.toml");
-    repository.copy("host/build.rs");
-    repository.write("host/src/lib.rs", "");
-    repository.write("README.md", "");
+    repository.add_host();
     let build = || {
         let cargo = Command::new(env!("CARGO"))
             .args(["check", "--offline", "--quiet", "--lib", "--target-dir"])
@@ -304,7 +317,54 @@ fn the_build_script() {
     repository.write(SOURCE, "fn wrong() {}\n");
     let output = build();
     assert!(!output.status.success());
-    assert!(said(&output).contains("logic=not-proved"), "{}", said(&output));
+    for line in [
+        "error: pitchsleet@0.1.0: logic=not-proved\n",
+        "error: pitchsleet@0.1.0: pitchsleet: the crates are not proved: ",
+    ] {
+        assert!(said(&output).contains(line), "{}", said(&output));
+    }
+    assert!(!said(&output).contains("panicked"), "{}", said(&output));
+}
+
+/// Without `rt`, cargo ends with a sentence.
+#[test]
+fn the_build_script_without_rt() {
+    let repository = Repository::new("build-without-rt");
+    repository.add_host();
+    let path = path_of(&repository, &[&ITS_TOOLS[..], &["rustc", "cc", "ld", "as"]].concat());
+    let cargo = Command::new(env!("CARGO"))
+        .args(["check", "--offline", "--quiet", "--lib"])
+        .current_dir(repository.path("host"))
+        .env("PATH", path)
+        .output();
+    let output = cargo.expect("cargo runs");
+    assert!(!output.status.success());
+    let sentence = "error: pitchsleet@0.1.0: pitchsleet: rt is needed to build it, and is not on the PATH\n";
+    assert!(said(&output).contains(sentence), "{}", said(&output));
+    assert!(!said(&output).contains("panicked"), "{}", said(&output));
+}
+
+/// Whoever waits at a terminal sees how far the proofs are, while cargo itself says nothing. `script` makes a terminal.
+#[test]
+fn the_build_script_shows_progress() {
+    let repository = Repository::new("build-progress");
+    repository.add_host();
+    repository.program("rt", &format!("echo 'fn utils::put: proved'\necho 'rt: utils proved (14 s)'\n{MAKES}"));
+    let command = format!("{} check --offline --quiet --lib", env!("CARGO"));
+    let output = Command::new("script")
+        .args(["--quiet", "--return", "--command", &command, "/dev/null"])
+        .current_dir(repository.path("host"))
+        .env("PATH", repository.env_path())
+        .output();
+    let Ok(output) = output else {
+        println!("passed over: there is no `script` to make a terminal");
+        return;
+    };
+    let shown = String::from_utf8_lossy(&output.stdout);
+    assert!(output.status.success(), "{shown}");
+    assert!(shown.contains("pitchsleet: first run: the crates are proved"), "{shown}");
+    assert!(shown.contains("rt: utils proved (14 s)"), "{shown}");
+    assert!(!shown.contains("fn utils::put"), "a line a crate: {shown}");
 }
 
 /// ./pitchsleet builds the tool where the archive is another, and not where a time is.

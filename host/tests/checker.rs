@@ -1,5 +1,7 @@
 //! The safe interface of checking: what `Reader::check` gives for texts, one after the other.
-use pitchsleet::{Identifier, OperationValue, Reader, Refusal, TokenValue, Type, Variable};
+use pitchsleet::{
+    BinaryOperator, Constant, Identifier, OperationValue, Reader, Refusal, TokenValue, Type, UnaryOperator, Variable,
+};
 
 fn refused(text: &str) -> Refusal {
     Reader::new().check(text.as_bytes()).expect_err("refused")
@@ -16,7 +18,7 @@ fn refusal_of(text: &str) -> (u32, u32, usize, String) {
 fn texts_of_document_01() {
     let mut reader = Reader::new();
     let unit = reader.check(b"").expect("accepted");
-    assert_eq!((unit.len(), unit.tokens().len()), (0, 1));
+    assert_eq!((unit.function_count(), unit.tokens().len()), (0, 1));
 
     let unit = reader.check(b"@f { nop; }").expect("accepted");
     let kinds: Vec<&str> =
@@ -26,7 +28,7 @@ fn texts_of_document_01() {
     assert_eq!(refused("@f { }").number(), 22);
     let unit = reader.check(b"@f { .a: .b: nop; }").expect("accepted");
     let function = unit.function(0).expect("a function");
-    assert_eq!(function.len(), 1);
+    assert_eq!(function.block_count(), 1);
     assert_eq!(
         function.labels().map(|label| (label.name.0, label.token, label.block)).collect::<Vec<_>>(),
         [(1, 2, 0), (2, 4, 0)]
@@ -39,7 +41,7 @@ fn texts_of_document_01() {
     assert_eq!((block.successors().to_vec(), block.predecessors().to_vec()), (vec![0, 0], vec![0, 0]));
 
     let unit = reader.check(b"@f { x: int = call @g x; } @g(a: int): int { ret a; }").expect("accepted");
-    assert_eq!(unit.len(), 2);
+    assert_eq!(unit.function_count(), 2);
 
     let message = "[line 1] Error at 'true': 'int' type expected; 'bool' found\n";
     assert_eq!(refusal_of("@f { x: int = const true; }"), (17, 1, 20, message.to_owned()));
@@ -80,18 +82,18 @@ fn operations_are_values() {
     let f = unit.function(0).expect("@f");
     assert_eq!((f.name().spelling, f.result(), f.ty(), f.line()), ("@f", Type::Int, Type::Fn(0), 1));
     assert_eq!(f.formals().collect::<Vec<_>>(), [int("a"), bool("c")]);
-    assert_eq!((f.token(), f.place(), f.len()), (0, 0, 3));
+    assert_eq!((f.token(), f.place(), f.block_count()), (0, 0, 3));
     assert_eq!(&text[f.place()..=f.end_place()], text.split_inclusive("\n}").next().expect("the first function"));
     assert_eq!(unit.tokens().get(f.end_token()).map(|token| token.value), Some(TokenValue::RightBrace));
 
     let operations: Vec<_> = f.block(0).expect("a block").operations().collect();
     let spelled = |at: usize| unit.tokens().get(operations[at].token).expect("a token").spelling;
     let OperationValue::Binary { operator, result, left, right } = operations[0].value else { panic!("no binary") };
-    assert_eq!((operator, result, left, right, spelled(0)), (TokenValue::Add, int("x"), int("a"), int("a"), "add"));
+    assert_eq!((operator, result, left, right, spelled(0)), (BinaryOperator::Add, int("x"), int("a"), int("a"), "add"));
     let OperationValue::Unary { operator, result, operand } = operations[1].value else { panic!("no unary") };
-    assert_eq!((operator, result, operand), (TokenValue::Not, bool("y"), bool("c")));
+    assert_eq!((operator, result, operand), (UnaryOperator::Not, bool("y"), bool("c")));
     let OperationValue::Const { value, result } = operations[2].value else { panic!("no const") };
-    assert_eq!((value, result, spelled(2)), (TokenValue::Integer(-7), int("z"), "-7"));
+    assert_eq!((value, result, spelled(2)), (Constant::Int(-7), int("z"), "-7"));
     let OperationValue::Call { callee, result, arguments } = operations[3].value else { panic!("no call") };
     assert_eq!((callee, result), (Variable { name: name("@f"), ty: Type::Fn(0) }, Some(int("x"))));
     assert_eq!((arguments.len(), arguments.get(1), arguments.get(2)), (2, Some(bool("y")), None));
@@ -173,11 +175,11 @@ fn what_was_checked_before_leaves_nothing() {
     let long = "@f(a: int) { .x: .y: call @f a; br q .x .z; .z: print a; }\n@g: bool { t: bool = const true; ret t; }";
     for _ in 0..3 {
         let unit = reader.check(long.as_bytes()).expect("accepted");
-        assert_eq!((unit.len(), unit.function(0).map(|function| function.len())), (2, Some(2)));
+        assert_eq!((unit.function_count(), unit.function(0).map(|function| function.block_count())), (2, Some(2)));
         assert_eq!(reader.check(b"@f { ret x; }").expect_err("refused"), refused("@f { ret x; }"));
-        assert_eq!(reader.check(b"").expect("accepted").len(), 0);
+        assert_eq!(reader.check(b"").expect("accepted").function_count(), 0);
         assert_eq!(reader.read(long.as_bytes()).expect("accepted").names().len(), 8);
-        assert_eq!(reader.check(b"@f { nop; }").expect("accepted").len(), 1);
+        assert_eq!(reader.check(b"@f { nop; }").expect("accepted").function_count(), 1);
         assert_eq!(reader.check(b"$").expect_err("refused").number(), 3);
     }
 }
@@ -196,7 +198,7 @@ fn checks_run_on_several_threads() {
             std::thread::spawn(move || {
                 let mut reader = Reader::default();
                 let text = "@f { nop; }".repeat(1 + i);
-                (0..20).all(|_| reader.check(text.as_bytes()).is_ok_and(|unit| unit.len() == 1 + i))
+                (0..20).all(|_| reader.check(text.as_bytes()).is_ok_and(|unit| unit.function_count() == 1 + i))
             })
         })
         .collect();

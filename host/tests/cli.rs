@@ -1,57 +1,18 @@
 //! The command-line tool: what it prints, where, and its exit status.
 mod support;
+mod tool;
 
-use std::fs;
 use std::io::{BufRead, BufReader, Write};
-use std::path::PathBuf;
-use std::process::{Command, Output, Stdio};
-use std::thread;
+use std::process::{Command, Stdio};
 
 use pitchsleet::Reader;
 use support::by_crate::{by_checker, by_reader, by_rechecker};
 use support::edits::{self, Edit};
 use support::json::Json;
 use support::oracle::Depth;
-use support::said::{Said, SaidBlock, SaidFunction, SaidOperation, SaidVariable};
+use support::said::{Said, SaidBlock, SaidFunction, SaidOperation, SaidToken, SaidVariable};
 use support::{edges, texts};
-
-const TOOL: &str = env!("CARGO_BIN_EXE_pitchsleet");
-
-/// A run with something on standard input.
-fn run(words: &[&str], input: &[u8]) -> Output {
-    let mut process = Command::new(TOOL)
-        .args(words)
-        .stdin(Stdio::piped())
-        .stdout(Stdio::piped())
-        .stderr(Stdio::piped())
-        .spawn()
-        .expect("the tool runs");
-    let mut stdin = process.stdin.take().expect("it is piped");
-    thread::scope(|scope| {
-        // A tool that has seen enough closes its input: that is no mistake of the test's.
-        scope.spawn(move || drop(stdin.write_all(input)));
-        process.wait_with_output().expect("the tool ends")
-    })
-}
-
-fn status(output: &Output) -> i32 {
-    output.status.code().expect("no signal")
-}
-
-fn out(output: &Output) -> &str {
-    str::from_utf8(&output.stdout).expect("ASCII")
-}
-
-fn err(output: &Output) -> &str {
-    str::from_utf8(&output.stderr).expect("ASCII")
-}
-
-/// The whole output for a text on standard input, which must end with a status and say nothing on standard error.
-fn answer(words: &[&str], text: &[u8], expected_status: i32) -> String {
-    let output = run(words, text);
-    assert_eq!((status(&output), err(&output)), (expected_status, ""));
-    out(&output).to_owned()
-}
+use tool::{Scratch, TOOL, answer, err, out, run, status, warned};
 
 fn shown(text: &[u8], expected_status: i32) -> String {
     answer(&["read", "-"], text, expected_status)
@@ -63,27 +24,6 @@ fn checked(text: &[u8], expected_status: i32) -> String {
 
 fn json(text: &[u8], expected_status: i32) -> String {
     answer(&["read", "--json", "-"], text, expected_status)
-}
-
-/// A file for one test, removed when it ends.
-struct Scratch(PathBuf);
-
-impl Scratch {
-    fn new(name: &str, text: &[u8]) -> Self {
-        let path = PathBuf::from(env!("CARGO_TARGET_TMPDIR")).join(name);
-        fs::write(&path, text).expect("a scratch file");
-        Self(path)
-    }
-
-    fn name(&self) -> &str {
-        self.0.to_str().expect("ASCII")
-    }
-}
-
-impl Drop for Scratch {
-    fn drop(&mut self) {
-        let _ = fs::remove_file(&self.0);
-    }
 }
 
 // ---- for a person ------------------------------------------------------------------------------------------------------
@@ -123,20 +63,18 @@ fn a_refused_text() {
     assert_eq!((status(&output), out(&output), err(&output)), (1, expected.as_str(), ""));
 }
 
+/// An editor goes to the line and column; the message keeps the Rust's line.
 #[test]
-fn the_line_shown_is_the_file_s() {
+fn line_and_column_are_the_file_s() {
     let expected = "\
--:1:3: refused 4: [line 1] Error : Expected number after '-'.
+-:4:3: refused 4: [line 1] Error : Expected number after '-'.
  4 | a - b
    |   ^
- note: line 4 of the file is counted as line 1, since newlines in comments are not counted
+ note: the message's line 1 is line 4 of the file: newlines in comments are not counted
 ";
     assert_eq!(shown(b"# one\n/* two\nthree */ // four\na - b", 1), expected);
-    let accepted = shown(b"# one\nx", 0);
-    assert!(accepted.starts_with("1:1       local       x\n"), "{accepted}");
-    assert!(
-        accepted.ends_with("line 2 of the file is counted as line 1, since newlines in comments are not counted\n")
-    );
+    let expected = "2:1       local       x\n2:2       END_OF_FILE\n-: accepted: 2 tokens, 1 name\n";
+    assert_eq!(shown(b"# one\nx", 0), expected);
 }
 
 #[test]
@@ -187,17 +125,17 @@ fn a_long_line_is_cut_around_the_place() {
 fn a_byte_above_127_is_pointed_out() {
     let expected = "\
 -:1:1: refused 1: [line 1] Error : Only ASCII input is supported.
- 1 | x
-   | ^
- note: the first byte above 127 is at line 2 of the file, column 3
+-:2:3: note: this is the first byte above 127
+ 2 | # \\xc3\\xa9
+   |   ^
 ";
     assert_eq!(shown("x\n# é".as_bytes(), 1), expected);
 }
 
 #[test]
-fn too_long_a_text_has_no_line_to_show() {
+fn too_long_a_text_has_no_place() {
     let expected = "\
--:0:1: refused 31: [line 0] Error : too many bytes.
+-: refused 31: [line 0] Error : too many bytes.
  note: the text has more than 16384 bytes
 ";
     assert_eq!(shown(&b" ".repeat(16_385), 1), expected);
@@ -258,7 +196,12 @@ fn an_accepted_program() {
 
 -: accepted: 2 functions, 5 blocks, 12 operations
 ";
-    assert_eq!(checked(text.as_bytes(), 0), expected);
+    let warning = "\
+-:8:1: warning: the block '.old' of @least is dead: nothing goes to it [dead-block]
+ 8 | .old:
+   | ^~~~
+";
+    assert_eq!(warned(&["check", "-"], text.as_bytes(), 0), (expected.to_owned(), warning.to_owned()));
     assert_eq!(checked(b"", 0), "-: accepted: 0 functions, 0 blocks, 0 operations\n");
 }
 
@@ -276,10 +219,10 @@ fn a_refused_program() {
     );
     assert_eq!((status(&output), out(&output), err(&output)), (1, expected.as_str(), ""));
     let expected = [
-        "-:1:6: refused 6: [line 1] Error at end of file: Local identifier expected.",
+        "-:2:6: refused 6: [line 1] Error at end of file: Local identifier expected.",
         " 2 | @f { ",
         "   |      ^",
-        " note: line 2 of the file is counted as line 1, since newlines in comments are not counted",
+        " note: the message's line 1 is line 2 of the file: newlines in comments are not counted",
         "",
     ];
     assert_eq!(checked(b"# a rule\n@f { ", 1), expected.join("\n"));
@@ -287,17 +230,20 @@ fn a_refused_program() {
 
 #[test]
 fn blocks_and_edges_as_graphviz() {
-    let text = b"@f(a: int): int { .s: br q .s .t; .t: ret a; .u: jmp .t; } @g { nop; }";
+    let text = b"@f(a: int): int { .s: br q .s .t; .t: ret a; .u: br a .t .t; } @g { nop; }";
     let expected = r#"digraph {
+  graph [fontname=monospace];
   node [shape=box, fontname=monospace];
+  edge [fontname=monospace];
   subgraph cluster_0 {
     label="@f(a: int): int";
     f0b0 [label="block 0 .s\lbr q .s .t\l"];
     f0b1 [label="block 1 .t\lret a\l"];
-    f0b2 [label="block 2 .u\ljmp .t\l", style=dashed];
-    f0b0 -> f0b0 [label=true];
-    f0b0 -> f0b1 [label=false];
-    f0b2 -> f0b1;
+    f0b2 [label="block 2 .u\lbr a .t .t\l", style=dashed, color=gray, fontcolor=gray];
+    f0b0 -> f0b0 [label=true, color=darkgreen, fontcolor=darkgreen];
+    f0b0 -> f0b1 [label=false, color=firebrick, fontcolor=firebrick, arrowhead=empty];
+    f0b2 -> f0b1 [label=true, color=gray, fontcolor=gray];
+    f0b2 -> f0b1 [label=false, color=gray, fontcolor=gray, arrowhead=empty];
   }
   subgraph cluster_1 {
     label="@g";
@@ -305,7 +251,9 @@ fn blocks_and_edges_as_graphviz() {
   }
 }
 "#;
-    assert_eq!(answer(&["check", "--dot", "-"], text, 0), expected);
+    let (graph, warnings) = warned(&["check", "--dot", "-"], text, 0);
+    assert_eq!(graph, expected);
+    assert_eq!(warnings.matches(": warning: ").count(), 2, "{warnings}");
     let refused = run(&["check", "--dot", "-"], b"@f { }");
     assert_eq!((status(&refused), out(&refused)), (1, ""), "nothing for Graphviz");
     assert!(err(&refused).starts_with("-:1:1: refused 22: [line 1] Error : empty block.\n 1 | @f { }\n"));
@@ -384,22 +332,22 @@ fn old_or_new_may_be_standard_input() {
     }
 }
 
-/// LINE is that of the edited text; the line shown, its number and COLUMN are the new file's.
+/// The message's line is that of the edited text; LINE and COLUMN are the new file's.
 #[test]
 fn a_refused_function() {
     let expected = "\
--:7:13: refused 17: [line 7] Error at 'call': 'int' type expected; 'bool' found
+-:2:13: refused 17: [line 7] Error at 'call': 'int' type expected; 'bool' found
  2 |   b: bool = call @limit;
    |             ^
- note: line 2 of the new file is counted as line 7, since the function that is replaced is on line 6
+ note: the message's line 7 is line 2 of the new file: the function that is replaced is on line 6
 ";
     let new = b"@start(t: int): bool {\n  b: bool = call @limit;\n  ret b;\n}";
     assert_eq!(rechecked("refused-function.bril", "start", new, 1), expected);
     let expected = "\
--:6:4: refused 3: [line 6] Error : Unexpected token: '$'.
+-:3:4: refused 3: [line 6] Error : Unexpected token: '$'.
  3 | */ $
    |    ^
- note: line 3 of the new file is counted as line 6, since the function that is replaced is on line 6 and newlines in \
+ note: the message's line 6 is line 3 of the new file: the function that is replaced is on line 6, and newlines in \
 comments are not counted
 ";
     assert_eq!(rechecked("refused-comments.bril", "start", b"@start # one\n/* two\n*/ $", 1), expected);
@@ -408,6 +356,9 @@ comments are not counted
 -:2:10: refused 16: [line 2] Error at '@nobody': Undefined identifier.
  2 | x: int = call @nobody; }
    |          ^
+-:2:15: note: no function is named '@nobody'
+ 2 | x: int = call @nobody; }
+   |               ^~~~~~~
 ";
     assert_eq!(rechecked("refused-first.bril", "0", b"@limit: int {\nx: int = call @nobody; }", 1), expected);
 }
@@ -430,30 +381,30 @@ fn a_function_that_is_none_or_another() {
     let new = b"@limit: int { .l: jmp .l; }\n@g { nop; }";
     assert_eq!(rechecked("second.bril", "limit", new, 1), second);
     let changed = "\
--:6:1: refused 41: [line 6] Error : header changed.
+-:1:1: refused 41: [line 6] Error : header changed.
  1 | @start(t: int): int { ret t; }
    | ^
- note: line 1 of the new file is counted as line 6, since the function that is replaced is on line 6
+ note: the message's line 6 is line 1 of the new file: the function that is replaced is on line 6
  note: the function that is replaced is @start(t: int): bool; its name and types must stay
 ";
     assert_eq!(rechecked("changed.bril", "start", b"@start(t: int): int { ret t; }", 1), changed);
     let table = "\
--:0:1: refused 42: [line 0] Error : bad header table.
+-: refused 42: [line 0] Error : bad header table.
  note: the old file has 3 functions, numbered from 0
 ";
     for (at, number) in ["3", "64", "4294967296", "18446744073709551616"].into_iter().enumerate() {
         assert_eq!(rechecked(&format!("table-{at}.bril"), number, b"@start", 1), table);
     }
     let ascii = "\
--:6:1: refused 1: [line 6] Error : Only ASCII input is supported.
- 1 | x
-   | ^
- note: the first byte above 127 is at line 2 of the file, column 3
- note: line 1 of the new file is counted as line 6, since the function that is replaced is on line 6
+-:1:1: refused 1: [line 6] Error : Only ASCII input is supported.
+-:2:3: note: this is the first byte above 127
+ 2 | # \\xc3\\xa9
+   |   ^
+ note: the message's line 6 is line 1 of the new file: the function that is replaced is on line 6
 ";
     assert_eq!(rechecked("ascii.bril", "start", "x\n# é".as_bytes(), 1), ascii);
     let too_long = "\
--:0:1: refused 31: [line 0] Error : too many bytes.
+-: refused 31: [line 0] Error : too many bytes.
  note: the text has more than 16384 bytes
 ";
     assert_eq!(rechecked("long.bril", "start", &b" ".repeat(20_000), 1), too_long);
@@ -475,10 +426,14 @@ fn an_old_text_that_is_refused() {
     let line = answer(&["recheck", "--json", old.name(), "f", "-"], b"$", 1);
     let expected = answer(&["check", "--json", old.name()], b"", 1).replace("}\n", ",\"old\":true}\n");
     assert_eq!(line, expected);
-    assert!(line.ends_with("Undefined identifier.\\u000a\",\"old\":true}\n"), "{line}");
+    assert!(
+        line.ends_with("Undefined identifier.\\u000a\",\"file_line\":2,\"file_column\":3,\"old\":true}\n"),
+        "{line}"
+    );
     // Of a text that is too long no more is kept than shows it.
     let too_long = answer(&["recheck", "--json", "-", "f", old.name()], &b" ".repeat(100_000), 1);
-    assert!(too_long.starts_with(r#"{"number":31,"line":0,"place":0,"#) && too_long.ends_with("\"old\":true}\n"));
+    assert!(too_long.starts_with(r#"{"file":"-","number":31,"line":0,"place":0,"#), "{too_long}");
+    assert!(too_long.ends_with("\"old\":true}\n"), "{too_long}");
 }
 
 // ---- JSON --------------------------------------------------------------------------------------------------------------
@@ -486,8 +441,8 @@ fn an_old_text_that_is_refused() {
 #[test]
 fn json_of_an_accepted_text() {
     let expected = concat!(
-        r#"{"number":0,"line":0,"place":0,"message":"","tokens":[["global",0,1,0],["{",null,1,3],["nop",null,1,5],"#,
-        r#"[";",null,1,8],["}",null,1,10],["END_OF_FILE",null,1,11]],"names":["@f"]}"#,
+        r#"{"file":"-","number":0,"line":0,"place":0,"message":"","tokens":[["global",0,1,0],["{",null,1,3],"#,
+        r#"["nop",null,1,5],[";",null,1,8],["}",null,1,10],["END_OF_FILE",null,1,11]],"names":["@f"],"warnings":[]}"#,
         "\n"
     );
     assert_eq!(json(b"@f { nop; }", 0), expected);
@@ -497,8 +452,10 @@ fn json_of_an_accepted_text() {
 #[test]
 fn json_of_a_refused_text() {
     let message = r"[line 1] Error : Unexpected token: '\u0000'.\u000a";
-    let expected = format!("{{\"number\":3,\"line\":1,\"place\":3,\"message\":\"{message}\"}}\n");
-    assert_eq!(json(b"#x\n\0", 1), expected);
+    let place = r#""number":3,"line":1,"place":3"#;
+    let expected = format!(r#"{{"file":"-",{place},"message":"{message}","file_line":2,"file_column":1}}"#);
+    assert_eq!(json(b"#x\n\0", 1).trim_end(), expected);
+    assert!(json(&b" ".repeat(16_385), 1).ends_with(",\"file_line\":null,\"file_column\":null}\n"));
     assert!(json(b"\"", 1).contains(r#"'\"'."#));
     assert!(json(b"\\", 1).contains(r"'\\'."));
     assert!(json(b"\x7f", 1).contains(r"'\u007f'."));
@@ -509,20 +466,27 @@ fn json_of_a_checked_text() {
     let text = b"@f(a: int): int { .l: b: int = call @f a; br c .l .m; .m: ret b; }";
     let line = answer(&["check", "--json", "-"], text, 0);
     let (front, functions) = line.split_once(r#","functions":"#).expect("functions");
-    assert_eq!(format!("{front}}}\n"), json(text, 0), "the tokens and names are those of read");
+    let read = json(text, 0);
+    assert_eq!(Some((front, "[]}\n")), read.split_once(",\"warnings\":"), "the tokens and names are those of read");
     let expected = concat!(
         r#"[{"token":0,"name":0,"line":1,"name_place":0,"name_length":2,"formals":[[1,"int"]],"ret":"int","types":["int"],"#,
         r#""type":0,"labels":[[2,9,0],[5,24,1]],"end_token":29,"end_place":65,"blocks":["#,
-        r#"{"ops":[{"kind":"call","token":15,"result":[3,"int"],"callee":[0,"fn 0"],"operands":[[1,"int"]],"labels":[]},"#,
-        r#"{"kind":"br","token":19,"result":null,"callee":null,"operands":[[4,"placeholder"]],"labels":[2,5]}],"#,
+        r#"{"ops":[{"kind":"call","token":15,"operator":null,"value":null,"result":[3,"int"],"callee":[0,"fn 0"],"#,
+        r#""operands":[[1,"int"]],"labels":[],"added":false},"#,
+        r#"{"kind":"br","token":19,"operator":null,"value":null,"result":null,"callee":null,"#,
+        r#""operands":[[4,"placeholder"]],"labels":[2,5],"added":false}],"#,
         r#""succs":[0,1],"preds":[0],"dead":false},"#,
-        r#"{"ops":[{"kind":"ret","token":26,"result":null,"callee":null,"operands":[[3,"placeholder"]],"labels":[]}],"#,
-        r#""succs":[],"preds":[0],"dead":false}]}]}"#,
+        r#"{"ops":[{"kind":"ret","token":26,"operator":null,"value":null,"result":null,"callee":null,"#,
+        r#""operands":[[3,"placeholder"]],"labels":[],"added":false}],"#,
+        r#""succs":[],"preds":[0],"dead":false}]}],"warnings":[{"kind":"never-set","place":45,"file_line":1,"file_column":46,"#,
+        r#""message":"no operation of @f sets the condition 'c', and no formal is named so"}]}"#,
         "\n"
     );
     assert_eq!(functions, expected);
     let refused = answer(&["check", "--json", "-"], b"@f { ret x; }", 1);
-    let expected = r#"{"number":16,"line":1,"place":5,"message":"[line 1] Error at 'x': Undefined identifier.\u000a"}"#;
+    let message = r"[line 1] Error at 'x': Undefined identifier.\u000a";
+    let expected =
+        format!(r#"{{"file":"-","number":16,"line":1,"place":5,"message":"{message}","file_line":1,"file_column":6}}"#);
     assert_eq!(refused.trim_end(), expected);
 }
 
@@ -532,23 +496,25 @@ fn json_of_a_rechecked_function() {
     let old = Scratch::new("json-old.bril", b"@g { nop; }\n@f(a: int): int { ret a; }");
     let new = b"@f(a: int): int { call @g; ret a; }";
     let expected = concat!(
-        r#"{"number":0,"line":0,"place":0,"message":"","tokens":[["global",0,2,0],["(",null,2,2],["local",1,2,3],"#,
+        r#"{"file":"-","number":0,"line":0,"place":0,"message":"","tokens":[["global",0,2,0],["(",null,2,2],["local",1,2,3],"#,
         r#"[":",null,2,4],["int",null,2,6],[")",null,2,9],[":",null,2,10],["int",null,2,12],["{",null,2,16],"#,
         r#"["call",null,2,18],["global",2,2,23],[";",null,2,25],["ret",null,2,27],["local",1,2,31],[";",null,2,32],"#,
         r#"["}",null,2,34],["END_OF_FILE",null,2,35]],"names":["@f","a","@g"],"functions":["#,
         r#"{"token":0,"name":0,"line":2,"name_place":0,"name_length":2,"formals":[[1,"int"]],"ret":"int","types":["int"],"#,
         r#""type":1,"labels":[],"end_token":15,"end_place":34,"blocks":["#,
-        r#"{"ops":[{"kind":"call","token":9,"result":null,"callee":[2,"fn 0"],"operands":[],"labels":[]},"#,
-        r#"{"kind":"ret","token":12,"result":null,"callee":null,"operands":[[1,"placeholder"]],"labels":[]}],"#,
-        r#""succs":[],"preds":[],"dead":false}]}]}"#,
+        r#"{"ops":[{"kind":"call","token":9,"operator":null,"value":null,"result":null,"callee":[2,"fn 0"],"#,
+        r#""operands":[],"labels":[],"added":false},"#,
+        r#"{"kind":"ret","token":12,"operator":null,"value":null,"result":null,"callee":null,"#,
+        r#""operands":[[1,"placeholder"]],"labels":[],"added":false}],"#,
+        r#""succs":[],"preds":[],"dead":false}]}],"warnings":[]}"#,
         "\n"
     );
     assert_eq!(answer(&["recheck", "--json", old.name(), "f", "-"], new, 0), expected);
     let refused = answer(&["recheck", old.name(), "1", "-", "--json"], b"@f { ret; }", 1);
-    assert_eq!(
-        refused,
-        "{\"number\":41,\"line\":2,\"place\":0,\"message\":\"[line 2] Error : header changed.\\u000a\"}\n"
-    );
+    let place = r#""number":41,"line":2,"place":0"#;
+    let message = r"[line 2] Error : header changed.\u000a";
+    let expected = format!(r#"{{"file":"-",{place},"message":"{message}","file_line":1,"file_column":1}}"#);
+    assert_eq!(refused.trim_end(), expected);
 }
 
 // ---- streams -----------------------------------------------------------------------------------------------------------
@@ -569,8 +535,8 @@ fn a_stream_of_checks_answers_every_text() {
     for (line, text) in lines.iter().zip(&texts) {
         let (line, said) = (Json::parse(line), by_checker(&mut reader, text));
         assert_same(&line, &said);
-        if let Said::Accepted { functions, .. } = &said {
-            let expected = functions.iter().map(function_json).collect();
+        if let Said::Accepted { tokens, functions, .. } = &said {
+            let expected = functions.iter().map(|function| function_json(tokens, function)).collect();
             assert_eq!(line.get("functions"), Some(&Json::List(expected)));
         }
     }
@@ -613,8 +579,8 @@ fn a_stream_of_rechecks_answers_each() {
         assert_same(&line, &said);
         assert_eq!(line.get("old"), None);
         match &said {
-            Said::Accepted { functions, .. } => {
-                let expected = functions.iter().map(function_json).collect();
+            Said::Accepted { tokens, functions, .. } => {
+                let expected = functions.iter().map(|function| function_json(tokens, function)).collect();
                 assert_eq!(line.get("functions"), Some(&Json::List(expected)));
                 accepted += 1;
             }
@@ -693,7 +659,7 @@ fn numbers(numbers: &[usize]) -> Json {
     Json::List(numbers.iter().map(|&number| Json::Number(number as i64)).collect())
 }
 
-fn function_json(function: &SaidFunction) -> Json {
+fn function_json(tokens: &[SaidToken], function: &SaidFunction) -> Json {
     let number = |number: usize| Json::Number(number as i64);
     let words = function.formals.iter().map(|formal| Json::Text(formal.ty.long_word()));
     let labels = function.labels.iter().map(|label| numbers(&[label.name, label.token, label.block]));
@@ -710,28 +676,42 @@ fn function_json(function: &SaidFunction) -> Json {
         ("labels", Json::List(labels.collect())),
         ("end_token", number(function.end_token)),
         ("end_place", number(function.end_place)),
-        ("blocks", Json::List(function.blocks.iter().map(block_json).collect())),
+        ("blocks", Json::List(function.blocks.iter().map(|block| block_json(tokens, block)).collect())),
     ])
 }
 
-fn block_json(block: &SaidBlock) -> Json {
+fn block_json(tokens: &[SaidToken], block: &SaidBlock) -> Json {
     object([
-        ("ops", Json::List(block.operations.iter().map(operation_json).collect())),
+        ("ops", Json::List(block.operations.iter().map(|operation| operation_json(tokens, operation)).collect())),
         ("succs", numbers(&block.successors)),
         ("preds", numbers(&block.predecessors)),
         ("dead", Json::Bool(block.is_dead)),
     ])
 }
 
-fn operation_json(operation: &SaidOperation) -> Json {
+/// An operation's operator, a constant's value and the mark of an added `ret` are told by its token.
+fn operation_json(tokens: &[SaidToken], operation: &SaidOperation) -> Json {
+    let token = &tokens[operation.token];
+    let operator = match operation.kind {
+        "binary" | "unary" => Json::Text(token.kind.to_owned()),
+        _ => Json::Null,
+    };
+    let value = match (operation.kind, token.kind) {
+        ("const", "integer") => token.value.map_or(Json::Null, Json::Number),
+        ("const", word) => Json::Bool(word == "true"),
+        _ => Json::Null,
+    };
     let optional = |variable: &Option<SaidVariable>| variable.as_ref().map_or(Json::Null, variable_json);
     object([
         ("kind", Json::Text(operation.kind.to_owned())),
         ("token", Json::Number(operation.token as i64)),
+        ("operator", operator),
+        ("value", value),
         ("result", optional(&operation.result)),
         ("callee", optional(&operation.callee)),
         ("operands", Json::List(operation.operands.iter().map(variable_json).collect())),
         ("labels", numbers(&operation.labels)),
+        ("added", Json::Bool(operation.kind == "ret" && token.kind != "ret")),
     ])
 }
 
@@ -848,35 +828,6 @@ fn a_stream_goes_on_after_too_long_a_text() {
     assert!(lines[1].contains(r#"[["local",0,1,0],["END_OF_FILE",null,1,1]]"#));
 }
 
-// ---- the examples ------------------------------------------------------------------------------------------------------
-
-/// What README.md shows of the examples is what the tool says of them.
-#[test]
-fn the_examples_of_the_readme() {
-    let readme = include_str!("../../README.md");
-    for (file, expected_status) in [("examples/frost.bril", 0), ("examples/frost-refused.bril", 1)] {
-        let root = concat!(env!("CARGO_MANIFEST_DIR"), "/..");
-        let output = Command::new(TOOL).args(["check", file]).current_dir(root).output().expect("the tool runs");
-        assert_eq!((status(&output), err(&output)), (expected_status, ""));
-        let shown =
-            readme.split(&format!("$ ./pitchsleet check {file}\n")).nth(1).expect("README.md shows the example");
-        let mut rest = out(&output);
-        for line in shown.lines().take_while(|line| line.starts_with("    ")) {
-            let line = &line[4..];
-            // Where README.md leaves something out, the next line is found further on.
-            match line {
-                ".." => {}
-                _ => {
-                    let at =
-                        rest.find(line).unwrap_or_else(|| panic!("the tool doesn't say: {line}\n{}", out(&output)));
-                    rest = &rest[at + line.len()..];
-                }
-            }
-        }
-        assert_eq!(rest, "\n", "README.md shows the end");
-    }
-}
-
 // ---- usage -------------------------------------------------------------------------------------------------------------
 
 #[test]
@@ -891,7 +842,13 @@ fn what_can_t_be_run_is_2_with_one_line() {
         &["check", "--dot", "--stream"],
         &["check", "--stream"],
         &["check", "--json", "--stream", "-"],
-        &["check", "a", "b"],
+        &["check", "--html"],
+        &["check", "--html", "--dot", "-"],
+        &["check", "--html", "--stream"],
+        &["check", "--json", "--quiet", "-"],
+        &["check", "--json", "--stream", "--deny-warnings"],
+        &["check", "-", "-"],
+        &["--quiet", "check", "-"],
         &["check", "no/such/file"],
         &["recheck"],
         &["recheck", "a"],
@@ -912,8 +869,10 @@ fn what_can_t_be_run_is_2_with_one_line() {
         &["read", "--stream"],
         &["read", "--stream", "-"],
         &["read", "--json", "--stream", "-"],
-        &["read", "a", "b"],
+        &["read", "--html", "-"],
         &["read", "--color", "a"],
+        &["read", "--color=", "a"],
+        &["read", "a", "--color"],
         &["read", "-x"],
         &["read", "\u{1b}[31m"],
         &["read", "no/such/file"],
@@ -933,6 +892,8 @@ fn help_and_version() {
     for words in [
         &["--help"][..],
         &["-h"],
+        &["help"],
+        &["help", "check"],
         &["read", "--help"],
         &["read", "x", "-h"],
         &["check", "--dot", "-h"],
@@ -940,7 +901,7 @@ fn help_and_version() {
     ] {
         let output = run(words, b"");
         assert_eq!((status(&output), err(&output)), (0, ""));
-        for command in ["read FILE", "check FILE", "recheck OLD FUNCTION NEW"] {
+        for command in ["read FILE..", "check FILE..", "recheck OLD FUNCTION NEW", "help"] {
             assert!(out(&output).contains(&format!("pitchsleet {command}")), "{command}");
         }
         assert!(out(&output).contains("not in a comment"), "it says how LINE is counted");
@@ -952,7 +913,7 @@ fn help_and_version() {
 #[test]
 fn options_stand_in_any_order() {
     let file = Scratch::new("order.bril", b"x");
-    let expected = json(b"x", 0);
+    let expected = json(b"x", 0).replace("\"file\":\"-\"", &format!("\"file\":\"{}\"", file.name()));
     for words in
         [&["read", "--json", file.name()][..], &["read", file.name(), "--json"], &["read", "--json", "--", file.name()]]
     {
@@ -978,5 +939,5 @@ fn a_closed_output_is_no_panic() {
     let _ = input.write_all(&texts);
     drop(input);
     let output = process.wait_with_output().expect("the tool ends");
-    assert_eq!((status(&output), err(&output)), (2, ""));
+    assert_eq!((status(&output), err(&output)), (0, ""));
 }

@@ -218,26 +218,21 @@ fn sizes_of_the_slices() {
     assert_eq!(at["LIMIT_BLOCKS"], at["LIMIT_LABELS"] + 1);
 }
 
-/// Every constant of the crate's declarations is one of the document's, in bytes where a record's cell or width is meant.
-/// What is worked out from others there is passed over.
+/// Every constant of the crate's declarations is one of the document's. What is worked out from others there is passed over.
 #[test]
 fn constants_of_the_crate() {
     let at = constants();
     let one = |name: &str| at.get(name).copied();
-    let in_bytes = |name: &str| one(name).map(|cells| cells * CELL);
     let of_document = |name: &str| match name {
         "TEXT_BYTES" => one("LIMIT_BYTES"),
         "OUT_BYTES" => one("READ_OUT_BYTES"),
         "LONGEST_NAME" => one("LIMIT_NAME_BYTES"),
         "FORMALS" => one("LIMIT_FORMALS"),
-        "FUNCTION_RECORDS_OFFSET" => Some(at["FUNCTIONS_OFFSET"] + at["FUNCTIONS_FIRST"] * CELL),
-        "BLOCK_SUCCESSORS" => in_bytes("BLOCK_SUCCESSOR"),
-        name if ["_BYTES", "_CELLS", "_OFFSET"].iter().any(|end| name.ends_with(end)) => {
-            let record = name.strip_suffix("_BYTES").and_then(|record| in_bytes(&format!("{record}_WIDTH")));
+        "BLOCK_SUCCESSORS" => one("BLOCK_SUCCESSOR"),
+        name => {
             let width = name.strip_suffix("_CELLS").and_then(|record| one(&format!("{record}_WIDTH")));
-            one(name).or(record).or(width)
+            one(name).or(width).or(one(&format!("{name}_ROOM")))
         }
-        name => one(&format!("{name}_ROOM")).or(in_bytes(name)),
     };
     let declared = RAW.lines().filter_map(|line| line.strip_prefix("pub const "));
     let declared = declared.filter_map(|line| line.trim_end_matches(';').split_once(": usize = "));
@@ -257,29 +252,28 @@ fn slices_of_cells() {
     let at = constants();
     assert_eq!(at["CELL_BYTES"], CELL);
     let slices = [
-        ("tokens", raw::TOKENS, raw::TOKEN_BYTES, raw::TOKENS_OFFSET),
-        ("names", raw::NAMES, raw::NAME_BYTES, raw::NAMES_OFFSET),
-        ("functions", raw::FUNCTIONS, raw::FUNCTION_BYTES, raw::FUNCTIONS_OFFSET),
-        ("items", raw::ITEMS, raw::ITEM_BYTES, raw::ITEMS_OFFSET),
-        ("arguments", raw::ARGUMENTS, raw::ARGUMENT_BYTES, raw::ARGUMENTS_OFFSET),
-        ("blocks", raw::BLOCKS, raw::BLOCK_BYTES, raw::BLOCKS_OFFSET),
-        ("predecessors", raw::PREDECESSORS, raw::PREDECESSOR_BYTES, raw::PREDECESSORS_OFFSET),
+        ("tokens", raw::TOKENS, raw::TOKEN_CELLS, raw::TOKENS_OFFSET),
+        ("names", raw::NAMES, raw::NAME_CELLS, raw::NAMES_OFFSET),
+        ("functions", raw::FUNCTIONS, raw::FUNCTION_CELLS, raw::FUNCTIONS_OFFSET),
+        ("items", raw::ITEMS, raw::ITEM_CELLS, raw::ITEMS_OFFSET),
+        ("arguments", raw::ARGUMENTS, raw::ARGUMENT_CELLS, raw::ARGUMENTS_OFFSET),
+        ("blocks", raw::BLOCKS, raw::BLOCK_CELLS, raw::BLOCKS_OFFSET),
+        ("predecessors", raw::PREDECESSORS, raw::PREDECESSOR_CELLS, raw::PREDECESSORS_OFFSET),
     ];
     let rows = table("Slices of cells");
     assert_eq!(rows.len(), slices.len());
     let mut end = 0;
-    for (row, (name, records, bytes, offset)) in rows.iter().zip(slices) {
+    for (row, (name, records, cells_each, offset)) in rows.iter().zip(slices) {
         assert_eq!((row[0].as_str(), row[4].as_str()), (name, name.strip_suffix('s').expect("it is a plural")));
         let [cells, said, room, width] = [1, 2, 3, 5].map(|column| number(&row[column]));
-        assert_eq!((said, room, width * CELL), (offset, records, bytes), "{name}");
+        assert_eq!((said, room, width), (offset, records, cells_each), "{name}");
         let before = if name == "functions" { at["FUNCTIONS_FIRST"] } else { 0 };
         assert_eq!((offset, cells), (end, before + room * width), "{name}");
         end += cells * CELL;
     }
     assert_eq!(end, raw::CHECK_OUT_BYTES);
     assert_eq!(raw::FUNCTIONS_OFFSET, raw::OUT_BYTES, "reading has the first two");
-    assert_eq!(raw::FUNCTIONS_OFFSET + at["FUNCTIONS_FIRST"] * CELL, raw::FUNCTION_RECORDS_OFFSET);
-    assert_eq!((at["FUNCTIONS_COUNT"], at["FUNCTIONS_FIRST"]), (0, 1));
+    assert_eq!((at["FUNCTIONS_COUNT"], at["FUNCTIONS_FIRST"]), (0, raw::FUNCTIONS_FIRST));
     assert_eq!(at["FUNCTIONS_CELLS"] * CELL, raw::TABLE_BYTES, "a header table is this slice");
 }
 
@@ -291,8 +285,8 @@ fn assert_cells(heading: &str, index: usize, cells: &[(&str, usize)]) {
     let names: Vec<&str> = rows.iter().map(|row| row[1].as_str()).collect();
     let expected: Vec<&str> = cells.iter().map(|(name, _)| *name).collect();
     assert_eq!(names, expected, "{heading}");
-    for (row, (name, offset)) in rows.iter().zip(cells) {
-        assert_eq!(number(&row[0]) * CELL, *offset, "{name}");
+    for (row, (name, cell)) in rows.iter().zip(cells) {
+        assert_eq!(number(&row[0]), *cell, "{name}");
     }
 }
 
@@ -305,7 +299,7 @@ fn cells_of_a_token() {
         ("TOKEN_PLACE", raw::TOKEN_PLACE),
     ];
     assert_cells("Cells of a token", 0, &cells);
-    assert_eq!(cells.len() * CELL, raw::TOKEN_BYTES);
+    assert_eq!(cells.len(), raw::TOKEN_CELLS);
 }
 
 #[test]
@@ -382,10 +376,10 @@ fn cells_of_a_function() {
         ],
     );
     // The crate reads formals, arguments, results and operands alike: a name, and its type behind it.
-    assert_cells("Cells of a function", 1, &[("FORMAL_NAME", 0), ("FORMAL_TYPE", CELL)]);
-    assert_cells("Cells of an argument", 0, &[("ARGUMENT_NAME", 0), ("ARGUMENT_TYPE", CELL)]);
-    let formal = constants()["FORMAL_WIDTH"] * CELL;
-    assert_eq!(raw::FUNCTION_FORMALS + raw::FORMALS * formal, raw::FUNCTION_BYTES);
+    assert_cells("Cells of a function", 1, &[("FORMAL_NAME", 0), ("FORMAL_TYPE", 1)]);
+    assert_cells("Cells of an argument", 0, &[("ARGUMENT_NAME", 0), ("ARGUMENT_TYPE", 1)]);
+    let formal = constants()["FORMAL_WIDTH"];
+    assert_eq!(raw::FUNCTION_FORMALS + raw::FORMALS * formal, raw::FUNCTION_CELLS);
 }
 
 #[test]
@@ -398,7 +392,7 @@ fn cells_of_a_block() {
             ("BLOCK_OPERATION_COUNT", raw::BLOCK_OPERATION_COUNT),
             ("BLOCK_SUCCESSOR_COUNT", raw::BLOCK_SUCCESSOR_COUNT),
             ("BLOCK_SUCCESSOR", raw::BLOCK_SUCCESSORS),
-            ("BLOCK_SECOND_SUCCESSOR", raw::BLOCK_SUCCESSORS + CELL),
+            ("BLOCK_SECOND_SUCCESSOR", raw::BLOCK_SUCCESSORS + 1),
             ("BLOCK_PREDECESSORS", raw::BLOCK_PREDECESSORS),
             ("BLOCK_PREDECESSOR_COUNT", raw::BLOCK_PREDECESSOR_COUNT),
             ("BLOCK_DEAD", raw::BLOCK_DEAD),
@@ -417,15 +411,15 @@ fn cells_of_an_item() {
             ("ITEM_KIND", raw::ITEM_KIND),
             ("ITEM_TOKEN", raw::ITEM_TOKEN),
             ("ITEM_RESULT", raw::ITEM_RESULT),
-            ("ITEM_RESULT_TYPE", raw::ITEM_RESULT + CELL),
+            ("ITEM_RESULT_TYPE", raw::ITEM_RESULT + 1),
             ("ITEM_LEFT", raw::ITEM_LEFT),
-            ("ITEM_LEFT_TYPE", raw::ITEM_LEFT + CELL),
+            ("ITEM_LEFT_TYPE", raw::ITEM_LEFT + 1),
             ("ITEM_RIGHT", raw::ITEM_RIGHT),
-            ("ITEM_RIGHT_TYPE", raw::ITEM_RIGHT + CELL),
+            ("ITEM_RIGHT_TYPE", raw::ITEM_RIGHT + 1),
             ("ITEM_LABEL", raw::ITEM_RIGHT),
-            ("ITEM_SECOND_LABEL", raw::ITEM_RIGHT + CELL),
+            ("ITEM_SECOND_LABEL", raw::ITEM_RIGHT + 1),
             ("ITEM_ARGUMENTS", raw::ITEM_RIGHT),
-            ("ITEM_ARGUMENT_COUNT", raw::ITEM_RIGHT + CELL),
+            ("ITEM_ARGUMENT_COUNT", raw::ITEM_RIGHT + 1),
         ],
     );
     // The name with the number 0 stands in no item.
@@ -465,10 +459,13 @@ fn last_function_s_first_item(text: &str) -> Vec<u32> {
     let (mut out, mut message) = (vec![0; raw::CHECK_OUT_BYTES], [0; raw::MESSAGE_BYTES]);
     let answer = raw::check(text.as_bytes(), &mut out, &mut message);
     assert_eq!(answer.number, 0, "{text}");
-    let cell = |offset: usize| u32::from_le_bytes(out[offset..][..4].try_into().expect("four bytes"));
-    let last = raw::FUNCTION_RECORDS_OFFSET + (answer.functions as usize - 1) * raw::FUNCTION_BYTES;
-    let first = cell(last + raw::FUNCTION_ITEMS) as usize;
-    (0..raw::ITEM_BYTES / 4).map(|i| cell(raw::ITEMS_OFFSET + first * raw::ITEM_BYTES + i * 4)).collect()
+    let cell = |slice: usize, at: usize| {
+        let bytes = &out[slice + at * CELL..][..CELL];
+        u32::from_le_bytes(bytes.try_into().expect("four bytes"))
+    };
+    let last = raw::FUNCTIONS_FIRST + (answer.functions as usize - 1) * raw::FUNCTION_CELLS;
+    let first = cell(raw::FUNCTIONS_OFFSET, last + raw::FUNCTION_ITEMS) as usize;
+    (0..raw::ITEM_CELLS).map(|i| cell(raw::ITEMS_OFFSET, first * raw::ITEM_CELLS + i)).collect()
 }
 
 /// The order of the functions' parameters, in the C of the document and in the Rust of the crate's declarations.
@@ -546,7 +543,7 @@ fn kinds_of_tokens() {
 fn first_kind(text: &str) -> usize {
     let (mut out, mut message) = (vec![0; raw::OUT_BYTES], [0; raw::MESSAGE_BYTES]);
     raw::read(text.as_bytes(), &mut out, &mut message);
-    let kind = &out[raw::TOKENS_OFFSET + raw::TOKEN_KIND..];
+    let kind = &out[raw::TOKENS_OFFSET + raw::TOKEN_KIND * CELL..];
     u32::from_le_bytes([kind[0], kind[1], kind[2], kind[3]]) as usize
 }
 

@@ -141,7 +141,7 @@ fn each_span_rechecks() {
         for (number, (span, line, ty)) in spans.into_iter().enumerate() {
             let unit = reader.recheck(&headers, number, &text.as_bytes()[span.clone()]).expect("accepted");
             let function = unit.function(0).expect("one function");
-            assert_eq!((unit.len(), function.name().spelling), (1, headers.name(number).expect("a name")));
+            assert_eq!((unit.function_count(), function.name().spelling), (1, headers.name(number).expect("a name")));
             assert_eq!((function.span(), function.line(), function.ty()), (0..span.len(), line, ty));
         }
     }
@@ -155,7 +155,7 @@ fn texts_of_document_01() {
     let headers = headers_of("@f { nop; }");
     let mut reader = Reader::new();
     let unit = reader.recheck(&headers, 0, b"@f { ret; }").expect("accepted");
-    assert_eq!((unit.len(), unit.tokens().len()), (1, 6));
+    assert_eq!((unit.function_count(), unit.tokens().len()), (1, 6));
     let refusal = refused(&headers, 0, b"@f: int { nop; }");
     assert_eq!((refusal.number(), refusal.line(), refusal.place()), (41, 1, 0));
     assert_eq!(refusal.message(), b"[line 1] Error : header changed.\n");
@@ -171,7 +171,7 @@ fn an_accepted_function() {
         "@b: bool {\n  x: int = const 1; x: int = call @i x; call @v;\n  t: bool = call @b; call @f x t; ret t; }";
     let unit = reader.recheck(&headers, B, new.as_bytes()).expect("accepted");
     let function = unit.function(0).expect("a function");
-    assert_eq!((unit.len(), function.name().spelling, function.line()), (1, "@b", 4));
+    assert_eq!((unit.function_count(), function.name().spelling, function.line()), (1, "@b", 4));
     assert_eq!((function.result(), function.ty(), function.token(), function.place()), (Type::Bool, Type::Fn(3), 0, 0));
     assert_eq!((function.span(), unit.tokens().text()), (0..new.len(), new));
     let lines: Vec<u32> = unit.tokens().iter().map(|token| token.line).collect();
@@ -328,9 +328,9 @@ fn the_edited_text_has_the_same_answer() {
     ] {
         let span = spans[number].clone();
         let edited = [&OLD[..span.start], new, &OLD[span.end..]].concat();
-        let fresh = reader.check(edited.as_bytes()).map(|unit| unit.len());
+        let fresh = reader.check(edited.as_bytes()).map(|unit| unit.function_count());
         let fresh = fresh.map_err(|refusal| (refusal.number(), refusal.line(), refusal.place()));
-        let answer = reader.recheck(&headers, number, new.as_bytes()).map(|unit| unit.len());
+        let answer = reader.recheck(&headers, number, new.as_bytes()).map(|unit| unit.function_count());
         let answer = answer.map_err(|refusal| (refusal.number(), refusal.line(), refusal.place() + span.start));
         assert_eq!(answer.map(|_| 4), fresh, "{new}");
     }
@@ -344,11 +344,11 @@ fn what_was_rechecked_before_leaves_nothing() {
     let long = "@f(n: int, c: bool) { .x: .y: call @f n c; br c .x .z; .z: print n; }";
     for _ in 0..3 {
         let unit = reader.recheck(&headers, F, long.as_bytes()).expect("accepted");
-        assert_eq!(unit.function(0).map(|function| function.len()), Some(2));
+        assert_eq!(unit.function(0).map(|function| function.block_count()), Some(2));
         let refusal = reader.recheck(&headers, V, b"@v { ret x; }").expect_err("refused");
         assert_eq!(refusal, refused(&headers, V, b"@v { ret x; }"));
         let unit = reader.recheck(&headers, V, b"@v { ret; }").expect("accepted");
-        assert_eq!((unit.len(), unit.tokens().len(), unit.tokens().names().len()), (1, 6, 1));
+        assert_eq!((unit.function_count(), unit.tokens().len(), unit.tokens().names().len()), (1, 6, 1));
         assert_eq!(reader.check(OLD.as_bytes()).expect("accepted").headers(), headers);
         assert_eq!(reader.recheck(&headers, 4, b"@v { ret; }").expect_err("refused").number(), 42);
         assert_eq!(reader.read(b"x").expect("accepted").len(), 2);

@@ -23,7 +23,7 @@ pub fn by_rechecker(reader: &mut Reader, headers: &Headers, number: usize, new: 
     of_unit(reader.recheck(headers, number, new))
 }
 
-fn of_unit(answer: Result<Unit<'_>, Refusal>) -> Said {
+fn of_unit(answer: Result<Unit<'_, '_>, Refusal>) -> Said {
     match answer {
         Err(refusal) => refused(&refusal),
         Ok(unit) => accepted(&unit.tokens(), unit.functions().map(|function| said_function(&function)).collect()),
@@ -39,7 +39,7 @@ fn refused(refusal: &Refusal) -> Said {
     }
 }
 
-fn accepted(tokens: &Tokens<'_>, functions: Vec<SaidFunction>) -> Said {
+fn accepted(tokens: &Tokens<'_, '_>, functions: Vec<SaidFunction>) -> Said {
     Said::Accepted {
         tokens: tokens.iter().map(said_token).collect(),
         names: tokens.names().map(said_name).collect(),
@@ -59,7 +59,7 @@ fn said_name(name: Name<'_>) -> SaidName {
     SaidName { place: name.place, spelling: name.spelling.to_owned() }
 }
 
-fn said_function(function: &Function<'_>) -> SaidFunction {
+fn said_function(function: &Function<'_, '_>) -> SaidFunction {
     let Type::Fn(type_number) = function.ty() else { panic!("a function has a function type") };
     SaidFunction {
         token: function.token(),
@@ -81,7 +81,7 @@ fn said_label(label: Label) -> SaidLabel {
     SaidLabel { name: label.name.0, token: label.token, block: label.block }
 }
 
-fn said_block(block: &Block<'_>) -> SaidBlock {
+fn said_block(block: &Block<'_, '_>) -> SaidBlock {
     SaidBlock {
         operations: block.operations().map(|operation| said_operation(&operation)).collect(),
         successors: block.successors().to_vec(),

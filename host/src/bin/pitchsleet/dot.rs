@@ -5,9 +5,11 @@ use pitchsleet::{Block, Function, Unit};
 
 use crate::listing;
 
-pub fn write(out: &mut impl Write, unit: &Unit<'_>) -> io::Result<()> {
+pub fn write(out: &mut impl Write, unit: &Unit<'_, '_>) -> io::Result<()> {
     writeln!(out, "digraph {{")?;
-    writeln!(out, "  node [shape=box, fontname=monospace];")?;
+    for thing in ["graph [", "node [shape=box, ", "edge ["] {
+        writeln!(out, "  {thing}fontname=monospace];")?;
+    }
     for (index, function) in unit.functions().enumerate() {
         writeln!(out, "  subgraph cluster_{index} {{")?;
         writeln!(out, "    label=\"{}\";", listing::header(unit, &function))?;
@@ -17,29 +19,37 @@ pub fn write(out: &mut impl Write, unit: &Unit<'_>) -> io::Result<()> {
     writeln!(out, "}}")
 }
 
-fn blocks(out: &mut impl Write, unit: &Unit<'_>, index: usize, function: &Function<'_>) -> io::Result<()> {
+fn blocks(out: &mut impl Write, unit: &Unit<'_, '_>, index: usize, function: &Function<'_, '_>) -> io::Result<()> {
     for block in function.blocks() {
-        let style = if block.is_dead() { ", style=dashed" } else { "" };
+        let style = if block.is_dead() { ", style=dashed, color=gray, fontcolor=gray" } else { "" };
         writeln!(out, "    f{index}b{} [label=\"{}\"{style}];", block.number(), lines(unit, &block))?;
     }
     for block in function.blocks() {
         let successors = block.successors();
         for (way, to) in successors.iter().enumerate() {
-            // Of two ways, the first is taken where the condition is true.
-            let label = match (successors.len(), way) {
-                (2, 0) => " [label=true]",
-                (2, _) => " [label=false]",
-                _ => "",
-            };
-            writeln!(out, "    f{index}b{} -> f{index}b{to}{label};", block.number())?;
+            let ways = edge(&block, successors.len(), way);
+            writeln!(out, "    f{index}b{} -> f{index}b{to}{ways};", block.number())?;
         }
     }
     Ok(())
 }
 
+/// Of two ways, the first is taken where the condition is true. They differ in colour and in the arrow's head, so that two
+/// edges to one block are told apart, also without colours.
+fn edge(block: &Block<'_, '_>, ways: usize, way: usize) -> &'static str {
+    match (block.is_dead(), ways, way) {
+        (false, 2, 0) => " [label=true, color=darkgreen, fontcolor=darkgreen]",
+        (false, 2, _) => " [label=false, color=firebrick, fontcolor=firebrick, arrowhead=empty]",
+        (true, 2, 0) => " [label=true, color=gray, fontcolor=gray]",
+        (true, 2, _) => " [label=false, color=gray, fontcolor=gray, arrowhead=empty]",
+        (true, ..) => " [color=gray]",
+        (false, ..) => "",
+    }
+}
+
 /// What stands in a block's box, each line moved to the left by `\l`. Nothing in it is special to Graphviz: names have
 /// letters, digits, `_`, `@` and `.`.
-fn lines(unit: &Unit<'_>, block: &Block<'_>) -> String {
+fn lines(unit: &Unit<'_, '_>, block: &Block<'_, '_>) -> String {
     let operations = block.operations().map(|operation| listing::operation(unit, &operation));
     [listing::block_name(unit, block)].into_iter().chain(operations).map(|line| line + "\\l").collect()
 }

@@ -1,54 +1,57 @@
 //! An answer for a person.
 use std::io::{self, Write};
 
-use pitchsleet::raw::TEXT_BYTES;
-use pitchsleet::{Block, Edges, Headers, Printable, Refusal, TokenValue, Tokens, Unit};
+use pitchsleet::{Block, Edges, Printable, Refusal, RefusalKind, TokenValue, Tokens, Unit, Warning};
 
 use crate::listing;
-use crate::source::{Excerpt, Source};
+use crate::notes::Note;
+use crate::source::{Excerpt, Source, Span};
+use crate::style::Style;
 
-/// What the output calls the text.
-type Name<'a> = Printable<'a>;
-
-pub fn tokens(out: &mut impl Write, name: Name<'_>, tokens: &Tokens<'_>) -> io::Result<()> {
-    let source = Source::new(tokens.text().as_bytes());
+pub fn tokens(out: &mut impl Write, style: Style, source: &Source<'_>, tokens: &Tokens<'_, '_>) -> io::Result<()> {
     for token in tokens {
-        let position = format!("{}:{}", token.line, source.column(token.place));
+        let position = source.lines.position(token.place).to_string();
         match token.value {
             value if value.identifier().is_some() => writeln!(out, "{position:<9} {:<11} {token}", value.kind())?,
             TokenValue::Integer(number) => writeln!(out, "{position:<9} {:<11} {number}", token.value.kind())?,
             other => writeln!(out, "{position:<9} {}", other.kind())?,
         }
     }
-    let (count, names) = (tokens.len(), tokens.names().len());
-    writeln!(out, "{name}: accepted: {}, {}", counted(count, "token"), counted(names, "name"))?;
-    match tokens.iter().next_back() {
-        Some(end) => note_on_lines(out, end.line, source.line(end.place), 1),
-        None => Ok(()),
-    }
+    accepted(out, style, source, &summary_of_tokens(tokens))
 }
 
-pub fn unit(out: &mut impl Write, name: Name<'_>, unit: &Unit<'_>) -> io::Result<()> {
-    let (mut blocks, mut operations) = (0, 0);
+pub fn unit(out: &mut impl Write, style: Style, source: &Source<'_>, unit: &Unit<'_, '_>) -> io::Result<()> {
     for function in unit.functions() {
         writeln!(out, "{}", listing::header(unit, &function))?;
         for block in function.blocks() {
             writeln!(out, "  {}{}", listing::block_name(unit, &block), edges(&block))?;
             for operation in block.operations() {
                 writeln!(out, "    {}", listing::operation(unit, &operation))?;
-                operations += 1;
             }
-            blocks += 1;
         }
         writeln!(out)?;
     }
-    let functions = counted(unit.len(), "function");
-    let (blocks, operations) = (counted(blocks, "block"), counted(operations, "operation"));
-    writeln!(out, "{name}: accepted: {functions}, {blocks}, {operations}")
+    accepted(out, style, source, &summary(unit))
+}
+
+fn accepted(out: &mut impl Write, style: Style, source: &Source<'_>, summary: &str) -> io::Result<()> {
+    writeln!(out, "{}: {}: {summary}", style.place(&source.name), style.accepted("accepted"))
+}
+
+fn summary_of_tokens(tokens: &Tokens<'_, '_>) -> String {
+    format!("{}, {}", counted(tokens.len(), "token"), counted(tokens.names().len(), "name"))
+}
+
+/// How much an accepted text has: `4 functions, 10 blocks, 34 operations`.
+pub fn summary(unit: &Unit<'_, '_>) -> String {
+    let blocks = || unit.functions().flat_map(|function| function.blocks());
+    let operations = blocks().map(|block| block.operations().len()).sum();
+    let functions = counted(unit.function_count(), "function");
+    format!("{functions}, {}, {}", counted(blocks().count(), "block"), counted(operations, "operation"))
 }
 
 /// What stands behind a block's name: `: from 0, 2; to 1`.
-fn edges(block: &Block<'_>) -> String {
+fn edges(block: &Block<'_, '_>) -> String {
     let listed = |word: &str, edges: Edges<'_>| {
         let numbers: Vec<String> = edges.iter().map(|number| number.to_string()).collect();
         (!numbers.is_empty()).then(|| format!("{word} {}", numbers.join(", ")))
@@ -59,119 +62,65 @@ fn edges(block: &Block<'_>) -> String {
     if parts.is_empty() { String::new() } else { format!(": {}", parts.join("; ")) }
 }
 
-fn counted(count: usize, thing: &str) -> String {
+pub fn counted(count: usize, thing: &str) -> String {
     match count {
         1 => format!("1 {thing}"),
         _ => format!("{count} {thing}s"),
     }
 }
 
-pub fn refused(out: &mut impl Write, name: Name<'_>, text: &[u8], refusal: &Refusal) -> io::Result<()> {
-    refused_from(out, name, text, refusal, 1)
-}
-
-/// A refusal of the text that was to be edited.
-pub fn old_refused(out: &mut impl Write, name: Name<'_>, old: &[u8], refusal: &Refusal) -> io::Result<()> {
-    refused(out, name, old, refusal)?;
-    note(out, "this is the old file, which must be accepted as it is; the new one was not looked at")
-}
-
-/// The function that a new text was to replace: the old text's headers, its number, and its header where it has one.
-pub struct Replaced<'a> {
-    pub headers: &'a Headers,
-    pub number: usize,
-    pub header: Option<String>,
-}
-
-/// A refusal of a new text.
-pub fn new_refused(
+pub fn refused(
     out: &mut impl Write,
-    name: Name<'_>,
-    new: &[u8],
+    style: Style,
+    source: &Source<'_>,
     refusal: &Refusal,
-    replaced: &Replaced<'_>,
+    notes: &[Note],
 ) -> io::Result<()> {
-    let Replaced { headers, number, header } = replaced;
-    refused_from(out, name, new, refusal, headers.line(*number).unwrap_or(1))?;
-    match (refusal.number(), refusal.place(), header) {
-        (NOT_ONE_FUNCTION, 0, _) => note(
-            out,
-            "a new file runs from a function's name to its closing brace, and not even a newline stands behind it",
-        ),
-        (HEADER_CHANGED, _, Some(header)) => {
-            note(out, &format!("the function that is replaced is {header}; its name and types must stay"))
-        }
-        (BAD_TABLE, ..) => {
-            note(out, &format!("the old file has {}, numbered from 0", counted(headers.len(), "function")))
-        }
-        _ => Ok(()),
-    }
-}
-
-const TOO_MANY_BYTES: u32 = 31;
-const NOT_ONE_FUNCTION: u32 = 40;
-const HEADER_CHANGED: u32 = 41;
-const BAD_TABLE: u32 = 42;
-
-/// A refusal of a text whose lines start at a number.
-fn refused_from(
-    out: &mut impl Write,
-    name: Name<'_>,
-    text: &[u8],
-    refusal: &Refusal,
-    first_line: u32,
-) -> io::Result<()> {
-    let source = Source::new(text);
-    let (number, line, place) = (refusal.number(), refusal.line(), refusal.place());
-    let message = refusal.message();
-    let message = Printable(message.strip_suffix(b"\n").unwrap_or(message));
-    writeln!(out, "{name}:{line}:{}: refused {number}: {message}", source.column(place))?;
-    match number {
-        // These are of the text as a whole, or not of it at all: no line of it would tell more.
-        TOO_MANY_BYTES => return note(out, &format!("the text has more than {TEXT_BYTES} bytes")),
-        BAD_TABLE => return Ok(()),
-        _ => excerpt(out, source.line(place), &source.excerpt(place))?,
-    }
-    if let Some(at) = first_not_ascii(text) {
-        note(out, &not_ascii(&source, at))?;
-    }
-    note_on_lines(out, line, source.line(place), first_line)
-}
-
-/// The line and the caret, beside the line's number in the file.
-fn excerpt(out: &mut impl Write, line: usize, shown: &Excerpt) -> io::Result<()> {
-    let number = line.to_string();
-    let margin = " ".repeat(number.len());
-    let gap = " ".repeat(shown.caret);
-    writeln!(out, " {number} | {}", shown.line)?;
-    writeln!(out, " {margin} | {gap}^")
-}
-
-fn first_not_ascii(text: &[u8]) -> Option<usize> {
-    text.iter().position(|byte| !byte.is_ascii())
-}
-
-/// The refusal 1 stands at the text's first byte. A person wants the byte that is meant.
-fn not_ascii(source: &Source<'_>, at: usize) -> String {
-    let (line, column) = (source.line(at), source.column(at));
-    format!("the first byte above 127 is at line {line} of the file, column {column}")
-}
-
-/// Where a line isn't counted as the file's: how it is counted, from the number of the first one on.
-fn note_on_lines(out: &mut impl Write, counted: u32, of_file: usize, first_line: u32) -> io::Result<()> {
-    if counted as usize == of_file {
-        return Ok(());
-    }
-    let (file, start) = match first_line {
-        1 => ("the file", None),
-        line => ("the new file", Some(format!("the function that is replaced is on line {line}"))),
+    // Without a place no line would tell more; and the first byte isn't the one that is above 127.
+    let (place, shows_line) = match refusal.kind() {
+        RefusalKind::NotAscii => (source.at(0), false),
+        kind if kind.has_place() => (source.at(refusal.place()), true),
+        _ => (source.name.clone(), false),
     };
-    let in_comments = first_line as usize + of_file - 1 != counted as usize;
-    let in_comments = in_comments.then(|| "newlines in comments are not counted".to_owned());
-    let why: Vec<String> = [start, in_comments].into_iter().flatten().collect();
-    note(out, &format!("line {of_file} of {file} is counted as line {counted}, since {}", why.join(" and ")))
+    let number = style.refused(&format!("refused {}", refusal.number()));
+    writeln!(out, "{}: {number}: {}", style.place(&place), message(refusal))?;
+    if shows_line {
+        excerpt(out, source, Span::byte(refusal.place()), |caret| style.refused(caret))?;
+    }
+    for Note { words, span } in notes {
+        match span {
+            None => writeln!(out, " {} {words}", style.note("note:"))?,
+            Some(span) => {
+                writeln!(out, "{}: {} {words}", style.place(&source.at(span.place)), style.note("note:"))?;
+                excerpt(out, source, *span, |caret| style.note(caret))?;
+            }
+        }
+    }
+    Ok(())
 }
 
-fn note(out: &mut impl Write, what: &str) -> io::Result<()> {
-    writeln!(out, " note: {what}")
+/// A refusal's message as one line, fit for a terminal.
+pub fn message(refusal: &Refusal) -> Printable<'_> {
+    let message = refusal.message();
+    Printable(message.strip_suffix(b"\n").unwrap_or(message))
+}
+
+pub fn warnings(out: &mut impl Write, style: Style, source: &Source<'_>, warnings: &[Warning<'_>]) -> io::Result<()> {
+    for warning in warnings {
+        let (place, kind) = (style.place(&source.at(warning.place)), warning.kind.word());
+        writeln!(out, "{place}: {} {warning} [{kind}]", style.warning("warning:"))?;
+        let span = Span { place: warning.place, length: warning.spelling.len() };
+        excerpt(out, source, span, |caret| style.warning(caret))?;
+    }
+    Ok(())
+}
+
+/// The line, beside its number, and under it a caret at the place and tildes as far as more is meant.
+fn excerpt(out: &mut impl Write, source: &Source<'_>, span: Span, mark: impl Fn(&str) -> String) -> io::Result<()> {
+    let Excerpt { line, left, width } = source.excerpt(span);
+    let number = source.lines.position(span.place).line.to_string();
+    let (margin, gap) = (" ".repeat(number.len()), " ".repeat(left));
+    let width = if span.length > 1 { width } else { 1 };
+    writeln!(out, " {number} | {line}")?;
+    writeln!(out, " {margin} | {gap}{}", mark(&format!("^{}", "~".repeat(width - 1))))
 }

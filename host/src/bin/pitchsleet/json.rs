@@ -1,49 +1,105 @@
 //! An answer as one line of JSON.
 use std::io::{self, Write};
 
-use pitchsleet::{Block, Function, Label, Operation, Refusal, Token, TokenValue, Tokens, Type, Unit, Variable};
+use pitchsleet::{
+    Block, Function, Label, Lines, Operation, OperationValue, Position, Refusal, Token, TokenValue, Tokens, Type, Unit,
+    Variable, Warning,
+};
 
-pub fn write_read(out: &mut impl Write, answer: &Result<Tokens<'_>, Refusal>) -> io::Result<()> {
+/// What is answered: the bytes of a text, and the file's name where it comes from one.
+#[derive(Clone, Copy)]
+pub struct Asked<'a> {
+    pub file: Option<&'a str>,
+    pub text: &'a [u8],
+}
+
+pub fn write_read(out: &mut impl Write, asked: Asked<'_>, answer: &Result<Tokens<'_, '_>, Refusal>) -> io::Result<()> {
     match answer {
         Ok(tokens) => {
-            accepted(out, tokens)?;
-            writeln!(out, "}}")
+            accepted(out, asked, tokens)?;
+            end_accepted(out, asked, &tokens.warnings())
         }
-        Err(refusal) => refused(out, refusal, ""),
+        Err(refusal) => refused(out, asked, refusal, ""),
     }
 }
 
-pub fn write_check(out: &mut impl Write, answer: &Result<Unit<'_>, Refusal>) -> io::Result<()> {
+pub fn write_check(out: &mut impl Write, asked: Asked<'_>, answer: &Result<Unit<'_, '_>, Refusal>) -> io::Result<()> {
     match answer {
         Ok(unit) => {
-            accepted(out, &unit.tokens())?;
+            accepted(out, asked, &unit.tokens())?;
             write!(out, r#","functions":"#)?;
             list(out, unit.functions(), function)?;
-            writeln!(out, "}}")
+            end_accepted(out, asked, &unit.warnings())
         }
-        Err(refusal) => refused(out, refusal, ""),
+        Err(refusal) => refused(out, asked, refusal, ""),
     }
 }
 
 /// The answer of a recheck whose old text is refused. All its others are those of a check.
-pub fn write_old_refused(out: &mut impl Write, refusal: &Refusal) -> io::Result<()> {
-    refused(out, refusal, r#","old":true"#)
+pub fn write_old_refused(out: &mut impl Write, old: Asked<'_>, refusal: &Refusal) -> io::Result<()> {
+    refused(out, old, refusal, r#","old":true"#)
 }
 
 /// An accepted text's answer, but for its end.
-fn accepted(out: &mut impl Write, tokens: &Tokens<'_>) -> io::Result<()> {
-    write!(out, r#"{{"number":0,"line":0,"place":0,"message":"","tokens":"#)?;
+fn accepted(out: &mut impl Write, asked: Asked<'_>, tokens: &Tokens<'_, '_>) -> io::Result<()> {
+    begin(out, asked)?;
+    write!(out, r#""number":0,"line":0,"place":0,"message":"","tokens":"#)?;
     list(out, tokens.iter(), token)?;
     write!(out, r#","names":"#)?;
     list(out, tokens.names(), |out, name| string(out, name.spelling.as_bytes()))
 }
 
-/// A refused text's answer, with more behind the message.
-fn refused(out: &mut impl Write, refusal: &Refusal, more: &str) -> io::Result<()> {
+fn end_accepted(out: &mut impl Write, asked: Asked<'_>, warnings: &[Warning<'_>]) -> io::Result<()> {
+    let lines = Lines::new(asked.text);
+    write!(out, r#","warnings":"#)?;
+    list(out, warnings.iter(), |out, warning| {
+        write!(out, r#"{{"kind":"{}","place":{}"#, warning.kind.word(), warning.place)?;
+        position(out, Some(lines.position(warning.place)))?;
+        write!(out, r#","message":"#)?;
+        string(out, warning.to_string().as_bytes())?;
+        write!(out, "}}")
+    })?;
+    writeln!(out, "}}")
+}
+
+/// A refused text's answer, with more behind it.
+fn refused(out: &mut impl Write, asked: Asked<'_>, refusal: &Refusal, more: &str) -> io::Result<()> {
     let (number, line, place) = (refusal.number(), refusal.line(), refusal.place());
-    write!(out, r#"{{"number":{number},"line":{line},"place":{place},"message":"#)?;
+    begin(out, asked)?;
+    write!(out, r#""number":{number},"line":{line},"place":{place},"message":"#)?;
     string(out, refusal.message())?;
+    position(out, refusal.position(asked.text))?;
     writeln!(out, "{more}}}")
+}
+
+fn begin(out: &mut impl Write, asked: Asked<'_>) -> io::Result<()> {
+    write!(out, "{{")?;
+    if let Some(file) = asked.file {
+        write!(out, r#""file":"#)?;
+        name(out, file)?;
+        write!(out, ",")?;
+    }
+    Ok(())
+}
+
+fn position(out: &mut impl Write, position: Option<Position>) -> io::Result<()> {
+    match position {
+        Some(Position { line, column }) => write!(out, r#","file_line":{line},"file_column":{column}"#),
+        None => write!(out, r#","file_line":null,"file_column":null"#),
+    }
+}
+
+/// A file's name: of all that is written, it alone may have more than ASCII.
+fn name(out: &mut impl Write, name: &str) -> io::Result<()> {
+    write!(out, "\"")?;
+    for character in name.chars() {
+        match character {
+            '"' | '\\' => write!(out, "\\{character}")?,
+            '\0'..'\x20' => write!(out, "\\u{:04x}", u32::from(character))?,
+            _ => write!(out, "{character}")?,
+        }
+    }
+    write!(out, "\"")
 }
 
 fn token<W: Write>(out: &mut W, token: Token<'_>) -> io::Result<()> {
@@ -57,7 +113,7 @@ fn token<W: Write>(out: &mut W, token: Token<'_>) -> io::Result<()> {
     write!(out, ",{},{}]", token.line, token.place)
 }
 
-fn function<W: Write>(out: &mut W, function: Function<'_>) -> io::Result<()> {
+fn function<W: Write>(out: &mut W, function: Function<'_, '_>) -> io::Result<()> {
     let name = function.name();
     let (token, number, line) = (function.token(), name.identifier.0, function.line());
     let (place, length) = (function.place(), name.spelling.len());
@@ -80,7 +136,7 @@ fn label<W: Write>(out: &mut W, label: Label) -> io::Result<()> {
     write!(out, "[{},{},{}]", label.name.0, label.token, label.block)
 }
 
-fn block<W: Write>(out: &mut W, block: Block<'_>) -> io::Result<()> {
+fn block<W: Write>(out: &mut W, block: Block<'_, '_>) -> io::Result<()> {
     write!(out, r#"{{"ops":"#)?;
     list(out, block.operations(), operation)?;
     write!(out, r#","succs":"#)?;
@@ -91,7 +147,19 @@ fn block<W: Write>(out: &mut W, block: Block<'_>) -> io::Result<()> {
 }
 
 fn operation<W: Write>(out: &mut W, operation: Operation<'_>) -> io::Result<()> {
-    write!(out, r#"{{"kind":"{}","token":{},"result":"#, operation.kind(), operation.token)?;
+    write!(out, r#"{{"kind":"{}","token":{},"operator":"#, operation.kind(), operation.token)?;
+    match operation.value {
+        OperationValue::Binary { operator, .. } => write!(out, "\"{operator}\"")?,
+        OperationValue::Unary { operator, .. } => write!(out, "\"{operator}\"")?,
+        _ => write!(out, "null")?,
+    }
+    write!(out, r#","value":"#)?;
+    match operation.value {
+        // A number, true or false: as JSON writes them.
+        OperationValue::Const { value, .. } => write!(out, "{value}")?,
+        _ => write!(out, "null")?,
+    }
+    write!(out, r#","result":"#)?;
     optional(out, operation.result())?;
     write!(out, r#","callee":"#)?;
     optional(out, operation.callee())?;
@@ -99,7 +167,7 @@ fn operation<W: Write>(out: &mut W, operation: Operation<'_>) -> io::Result<()> 
     list(out, operation.operands(), variable)?;
     write!(out, r#","labels":"#)?;
     list(out, operation.labels(), |out, label| number(out, label.0))?;
-    write!(out, "}}")
+    write!(out, r#","added":{}}}"#, operation.is_added())
 }
 
 fn optional<W: Write>(out: &mut W, value: Option<Variable>) -> io::Result<()> {

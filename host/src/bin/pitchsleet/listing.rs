@@ -1,12 +1,12 @@
 //! Functions, blocks and operations as lines that a person reads.
 use std::fmt::Write;
 
-use pitchsleet::{Block, Function, Identifier, Operation, OperationValue, TokenValue, Type, Unit, Variable};
+use pitchsleet::{Block, Function, Operation, OperationValue, Type, Unit, Variable};
 
 /// A function's first line: `@least(a: int, b: int): int`.
-pub fn header(unit: &Unit<'_>, function: &Function<'_>) -> String {
+pub fn header(unit: &Unit<'_, '_>, function: &Function<'_, '_>) -> String {
     let mut line = function.name().spelling.to_owned();
-    let formals = function.formals().map(|formal| format!("{}: {}", spelling(unit, formal.name), formal.ty));
+    let formals = function.formals().map(|formal| format!("{}: {}", unit.spelling(formal.name), formal.ty));
     let formals: Vec<String> = formals.collect();
     if !formals.is_empty() {
         push(&mut line, format_args!("({})", formals.join(", ")));
@@ -18,31 +18,31 @@ pub fn header(unit: &Unit<'_>, function: &Function<'_>) -> String {
 }
 
 /// A block's number, and the labels that name it: `block 1 .then`.
-pub fn block_name(unit: &Unit<'_>, block: &Block<'_>) -> String {
+pub fn block_name(unit: &Unit<'_, '_>, block: &Block<'_, '_>) -> String {
     let mut name = format!("block {}", block.number());
     for label in block.labels() {
-        push(&mut name, format_args!(" {}", spelling(unit, label.name)));
+        push(&mut name, format_args!(" {}", unit.spelling(label.name)));
     }
     name
 }
 
 /// An operation, with the types that are kept: `less:bool = lt a:int b:int`.
-pub fn operation(unit: &Unit<'_>, operation: &Operation<'_>) -> String {
+pub fn operation(unit: &Unit<'_, '_>, operation: &Operation<'_>) -> String {
     let mut line = String::new();
     if let Some(result) = operation.result() {
         push(&mut line, format_args!("{} = ", typed(unit, result)));
     }
     line.push_str(&word(operation));
     if let Some(callee) = operation.callee() {
-        push(&mut line, format_args!(" {}", spelling(unit, callee.name)));
+        push(&mut line, format_args!(" {}", unit.spelling(callee.name)));
     }
     for operand in operation.operands() {
         push(&mut line, format_args!(" {}", typed(unit, operand)));
     }
     for label in operation.labels() {
-        push(&mut line, format_args!(" {}", spelling(unit, label)));
+        push(&mut line, format_args!(" {}", unit.spelling(label)));
     }
-    if let OperationValue::Return { added: true, .. } = operation.value {
+    if operation.is_added() {
         line.push_str(" (added)");
     }
     line
@@ -51,23 +51,19 @@ pub fn operation(unit: &Unit<'_>, operation: &Operation<'_>) -> String {
 /// An operation's word, and of a constant the value.
 fn word(operation: &Operation<'_>) -> String {
     match operation.value {
-        OperationValue::Binary { operator, .. } | OperationValue::Unary { operator, .. } => operator.kind().to_owned(),
-        OperationValue::Const { value: TokenValue::Integer(number), .. } => format!("const {number}"),
-        OperationValue::Const { value, .. } => format!("const {}", value.kind()),
+        OperationValue::Binary { operator, .. } => operator.word().to_owned(),
+        OperationValue::Unary { operator, .. } => operator.word().to_owned(),
+        OperationValue::Const { value, .. } => format!("const {value}"),
         _ => operation.kind().to_owned(),
     }
 }
 
-fn typed(unit: &Unit<'_>, variable: Variable) -> String {
-    let name = spelling(unit, variable.name);
+fn typed(unit: &Unit<'_, '_>, variable: Variable) -> String {
+    let name = unit.spelling(variable.name);
     match variable.ty {
         Type::Placeholder => name.to_owned(),
         ty => format!("{name}:{ty}"),
     }
-}
-
-fn spelling<'a>(unit: &Unit<'a>, name: Identifier) -> &'a str {
-    unit.name(name).expect("the names of a text are in its table").spelling
 }
 
 fn push(line: &mut String, what: std::fmt::Arguments<'_>) {

@@ -4,46 +4,55 @@ use std::io::{self, Write};
 
 use pitchsleet::{Headers, Reader, Refusal};
 
-use crate::args::{Form, shown};
+use crate::args::{Form, Options, shown};
 use crate::failure::Failure;
-use crate::{REFUSED, human, input, json, listing, status};
+use crate::notes::{Refused, Replaced};
+use crate::source::Source;
+use crate::style::Style;
+use crate::{REFUSED, files, human, input, json, listing, notes};
 
 pub fn answer(
     old_file: &OsStr,
     function: &OsStr,
     new_file: &OsStr,
-    form: Form,
+    options: Options,
     output: &mut impl Write,
-) -> Result<u8, Failure> {
+    status: &mut u8,
+) -> Result<(), Failure> {
     let (old, new) = (input::text_of(old_file)?, input::text_of(new_file)?);
+    let (old, new) = (files::source(old_file, &old), files::source(new_file, &new));
+    let style = Style::of(options.color, &io::stdout());
     let mut reader = Reader::new();
-    let unit = match reader.check(&old) {
+    let unit = match reader.check(old.text) {
         Ok(unit) => unit,
         Err(refusal) => {
-            old_refused(output, old_file, &old, form, &refusal)?;
-            return Ok(REFUSED);
+            *status = REFUSED;
+            return Ok(old_refused(output, style, &old, options.form, &refusal)?);
         }
     };
     let headers = unit.headers();
-    let number = number_of(&headers, function)
-        .ok_or_else(|| format!("{} has no function {}", shown(old_file), shown(function)))?;
+    let number =
+        number_of(&headers, function).ok_or_else(|| format!("{} has no function {}", old.name, shown(function)))?;
     let header = unit.function(number).map(|function| listing::header(&unit, &function));
-    let answer = reader.recheck(&headers, number, &new);
-    match (form, &answer) {
-        (Form::Json, answer) => json::write_check(output, answer)?,
-        (_, Ok(unit)) => human::unit(output, shown(new_file), unit)?,
+    let answer = reader.recheck(&headers, number, new.text);
+    let warnings = answer.as_ref().map(|unit| unit.warnings()).unwrap_or_default();
+    files::raise(status, &answer, &warnings, options);
+    match (options.form, &answer) {
+        (Form::Json, answer) => json::write_check(output, files::asked(&new), answer)?,
+        (_, Ok(_)) if options.quiet => {}
+        (_, Ok(unit)) => human::unit(output, style, &new, unit)?,
         (_, Err(refusal)) => {
-            let replaced = human::Replaced { headers: &headers, number, header };
-            human::new_refused(output, shown(new_file), &new, refusal, &replaced)?;
+            let refused = Refused::New(Replaced { headers: &headers, number, header });
+            human::refused(output, style, &new, refusal, &notes::of(refusal, new.text, &refused))?;
         }
     }
-    Ok(status(&answer))
+    files::warn(output, options, &new, &warnings)
 }
 
-fn old_refused(out: &mut impl Write, file: &OsStr, old: &[u8], form: Form, refusal: &Refusal) -> io::Result<()> {
+fn old_refused(out: &mut impl Write, style: Style, old: &Source<'_>, form: Form, refusal: &Refusal) -> io::Result<()> {
     match form {
-        Form::Json => json::write_old_refused(out, refusal),
-        _ => human::old_refused(out, shown(file), old, refusal),
+        Form::Json => json::write_old_refused(out, files::asked(old), refusal),
+        _ => human::refused(out, style, old, refusal, &notes::of(refusal, old.text, &Refused::Old)),
     }
 }
 

@@ -1,4 +1,5 @@
-//! Lines and columns of a file, by the places of its bytes.
+//! A text with its name, and parts of its lines that are fit for a terminal.
+use pitchsleet::{Lines, Printable};
 
 /// How much of a long line is shown before the place, and from it on, in bytes.
 const BEFORE: usize = 60;
@@ -7,71 +8,80 @@ const AFTER: usize = 40;
 /// What stands where more of a line is left out.
 const CUT: &str = "..";
 
-pub struct Source<'a> {
-    text: &'a [u8],
-    /// Where each line begins.
-    starts: Vec<usize>,
+/// How a tab is shown.
+const TAB: &str = "    ";
+
+pub struct Source<'t> {
+    /// What the output calls the text.
+    pub name: String,
+    pub text: &'t [u8],
+    pub lines: Lines<'t>,
 }
 
-/// A part of a line that is fit for a terminal, and how many characters stand left of the caret.
+/// Some bytes of a text in a row.
+#[derive(Clone, Copy, Debug, PartialEq, Eq)]
+pub struct Span {
+    pub place: usize,
+    pub length: usize,
+}
+
+/// A part of a line that is fit for a terminal; how many characters stand left of what is meant, and how many are meant.
 pub struct Excerpt {
     pub line: String,
-    pub caret: usize,
+    pub left: usize,
+    pub width: usize,
 }
 
-impl<'a> Source<'a> {
-    pub fn new(text: &'a [u8]) -> Self {
-        let newlines = text.iter().enumerate().filter(|(_, byte)| **byte == b'\n');
-        let starts = [0].into_iter().chain(newlines.map(|(at, _)| at + 1)).collect();
-        Self { text, starts }
+impl<'t> Source<'t> {
+    pub fn new(name: String, text: &'t [u8]) -> Self {
+        Self { name, text, lines: Lines::new(text) }
     }
 
-    /// The line of the file, from 1: every newline counts.
-    pub fn line(&self, place: usize) -> usize {
-        self.starts.partition_point(|&start| start <= place)
+    /// `NAME:LINE:COLUMN`, where an editor goes to.
+    pub fn at(&self, place: usize) -> String {
+        format!("{}:{}", self.name, self.lines.position(place))
     }
 
-    /// The column in bytes, from 1.
-    pub fn column(&self, place: usize) -> usize {
-        place - self.start(place) + 1
+    /// The line of a place, cut around it where it is long.
+    pub fn excerpt(&self, span: Span) -> Excerpt {
+        self.part(span, BEFORE, AFTER)
     }
 
-    pub fn excerpt(&self, place: usize) -> Excerpt {
-        let (start, end) = (self.start(place), self.end(place));
-        let (from, to) = (start.max(place.saturating_sub(BEFORE)), end.min(place + AFTER));
-        let mut line = String::new();
+    /// The whole line of a place.
+    pub fn whole_line(&self, span: Span) -> Excerpt {
+        self.part(span, usize::MAX, self.text.len())
+    }
+
+    fn part(&self, span: Span, before: usize, after: usize) -> Excerpt {
+        let line = self.lines.position(span.place).line;
+        let start = self.lines.start(line).expect("a position's line is one of the text's");
+        // The place may be that of the newline, or of a carriage return before it.
+        let end = (start + self.lines.get(line).map_or(0, <[u8]>::len)).max(span.place.min(self.text.len()));
+        let (from, to) = (start.max(span.place.saturating_sub(before)), end.min(span.place + after));
+        let mut shown = String::new();
         if start < from {
-            line.push_str(CUT);
+            shown.push_str(CUT);
         }
-        push_shown(&mut line, &self.text[from..place]);
-        let caret = line.len();
-        push_shown(&mut line, &self.text[place..to]);
+        shown.push_str(&fit(&self.text[from..span.place]));
+        let left = shown.len();
+        let meant = fit(&self.text[span.place..to.min(span.place + span.length)]);
+        shown.push_str(&meant);
+        shown.push_str(&fit(&self.text[to.min(span.place + span.length)..to]));
         if to < end {
-            line.push_str(CUT);
+            shown.push_str(CUT);
         }
-        Excerpt { line, caret }
-    }
-
-    fn start(&self, place: usize) -> usize {
-        self.starts[self.line(place) - 1]
-    }
-
-    /// Where the line ends, without its newline and a carriage return before that. Never left of the place.
-    fn end(&self, place: usize) -> usize {
-        let next = self.starts.get(self.line(place));
-        let end = next.map_or(self.text.len(), |start| start - 1);
-        match self.text[..end].last() {
-            Some(b'\r') if place < end => end - 1,
-            _ => end,
-        }
+        Excerpt { line: shown, left, width: meant.len().max(1) }
     }
 }
 
-fn push_shown(line: &mut String, bytes: &[u8]) {
-    for &byte in bytes {
-        match byte {
-            b'\t' => line.push_str("    "),
-            _ => line.push_str(&pitchsleet::Printable(&[byte]).to_string()),
-        }
+impl Span {
+    pub fn byte(place: usize) -> Self {
+        Self { place, length: 1 }
     }
+}
+
+/// Bytes of a line as they are shown: all of it is printable ASCII, so that a character is a byte wide.
+pub fn fit(bytes: &[u8]) -> String {
+    let pieces: Vec<String> = bytes.split(|&byte| byte == b'\t').map(|piece| Printable(piece).to_string()).collect();
+    pieces.join(TAB)
 }

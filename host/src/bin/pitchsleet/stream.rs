@@ -39,8 +39,8 @@ pub fn answer(command: Command, input: impl Read, output: &mut impl Write) -> Re
             }
         }
         match command {
-            Command::Read => json::write_read(output, &reader.read(&asked.text))?,
-            Command::Check => json::write_check(output, &reader.check(&asked.text))?,
+            Command::Read => json::write_read(output, unnamed(&asked.text), &reader.read(&asked.text))?,
+            Command::Check => json::write_check(output, unnamed(&asked.text), &reader.check(&asked.text))?,
             Command::Recheck => recheck(&mut reader, &asked, output)?,
         }
     }
@@ -51,10 +51,14 @@ fn recheck(reader: &mut Reader, asked: &Asked, output: &mut impl Write) -> io::R
     match reader.check(&asked.old).map(|unit| unit.headers()) {
         Ok(headers) => {
             let number = usize::try_from(asked.number).unwrap_or(usize::MAX);
-            json::write_check(output, &reader.recheck(&headers, number, &asked.text))
+            json::write_check(output, unnamed(&asked.text), &reader.recheck(&headers, number, &asked.text))
         }
-        Err(refusal) => json::write_old_refused(output, &refusal),
+        Err(refusal) => json::write_old_refused(output, unnamed(&asked.old), &refusal),
     }
+}
+
+fn unnamed(text: &[u8]) -> json::Asked<'_> {
+    json::Asked { file: None, text }
 }
 
 /// Fills in what is asked next; false where the input ends before it.

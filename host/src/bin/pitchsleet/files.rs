@@ -1,0 +1,105 @@
+//! Texts in files, read or checked one after the other.
+use std::ffi::{OsStr, OsString};
+use std::io::{self, Write};
+
+use pitchsleet::{Reader, Refusal, Warning};
+
+use crate::args::{Form, Options, shown};
+use crate::failure::Failure;
+use crate::notes::Refused;
+use crate::source::Source;
+use crate::style::Style;
+use crate::{ACCEPTED, COULD_NOT_RUN, REFUSED, dot, human, input, json, notes, say};
+
+pub fn read(names: &[OsString], options: Options, output: &mut impl Write, status: &mut u8) -> Result<(), Failure> {
+    let style = Style::of(options.color, &io::stdout());
+    each_text(names, status, |source, status| {
+        let mut reader = Reader::new();
+        let answer = reader.read(source.text);
+        let warnings = answer.as_ref().map(|tokens| tokens.warnings()).unwrap_or_default();
+        raise(status, &answer, &warnings, options);
+        match (options.form, &answer) {
+            (Form::Json, answer) => json::write_read(output, asked(source), answer)?,
+            (_, Ok(_)) if options.quiet => {}
+            (_, Ok(tokens)) => human::tokens(output, style, source, tokens)?,
+            (_, Err(refusal)) => refused(output, style, source, refusal)?,
+        }
+        warn(output, options, source, &warnings)
+    })
+}
+
+pub fn check(names: &[OsString], options: Options, output: &mut impl Write, status: &mut u8) -> Result<(), Failure> {
+    let style = Style::of(options.color, &io::stdout());
+    each_text(names, status, |source, status| {
+        let mut reader = Reader::new();
+        let answer = reader.check(source.text);
+        let warnings = answer.as_ref().map(|unit| unit.warnings()).unwrap_or_default();
+        raise(status, &answer, &warnings, options);
+        match (options.form, &answer) {
+            (Form::Json, answer) => json::write_check(output, asked(source), answer)?,
+            (Form::Dot, Ok(unit)) => dot::write(output, unit)?,
+            (Form::Dot, Err(refusal)) => {
+                // What reads the output is Graphviz, and a refusal is nothing for it. Where standard error is closed, the
+                // exit status alone must say it.
+                let style = Style::of(options.color, &io::stderr());
+                let _ = refused(&mut io::stderr().lock(), style, source, refusal);
+            }
+            (_, Ok(_)) if options.quiet => {}
+            (_, Ok(unit)) => human::unit(output, style, source, unit)?,
+            (_, Err(refusal)) => refused(output, style, source, refusal)?,
+        }
+        warn(output, options, source, &warnings)
+    })
+}
+
+/// What is done with each text; one that can't be read is named, and the others are answered all the same.
+fn each_text(
+    names: &[OsString],
+    status: &mut u8,
+    mut answer: impl FnMut(&Source<'_>, &mut u8) -> Result<(), Failure>,
+) -> Result<(), Failure> {
+    for name in names {
+        match input::text_of(name) {
+            Ok(text) => answer(&source(name, &text), status)?,
+            Err(why) => {
+                say(&why);
+                *status = COULD_NOT_RUN;
+            }
+        }
+    }
+    Ok(())
+}
+
+pub fn source<'t>(name: &OsStr, text: &'t [u8]) -> Source<'t> {
+    Source::new(shown(name), text)
+}
+
+pub fn asked<'a>(source: &'a Source<'_>) -> json::Asked<'a> {
+    json::Asked { file: Some(&source.name), text: source.text }
+}
+
+/// The status is that of the worst answer.
+pub fn raise<T>(status: &mut u8, answer: &Result<T, Refusal>, warnings: &[Warning<'_>], options: Options) {
+    let is_fine = answer.is_ok() && (warnings.is_empty() || !options.deny_warnings);
+    *status = (*status).max(if is_fine { ACCEPTED } else { REFUSED });
+}
+
+fn refused(out: &mut impl Write, style: Style, source: &Source<'_>, refusal: &Refusal) -> io::Result<()> {
+    human::refused(out, style, source, refusal, &notes::of(refusal, source.text, &Refused::Text))
+}
+
+/// Warnings for a person, on standard error, behind what was written so far.
+pub fn warn(
+    output: &mut impl Write,
+    options: Options,
+    source: &Source<'_>,
+    warnings: &[Warning<'_>],
+) -> Result<(), Failure> {
+    if warnings.is_empty() || matches!(options.form, Form::Json | Form::Html) {
+        return Ok(());
+    }
+    output.flush()?;
+    // Where standard error is closed, nobody wants them.
+    let _ = human::warnings(&mut io::stderr().lock(), Style::of(options.color, &io::stderr()), source, warnings);
+    Ok(())
+}

@@ -1,0 +1,88 @@
+//! What the tool tells of a refusal beside its message.
+mod tool;
+
+use tool::answer;
+
+/// What is said of a refused text behind its first line.
+fn behind(text: &str) -> String {
+    let said = answer(&["check", "-"], text.as_bytes(), 1);
+    said.split_once('\n').expect("a line").1.to_owned()
+}
+
+#[test]
+fn which_name_a_number_is() {
+    let said = answer(&["check", "-"], b"@f {\n  frost limit;\n}", 1);
+    let expected = "\
+-:2:9: refused 5: [line 2] Error at 'local_2': ':' expected.
+ 2 |   frost limit;
+   |         ^
+ note: local_2 is 'limit'
+";
+    assert_eq!(said, expected);
+    assert!(behind("@f { jmp @g; }").ends_with("\n note: global_1 is '@g'\n"));
+    assert!(behind("@f { x: .int = const 5; }").ends_with("\n note: label_2 is '.int'\n"));
+    // A word or a sign is itself; and so is a name that a message spells.
+    for text in ["@f { x: int = nop; }", "@f }", "@f { .a: nop; .a: nop; }", "@f { jmp .local_1; }"] {
+        assert!(!behind(text).contains("note:"), "{text}");
+    }
+}
+
+#[test]
+fn which_block_is_empty() {
+    let empty = |text: &str, place: &str, words: &str| {
+        let said = behind(text);
+        assert!(said.contains(&format!("-:{place}: note: {words}\n")), "{text}: {said}");
+    };
+    empty("@f { }", "1:4", "the function has no operation");
+    empty("@f(a: int):\nint {\n}", "2:5", "the function has no operation");
+    empty("@f { nop; .a: .b: nop; }", "1:11", "the block '.a' has no operation");
+    empty("@f { .s: .t: nop; .a: .b: nop; .c: .d: nop; }", "1:19", "the block '.a' has no operation");
+    empty("@g { nop; }\n@f(a: int) { br a .a .b; .a:\n.b: ret; }", "2:26", "the block '.a' has no operation");
+    let line = " 1 | @f { nop; .a: .b: nop; }\n";
+    let expected = [line, "   | ^\n-:1:11: note: the block '.a' has no operation\n", line, "   |           ^~\n"];
+    assert_eq!(behind("@f { nop; .a: .b: nop; }"), expected.concat());
+}
+
+#[test]
+fn which_name_is_undefined() {
+    let line = " 2 |   warm: bool = lt limit least;\n";
+    let note = "-:2:25: note: nothing has set 'least' when this runs, and no formal is named so\n";
+    let expected = [line, "   |                ^\n", note, line, "   |                         ^~~~~\n"].concat();
+    assert_eq!(behind("@f(limit: int) {\n  warm: bool = lt limit least;\n}"), expected);
+    for (text, place) in [
+        ("@f: int { ret x; }", "1:15"),
+        ("@f { x: int = id x; }", "1:18"),
+        ("@f { x: bool = not\n y; }", "2:2"),
+        ("@g(a: int) { nop; } @f { call @g a; }", "1:34"),
+        ("@f(b: int) { x: int = add b b b; }".replace("b b b", "b a").as_str(), "1:29"),
+    ] {
+        let said = behind(text);
+        assert!(said.contains(&format!("\n-:{place}: note: nothing has set '")), "{text}: {said}");
+    }
+    assert!(
+        behind("@f { call\n@nobody; }").contains("\n-:2:1: note: no function is named '@nobody'\n 2 | @nobody; }\n")
+    );
+}
+
+#[test]
+fn that_a_constant_is_too_large() {
+    let line = " 1 | @f { x: int = const 2147483648; }\n";
+    let note = "-:1:21: note: this number is too large: above 2147483647 one is dropped\n";
+    let expected = [line, "   |               ^\n", note, line, "   |                     ^~~~~~~~~~\n"].concat();
+    assert_eq!(behind("@f { x: int = const 2147483648; }"), expected);
+    // The one that is dropped behind another const is no reason.
+    assert!(!behind("@f { x: int = const 1 2147483648; y: int = const; }").contains("too large"));
+    assert!(!behind("@f { x: int = const; 2147483648 }").contains("too large"));
+}
+
+/// Every refusal has its line, and none of its notes points behind the text.
+#[test]
+fn notes_never_fail() {
+    let text = "@f(a: int, b: bool): int { .s: x: int = add a a; br b .s .t; .t: print x; ret x; } @g { call @f x b; }";
+    for end in 0..text.len() {
+        for start in [0, end / 2] {
+            let output = tool::run(&["check", "-"], &text.as_bytes()[start..end]);
+            assert!(tool::status(&output) <= 1, "{start}, {end}: {}", tool::err(&output));
+        }
+    }
+}
