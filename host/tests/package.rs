@@ -5,10 +5,10 @@ use std::path::{Path, PathBuf};
 use std::process::{Command, Output};
 
 /// What is in it, below its one folder.
-const FILES: [&str; 12] = [
+const FILES: [&str; 13] = [
     "LICENSE", "NOTICE", "README.md", "SHA256SUMS", "bin/pitchsleet", "docs/INTERFACE.md", "examples/colder.bril",
-    "examples/frost-refused.bril", "examples/frost.bril", "examples/walk.c", "include/pitchsleet.h",
-    "lib/libpitchsleet.a",
+    "examples/frost-refused.bril", "examples/frost-warned.bril", "examples/frost.bril", "examples/walk.c",
+    "include/pitchsleet.h", "lib/libpitchsleet.a",
 ];
 
 /// The repository's root.
@@ -112,7 +112,7 @@ fn works_by_itself(folder: &Path) {
     let readme = fs::read_to_string(folder.join("README.md")).expect("its README");
     let commands = readme.lines().filter_map(|line| line.strip_prefix("    "));
     let commands: Vec<&str> = commands.map(|line| line.split("  ").next().expect("a split has a first part")).collect();
-    assert_eq!(commands.len(), 6, "{commands:?}");
+    assert_eq!(commands.len(), 7, "{commands:?}");
     let has_compiler = sh(folder, "cc --version").status.success();
     if !has_compiler {
         // Not by `println!`, whose output a passing test keeps to itself.

@@ -50,6 +50,5 @@ fn edge(block: &Block<'_, '_>, ways: usize, way: usize) -> &'static str {
 /// What stands in a block's box, each line moved to the left by `\l`. Nothing in it is special to Graphviz: names have
 /// letters, digits, `_`, `@` and `.`.
 fn lines(unit: &Unit<'_, '_>, block: &Block<'_, '_>) -> String {
-    let operations = block.operations().map(|operation| listing::operation(unit, &operation));
-    [listing::block_name(unit, block)].into_iter().chain(operations).map(|line| line + "\\l").collect()
+    listing::block_lines(unit, block).map(|line| line + "\\l").collect()
 }

@@ -6,7 +6,8 @@ use pitchsleet::{Reader, Refusal, Warning};
 
 use crate::args::{Form, Options, shown};
 use crate::failure::Failure;
-use crate::notes::Refused;
+use crate::html::Pages;
+use crate::notes::{Note, Refused};
 use crate::source::Source;
 use crate::style::Style;
 use crate::{ACCEPTED, COULD_NOT_RUN, REFUSED, dot, human, input, json, notes, say};
@@ -22,7 +23,7 @@ pub fn read(names: &[OsString], options: Options, output: &mut impl Write, statu
             (Form::Json, answer) => json::write_read(output, asked(source), answer)?,
             (_, Ok(_)) if options.quiet => {}
             (_, Ok(tokens)) => human::tokens(output, style, source, tokens)?,
-            (_, Err(refusal)) => refused(output, style, source, refusal)?,
+            (_, Err(refusal)) => human::refused(output, style, source, refusal, &notes_on(source, refusal))?,
         }
         warn(output, options, source, &warnings)
     })
@@ -30,6 +31,7 @@ pub fn read(names: &[OsString], options: Options, output: &mut impl Write, statu
 
 pub fn check(names: &[OsString], options: Options, output: &mut impl Write, status: &mut u8) -> Result<(), Failure> {
     let style = Style::of(options.color, &io::stdout());
+    let mut pages = Pages::default();
     each_text(names, status, |source, status| {
         let mut reader = Reader::new();
         let answer = reader.check(source.text);
@@ -37,19 +39,25 @@ pub fn check(names: &[OsString], options: Options, output: &mut impl Write, stat
         raise(status, &answer, &warnings, options);
         match (options.form, &answer) {
             (Form::Json, answer) => json::write_check(output, asked(source), answer)?,
+            (Form::Html, Ok(unit)) => pages.push_accepted(source, unit, &warnings),
+            (Form::Html, Err(refusal)) => pages.push_refused(source, refusal, &notes_on(source, refusal)),
             (Form::Dot, Ok(unit)) => dot::write(output, unit)?,
             (Form::Dot, Err(refusal)) => {
                 // What reads the output is Graphviz, and a refusal is nothing for it. Where standard error is closed, the
                 // exit status alone must say it.
                 let style = Style::of(options.color, &io::stderr());
-                let _ = refused(&mut io::stderr().lock(), style, source, refusal);
+                let _ = human::refused(&mut io::stderr().lock(), style, source, refusal, &notes_on(source, refusal));
             }
-            (_, Ok(_)) if options.quiet => {}
-            (_, Ok(unit)) => human::unit(output, style, source, unit)?,
-            (_, Err(refusal)) => refused(output, style, source, refusal)?,
+            (Form::Person, Ok(_)) if options.quiet => {}
+            (Form::Person, Ok(unit)) => human::unit(output, style, source, unit)?,
+            (Form::Person, Err(refusal)) => human::refused(output, style, source, refusal, &notes_on(source, refusal))?,
         }
         warn(output, options, source, &warnings)
-    })
+    })?;
+    match options.form {
+        Form::Html => Ok(pages.write(output)?),
+        _ => Ok(()),
+    }
 }
 
 /// What is done with each text; one that can't be read is named, and the others are answered all the same.
@@ -84,8 +92,8 @@ pub fn raise<T>(status: &mut u8, answer: &Result<T, Refusal>, warnings: &[Warnin
     *status = (*status).max(if is_fine { ACCEPTED } else { REFUSED });
 }
 
-fn refused(out: &mut impl Write, style: Style, source: &Source<'_>, refusal: &Refusal) -> io::Result<()> {
-    human::refused(out, style, source, refusal, &notes::of(refusal, source.text, &Refused::Text))
+fn notes_on(source: &Source<'_>, refusal: &Refusal) -> Vec<Note> {
+    notes::of(refusal, source.text, &Refused::Text)
 }
 
 /// Warnings for a person, on standard error, behind what was written so far.

@@ -26,6 +26,12 @@ pub fn block_name(unit: &Unit<'_, '_>, block: &Block<'_, '_>) -> String {
     name
 }
 
+/// A block's name, and then its operations.
+pub fn block_lines(unit: &Unit<'_, '_>, block: &Block<'_, '_>) -> impl Iterator<Item = String> {
+    let operations = block.operations().map(|one| operation(unit, &one));
+    [block_name(unit, block)].into_iter().chain(operations)
+}
+
 /// An operation, with the types that are kept: `less:bool = lt a:int b:int`.
 pub fn operation(unit: &Unit<'_, '_>, operation: &Operation<'_>) -> String {
     let mut line = String::new();
