@@ -287,6 +287,11 @@ fn without_rt() {
     assert_eq!(said(&output), "pitchsleet: rt is needed to build it, and is not on the PATH\n");
 }
 
+/// As cargo shows what a build script ends with.
+fn error_of_the_crate(line: &str) -> String {
+    format!("error: pitchsleet@{}: {line}", env!("CARGO_PKG_VERSION"))
+}
+
 /// cargo runs host/build.rs again where a time has changed; that proves nothing.
 #[test]
 fn the_build_script() {
@@ -317,11 +322,8 @@ fn the_build_script() {
     repository.write(SOURCE, "fn wrong() {}\n");
     let output = build();
     assert!(!output.status.success());
-    for line in [
-        "error: pitchsleet@0.1.0: logic=not-proved\n",
-        "error: pitchsleet@0.1.0: pitchsleet: the crates are not proved: ",
-    ] {
-        assert!(said(&output).contains(line), "{}", said(&output));
+    for line in ["logic=not-proved\n", "pitchsleet: the crates are not proved: "] {
+        assert!(said(&output).contains(&error_of_the_crate(line)), "{}", said(&output));
     }
     assert!(!said(&output).contains("panicked"), "{}", said(&output));
 }
@@ -339,8 +341,8 @@ fn the_build_script_without_rt() {
         .output();
     let output = cargo.expect("cargo runs");
     assert!(!output.status.success());
-    let sentence = "error: pitchsleet@0.1.0: pitchsleet: rt is needed to build it, and is not on the PATH\n";
-    assert!(said(&output).contains(sentence), "{}", said(&output));
+    let sentence = error_of_the_crate("pitchsleet: rt is needed to build it, and is not on the PATH\n");
+    assert!(said(&output).contains(&sentence), "{}", said(&output));
     assert!(!said(&output).contains("panicked"), "{}", said(&output));
 }
 

@@ -6,11 +6,11 @@ use pitchsleet::{Reader, Refusal, Warning};
 
 use crate::args::{Form, Options, shown};
 use crate::failure::Failure;
-use crate::html::Pages;
 use crate::notes::{Note, Refused};
+use crate::page::Page;
 use crate::source::Source;
 use crate::style::Style;
-use crate::{ACCEPTED, COULD_NOT_RUN, REFUSED, dot, human, input, json, notes, say};
+use crate::{ACCEPTED, COULD_NOT_RUN, REFUSED, dot, html, human, input, json, notes, page, say};
 
 pub fn read(names: &[OsString], options: Options, output: &mut impl Write, status: &mut u8) -> Result<(), Failure> {
     let style = Style::of(options.color, &io::stdout());
@@ -31,7 +31,7 @@ pub fn read(names: &[OsString], options: Options, output: &mut impl Write, statu
 
 pub fn check(names: &[OsString], options: Options, output: &mut impl Write, status: &mut u8) -> Result<(), Failure> {
     let style = Style::of(options.color, &io::stdout());
-    let mut pages = Pages::default();
+    let mut files = Vec::new();
     each_text(names, status, |source, status| {
         let mut reader = Reader::new();
         let answer = reader.check(source.text);
@@ -39,8 +39,8 @@ pub fn check(names: &[OsString], options: Options, output: &mut impl Write, stat
         raise(status, &answer, &warnings, options);
         match (options.form, &answer) {
             (Form::Json, answer) => json::write_check(output, asked(source), answer)?,
-            (Form::Html, Ok(unit)) => pages.push_accepted(source, unit, &warnings),
-            (Form::Html, Err(refusal)) => pages.push_refused(source, refusal, &notes_on(source, refusal)),
+            (Form::Html, Ok(unit)) => files.push(html::accepted(source, unit, &warnings)),
+            (Form::Html, Err(refusal)) => files.push(html::refused(source, refusal, &notes_on(source, refusal))),
             (Form::Dot, Ok(unit)) => dot::write(output, unit)?,
             (Form::Dot, Err(refusal)) => {
                 // What reads the output is Graphviz, and a refusal is nothing for it. Where standard error is closed, the
@@ -55,7 +55,7 @@ pub fn check(names: &[OsString], options: Options, output: &mut impl Write, stat
         warn(output, options, source, &warnings)
     })?;
     match options.form {
-        Form::Html => Ok(pages.write(output)?),
+        Form::Html => Ok(page::write(output, &Page { files })?),
         _ => Ok(()),
     }
 }

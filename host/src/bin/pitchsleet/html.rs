@@ -1,76 +1,47 @@
 //! Answers as one page for a browser: each text with its refusal or its warnings in place, and a picture of each function's
 //! blocks and edges.
-use std::io::{self, Write};
-
 use pitchsleet::{Block, Function, Refusal, RefusalKind, Unit, Warning};
 
 use crate::human::{self, summary};
 use crate::listing;
 use crate::notes::Note;
-use crate::page::{self, FilePage, Mark, Page, Section, Severity, Verdict};
+use crate::page::{FilePage, Mark, Section, Severity, Verdict};
 use crate::picture::{self, Picture, PictureBox, PictureEdge, Way};
 use crate::source::{Source, Span, fit};
 
-/// What is shown of the texts that were answered so far.
-#[derive(Default)]
-pub struct Pages {
-    files: Vec<Shown>,
+/// The part of the page for an accepted text.
+pub fn accepted(source: &Source<'_>, unit: &Unit<'_, '_>, warnings: &[Warning<'_>]) -> FilePage {
+    let marks = warnings.iter().map(|warning| {
+        let span = Span { place: warning.place, length: warning.spelling.len() };
+        mark(source, span, Severity::Warning, warning.to_string())
+    });
+    let marks: Vec<Mark> = marks.collect();
+    FilePage {
+        name: source.name.clone(),
+        verdict: Verdict::Accepted { summary: summary(unit) },
+        lines: lines(source, &marks),
+        sections: unit.functions().map(|function| section(source, unit, &function, warnings)).collect(),
+        marks,
+    }
 }
 
-struct Shown {
-    name: String,
-    verdict: Verdict,
-    lines: Vec<String>,
-    sections: Vec<Section>,
-    marks: Vec<Mark>,
-}
-
-impl Pages {
-    pub fn push_accepted(&mut self, source: &Source<'_>, unit: &Unit<'_, '_>, warnings: &[Warning<'_>]) {
-        let marks: Vec<Mark> = warnings
-            .iter()
-            .map(|warning| {
-                let span = Span { place: warning.place, length: warning.spelling.len() };
-                mark(source, span, Severity::Warning, warning.to_string())
-            })
-            .collect();
-        self.files.push(Shown {
-            name: source.name.clone(),
-            verdict: Verdict::Accepted { summary: summary(unit) },
-            lines: lines(source, &marks),
-            sections: unit.functions().map(|function| section(source, unit, &function, warnings)).collect(),
-            marks,
-        });
-    }
-
-    pub fn push_refused(&mut self, source: &Source<'_>, refusal: &Refusal, notes: &[Note]) {
-        let message = format!("refused {}: {}", refusal.number(), human::message(refusal));
-        // The first byte isn't the one that is above 127: the note at that one tells.
-        let has_line = refusal.kind().has_place() && refusal.kind() != RefusalKind::NotAscii;
-        let at_place = has_line
-            .then(|| mark(source, Span::byte(refusal.place()), Severity::Refusal, human::message(refusal).to_string()));
-        let notes_there = notes.iter().filter_map(|note| {
-            let span = note.span?;
-            Some(mark(source, span, Severity::Note, note.words.clone()))
-        });
-        let marks: Vec<Mark> = at_place.into_iter().chain(notes_there).collect();
-        let notes = notes.iter().filter(|note| note.span.is_none()).map(|note| note.words.clone()).collect();
-        self.files.push(Shown {
-            name: source.name.clone(),
-            verdict: Verdict::Refused { messages: vec![message], notes },
-            lines: lines(source, &marks),
-            sections: Vec::new(),
-            marks,
-        });
-    }
-
-    pub fn write(self, out: &mut impl Write) -> io::Result<()> {
-        let mut files = Vec::new();
-        let texts: Vec<Vec<String>> = self.files.iter().map(|file| file.lines.clone()).collect();
-        for (Shown { name, verdict, sections, marks, .. }, lines) in self.files.into_iter().zip(&texts) {
-            files.push(FilePage { name, verdict, lines, sections, marks });
-        }
-        page::write(out, &Page { files })
+/// The part of the page for a refused text.
+pub fn refused(source: &Source<'_>, refusal: &Refusal, notes: &[Note]) -> FilePage {
+    let message = human::message(refusal).to_string();
+    let first = format!("refused {}: {message}", refusal.number());
+    // The first byte isn't the one that is above 127: the note at that one tells.
+    let has_line = refusal.kind().has_place() && refusal.kind() != RefusalKind::NotAscii;
+    let there = has_line.then(|| mark(source, Span::byte(refusal.place()), Severity::Refusal, message));
+    let located = notes.iter().filter_map(|note| note.span.map(|span| (span, note.words.clone())));
+    let located = located.map(|(span, words)| mark(source, span, Severity::Note, words));
+    let marks: Vec<Mark> = there.into_iter().chain(located).collect();
+    let notes = notes.iter().filter(|note| note.span.is_none()).map(|note| note.words.clone()).collect();
+    FilePage {
+        name: source.name.clone(),
+        verdict: Verdict::Refused { messages: vec![first], notes },
+        lines: lines(source, &marks),
+        sections: Vec::new(),
+        marks,
     }
 }
 

@@ -4,18 +4,19 @@ use std::io::{self, Write};
 use std::ops::Range;
 use std::slice;
 
+use crate::human::counted;
 use crate::markup::Escaped;
 use crate::picture;
 
-pub struct Page<'a> {
-    pub files: Vec<FilePage<'a>>,
+pub struct Page {
+    pub files: Vec<FilePage>,
 }
 
-pub struct FilePage<'a> {
+pub struct FilePage {
     pub name: String,
     pub verdict: Verdict,
     /// The lines as they are shown. All of them are.
-    pub lines: &'a [String],
+    pub lines: Vec<String>,
     pub sections: Vec<Section>,
     pub marks: Vec<Mark>,
 }
@@ -65,7 +66,7 @@ impl Severity {
 const STYLE: &str = include_str!("page.css");
 
 /// The same page gives the same bytes.
-pub fn write(out: &mut impl Write, page: &Page<'_>) -> io::Result<()> {
+pub fn write(out: &mut impl Write, page: &Page) -> io::Result<()> {
     let title = title(page);
     writeln!(out, "<!DOCTYPE html>\n<html lang=\"en\">\n<head>\n<meta charset=\"utf-8\">")?;
     writeln!(out, "<meta name=\"viewport\" content=\"width=device-width, initial-scale=1\">")?;
@@ -86,14 +87,14 @@ pub fn write(out: &mut impl Write, page: &Page<'_>) -> io::Result<()> {
 }
 
 /// What the pictures mean, if there is one.
-fn legend(out: &mut impl Write, files: &[FilePage<'_>]) -> io::Result<()> {
+fn legend(out: &mut impl Write, files: &[FilePage]) -> io::Result<()> {
     match files.iter().any(|file| !file.sections.is_empty()) {
         true => write!(out, "{}", picture::LEGEND),
         false => Ok(()),
     }
 }
 
-fn title(page: &Page<'_>) -> String {
+fn title(page: &Page) -> String {
     if let [file] = &page.files[..] {
         return format!("{}: {}", file.name, word(&file.verdict));
     }
@@ -108,15 +109,8 @@ fn word(verdict: &Verdict) -> &'static str {
     }
 }
 
-fn counted(count: usize, thing: &str) -> String {
-    match count {
-        1 => format!("1 {thing}"),
-        _ => format!("{count} {thing}s"),
-    }
-}
-
 /// The files, each with a link to its part of the page.
-fn contents(out: &mut impl Write, page: &Page<'_>) -> io::Result<()> {
+fn contents(out: &mut impl Write, page: &Page) -> io::Result<()> {
     writeln!(out, "<nav aria-label=\"Files\">\n<ul class=\"files\">")?;
     for (index, file) in page.files.iter().enumerate() {
         let said = match (&file.verdict, warnings(file)) {
@@ -131,12 +125,12 @@ fn contents(out: &mut impl Write, page: &Page<'_>) -> io::Result<()> {
     writeln!(out, "</ul>\n</nav>")
 }
 
-fn warnings(file: &FilePage<'_>) -> usize {
+fn warnings(file: &FilePage) -> usize {
     file.marks.iter().filter(|mark| mark.severity == Severity::Warning).count()
 }
 
 /// The marks of each line, from left to right.
-fn by_line<'a>(file: &'a FilePage<'_>) -> BTreeMap<usize, Vec<&'a Mark>> {
+fn by_line<'a>(file: &'a FilePage) -> BTreeMap<usize, Vec<&'a Mark>> {
     let mut marks: BTreeMap<usize, Vec<&Mark>> = BTreeMap::new();
     for mark in &file.marks {
         marks.entry(mark.line.max(1)).or_default().push(mark);
@@ -154,7 +148,7 @@ struct Stretch<'a> {
 }
 
 /// All lines of a file in their order, each once. The last stretch has no function.
-fn stretches<'a>(file: &'a FilePage<'_>) -> Vec<Stretch<'a>> {
+fn stretches<'a>(file: &'a FilePage) -> Vec<Stretch<'a>> {
     let mut sections: Vec<(usize, &Section)> = file.sections.iter().enumerate().collect();
     sections.sort_by_key(|(_, section)| section.first_line);
     let count = file.lines.len();
@@ -168,12 +162,12 @@ fn stretches<'a>(file: &'a FilePage<'_>) -> Vec<Stretch<'a>> {
                 last.sections.push((index, section));
             }
             last => {
-                let before = last.map_or(0, |last| last.take_blank(file.lines, first))..first;
+                let before = last.map_or(0, |last| last.take_blank(&file.lines, first))..first;
                 stretches.push(Stretch { before, lines: first..end, sections: vec![(index, section)] });
             }
         }
     }
-    let next = stretches.last_mut().map_or(0, |last| last.take_blank(file.lines, count));
+    let next = stretches.last_mut().map_or(0, |last| last.take_blank(&file.lines, count));
     stretches.push(Stretch { before: next..count, lines: count..count, sections: Vec::new() });
     stretches
 }
@@ -189,7 +183,7 @@ impl Stretch<'_> {
 
 /// A file's part of the page.
 struct Part<'a> {
-    file: &'a FilePage<'a>,
+    file: &'a FilePage,
     /// From 1, in the order of the files.
     number: usize,
     /// Of the heading.
@@ -394,16 +388,16 @@ mod tests {
         Section { header: header.to_owned(), first_line, last_line, svg: format!("<svg>{header}</svg>") }
     }
 
-    fn file<'a>(lines: &'a [String], sections: Vec<Section>, marks: Vec<Mark>) -> FilePage<'a> {
+    fn file(lines: &[String], sections: Vec<Section>, marks: Vec<Mark>) -> FilePage {
         let verdict = Verdict::Accepted { summary: "2 functions".to_owned() };
-        FilePage { name: "a.bril".to_owned(), verdict, lines, sections, marks }
+        FilePage { name: "a.bril".to_owned(), verdict, lines: lines.to_vec(), sections, marks }
     }
 
     fn lines(text: &[&str]) -> Vec<String> {
         text.iter().map(|&line| line.to_owned()).collect()
     }
 
-    fn page(files: Vec<FilePage<'_>>) -> String {
+    fn page(files: Vec<FilePage>) -> String {
         let mut out = Vec::new();
         write(&mut out, &Page { files }).expect("a Vec takes all");
         String::from_utf8(out).expect("all of it is text")
