@@ -130,7 +130,7 @@ fn warnings(file: &FilePage) -> usize {
 }
 
 /// The marks of each line, from left to right.
-fn by_line<'a>(file: &'a FilePage) -> BTreeMap<usize, Vec<&'a Mark>> {
+fn by_line(file: &FilePage) -> BTreeMap<usize, Vec<&Mark>> {
     let mut marks: BTreeMap<usize, Vec<&Mark>> = BTreeMap::new();
     for mark in &file.marks {
         marks.entry(mark.line.max(1)).or_default().push(mark);

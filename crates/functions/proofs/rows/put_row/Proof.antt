@@ -3,14 +3,23 @@
 use Rattle.lexer.specs.Decoded.{tokensOf, tokenAt}
 use Rattle.functions.proofs.Stores.{two-runs}
 use Prim.Native.Nat.{ℕ, _+_, _-_, _*_}
-use mathlib.Core.Path.{_≡_, refl, _∙_}
+use mathlib.Core.Path.{_≡_, refl, ap, _∙_}
 use mathlib.Core.List.{List, [], _∷_}
-use lib.ListN.{getD}
+use lib.ListN.{getD, replicate}
+use lib.Seq.{sets}
 use native.Mathlib.Omega.{arith}
 use denote.Ref.{now}
 use borrow.Author.Needs.{needs}
 use Rattle.functions.proofs.rows.put_row.Statement.{statement}
 use Rattle.functions.proofs.rows.put_row.Tie as tie
+
+-- Zeros from behind some formals to the end of the room for sixteen are as many as formals are lacking.
+zeros-behind :
+    (r cells : List ℕ) → (here used : ℕ) → r ≡ sets cells (here + used) (replicate (here + 32 - (here + used)) 0)
+    → r ≡ sets cells (here + used) (replicate (32 - used) 0)
+zeros-behind r cells here used zeros =
+    let as-many : here + 32 - (here + used) ≡ 32 - used = omega arith in
+    zeros ∙ ap (λ n. sets cells (here + used) (replicate n 0)) as-many
 
 returns : tie.Need-returns
 returns c =
@@ -25,15 +34,9 @@ returns c =
     ∷ getD (now (a .names)) (a .h .name .0 * 2 + 1) 0 ∷ tokenAt ts (a .token) .line .0 ∷ [] in
     let ys : List ℕ =
     a .h .ret ∷ a .h .ty ∷ a .n .items ∷ a .b .items ∷ a .n .blocks ∷ a .b .blocks ∷ a .h .formals ∷ [] in
-    let here = 14 + a .n .functions * 45 in
-    let room : here + 32 - (here + a .h .formals * 2) ≡ 32 - a .h .formals * 2 =
-    omega arith in
-    cleared .clear-part .ensures
-    ∙ rw (
-      two-runs (now (a .rows)) _ _ xs ys (a .n .functions) refl (named .put-name .ensures)
-          (counted .put-counts .ensures),
-      room,
-    )
+    zeros-behind _ _ (14 + a .n .functions * 45) (a .h .formals * 2) (cleared .clear-part .ensures)
+    ∙ rw (two-runs (now (a .rows)) _ _ xs ys (a .n .functions) refl (named .put-name .ensures)
+    (counted .put-counts .ensures))
 
 pub put-row-spec : {M : Type 1} → statement M
 put-row-spec =
