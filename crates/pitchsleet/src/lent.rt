@@ -1,4 +1,4 @@
-// The C functions on lent cells: what `lexer::read`, `checker::check` and `recheck::recheck` promise, for a host that
+// The C functions on lent cells: what `lexer::read`, `checker::check` and `rechecker::recheck` promise, for a host that
 // keeps slices of cells. Nothing is copied.
 ghost use Rattle.functions.specs.Answer.{slices};
 ghost use Rattle.lexer.specs.Read.{Reads};
@@ -78,7 +78,7 @@ pub extern "C" fn pitchsleet_recheck_cells<'t>(
         (slices (now (functions .exit)) (now (items .exit)) (now (arguments .exit)) (now (blocks .exit))
         (now (predecessors .exit))) ⌝ }
 {
-    recheck::recheck(
+    rechecker::recheck(
         old,
         table,
         number,

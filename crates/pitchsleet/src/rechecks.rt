@@ -73,7 +73,7 @@ fn recheck_cells<'t>(
         ≡ exported (now (out .entry)) (now (message .entry))
         (recheckOf (now (old .entry)) (now (table .entry)) number (now (new .entry))) ⌝ }
 {
-    let answer = recheck::recheck_into(
+    let answer = rechecker::recheck_into(
         old,
         table,
         number,

@@ -4,10 +4,6 @@ pub mod Parsed
 pub mod Keeping
 -- the new function's row among the old headers
 pub mod Placing
--- the new function, parsed and typed
-pub mod Building
--- how a recheck ends
-pub mod Ends
 -- every number is one of document 01's for recheck
 pub mod Numbers
 -- equal answers; the table of an accepted check is never refused

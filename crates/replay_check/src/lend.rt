@@ -28,7 +28,7 @@ fn call<'t>(
     message: &mut [u8],
 ) -> CheckAnswer {
     if given.again {
-        return recheck::recheck(
+        return rechecker::recheck(
             old,
             table,
             given.number,

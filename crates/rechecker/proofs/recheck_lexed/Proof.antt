@@ -9,10 +9,10 @@ use borrow.Author.Needs.{needs}
 use Rattle.lexer.specs.Decoded.{tokensOf}
 use Rattle.headers.specs.Kept.{isWhole}
 use Rattle.checker.proofs.Lexed.{tokens-few, used-tokens, used-names}
 use Rattle.recheck.specs.Recheck.{refusedWith}
-use Rattle.recheck.proofs.Ends.{not-whole, refused-with}
-use Rattle.recheck.proofs.recheck_lexed.Statement.{statement}
-use Rattle.recheck.proofs.recheck_lexed.Tie as tie
+use Rattle.rechecker.proofs.Ends.{not-whole, refused-with}
+use Rattle.rechecker.proofs.recheck_lexed.Statement.{statement}
+use Rattle.rechecker.proofs.recheck_lexed.Tie as tie
 
 -- From each end back to its call, and to the start.
 

@@ -10,10 +10,10 @@ use denote.Ref.{now}
 use Rattle.lexer.specs.Decoded.{tokensOf}
 use Rattle.functions.specs.Answer.{slices}
 use Rattle.headers.proofs.Ranges.{table-in-range}
-use Rattle.recheck.proofs.Building.{parsed-is, header-changed, parse-refused, typing-asks, types-refused}
-use Rattle.recheck.proofs.Building.{types-fine}
-use Rattle.recheck.proofs.alone.build.Statement.{statement}
-use Rattle.recheck.proofs.alone.build.Tie as tie
+use Rattle.alone.proofs.Building.{parsed-is, header-changed, parse-refused, typing-asks, types-refused}
+use Rattle.alone.proofs.Building.{types-fine}
+use Rattle.alone.proofs.build.Statement.{statement}
+use Rattle.alone.proofs.build.Tie as tie
 
 -- From the ends back to the calls, and to the start.
 

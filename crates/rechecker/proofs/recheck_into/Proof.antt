@@ -7,10 +7,10 @@ use borrow.Author.Needs.{needs}
 use borrow.Author.Tests.{not-true, not-false}
 use Rattle.checker.specs.Promise.{Lexed}
 use Rattle.checker.proofs.Ends.{is-lexed, as-long-before}
 use Rattle.recheck.specs.Recheck.{recheckOf}
-use Rattle.recheck.proofs.Ends.{bad-table, line-small, not-lexed, refused-with}
-use Rattle.recheck.proofs.recheck_into.Statement.{statement}
-use Rattle.recheck.proofs.recheck_into.Tie as tie
+use Rattle.rechecker.proofs.Ends.{bad-table, line-small, not-lexed, refused-with}
+use Rattle.rechecker.proofs.recheck_into.Statement.{statement}
+use Rattle.rechecker.proofs.recheck_into.Tie as tie
 
 -- From the ends back to the calls, and to the start.
 

@@ -10,9 +10,9 @@ use Rattle.body.specs.Room.{Within}
 use Rattle.messages.specs.Messages.{ShortNames}
 use Rattle.unit.specs.Outcome.{Counted}
 use Rattle.checker.proofs.Lexed.{tokens-few, names-few, used-tokens, used-names, within, short}
-use Rattle.recheck.proofs.Ends.{ends-accepted, ends-refused, named-now}
-use Rattle.recheck.proofs.recheck_whole.Statement.{statement}
-use Rattle.recheck.proofs.recheck_whole.Tie as tie
+use Rattle.rechecker.proofs.Ends.{ends-accepted, ends-refused, named-now}
+use Rattle.rechecker.proofs.recheck_whole.Statement.{statement}
+use Rattle.rechecker.proofs.recheck_whole.Tie as tie
 
 -- From the two ends back to the calls, and to the start.
 

@@ -1,8 +1,8 @@
 -- `build`, with a table of its own.
 use borrow.Author.Needs.{needs}
 use native.Mathlib.Omega.{arith}
-use Rattle.recheck.proofs.alone.unit.Statement.{statement}
-use Rattle.recheck.proofs.alone.unit.Tie as tie
+use Rattle.alone.proofs.unit.Statement.{statement}
+use Rattle.alone.proofs.unit.Tie as tie
 
 build-requires : tie.Need-build-requires
 build-requires c κs =

@@ -3,11 +3,11 @@ use denote.Ref.{now}
 use borrow.Author.Needs.{needs}
 use Rattle.functions.specs.Answer.{slices}
 use Rattle.checker.proofs.Ends.{sizes-seen, works, shorts, finished, same-long}
 use Rattle.recheck.specs.Recheck.{recheckOf}
 use Rattle.recheck.specs.Promise.{recheckDef}
 use Rattle.recheck.proofs.Numbers.{silent}
-use Rattle.recheck.proofs.recheck.Statement.{statement}
-use Rattle.recheck.proofs.recheck.Tie as tie
+use Rattle.rechecker.proofs.recheck.Statement.{statement}
+use Rattle.rechecker.proofs.recheck.Tie as tie
 
 -- From the ends back to the calls, and to the start.
 

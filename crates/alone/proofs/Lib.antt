@@ -1,0 +1,2 @@
+-- the new function, parsed and typed
+pub mod Building

@@ -1,0 +1,2 @@
+-- how a recheck ends
+pub mod Ends
