@@ -26,10 +26,10 @@ use Rattle.checker.proofs.Header.{header-in-range}
 use Rattle.recheck.specs.Recheck.{recheckOf}
 use Rattle.headers.proofs.Ranges.{Tabled}
 use Rattle.recheck.proofs.Laws.{padded-long, first-cell, zero-accepts, table-not-42}
-use Rattle.pitchsleet.specs.Bytes.{le32s}
-use Rattle.pitchsleet.specs.CheckBytes.{cellBytes, bytesOf, export, exported, gated, exportDef, Gives, Exports}
+use Rattle.exports.specs.Bytes.{le32s}
+use Rattle.exports.specs.CheckBytes.{cellBytes, bytesOf, export, exported, gated, exportDef, Gives, Exports}
 use Rattle.pitchsleet.specs.RecheckBytes.{cellAt, cellsAt, cellCount, tableOf, recheckDef, Rechecks}
-use Rattle.pitchsleet.proofs.Cells.{length-le32s}
+use Rattle.exports.proofs.Cells.{length-le32s}
 use Rattle.pitchsleet.proofs.Tables.{length-cells}
 
 -- Cells as bytes and back. -------------------------------------------------------------------------------------------

@@ -8,7 +8,7 @@ use Rattle.utils.specs.Bytes.{pick}
 use Rattle.functions.specs.Columns.{tableSize}
 use Rattle.checker.specs.declared.CheckAnswer.{CheckAnswer}
 use Rattle.recheck.specs.Recheck.{recheckOf}
-use Rattle.pitchsleet.specs.CheckBytes.{Export, gated, Gives}
+use Rattle.exports.specs.CheckBytes.{Export, gated, Gives}
 
 -- four bytes as a cell, the lowest first
 abbrev pub cellAt : List ℕ → ℕ → ℕ

@@ -6,10 +6,10 @@ ghost use lib.Seq.{sets};
 ghost use Rattle.functions.specs.Answer.{slices};
 ghost use Rattle.recheck.specs.Recheck.{recheckOf};
 ghost use Rattle.utils.specs.Limits.{messageSize};
-ghost use Rattle.pitchsleet.specs.CheckBytes.{Sizes, export, exported, checkSize};
+ghost use Rattle.exports.specs.CheckBytes.{Sizes, export, exported, checkSize};
 ghost use Rattle.pitchsleet.specs.RecheckBytes.{cellAt, cellsAt, cellCount, tableOf};
-use crate::layout;
 use checker::CheckAnswer;
+use exports::layout;
 use functions::columns;
 use functions::sizes;
 
@@ -87,7 +87,7 @@ fn recheck_cells<'t>(
         predecessors,
         message,
     );
-    crate::check::put_all(
+    exports::check::put_all(
         answer,
         tokens,
         names,

@@ -1,8 +1,8 @@
 -- The two gates are those of `exportDef` in its order, before anything is written; behind them the arrays have exactly
 -- the sizes that `check_out` asks for.
 use Rattle.utils.specs.Bytes.{pick}
-use Rattle.pitchsleet.specs.CheckBytes.{exportDef}
-use Rattle.pitchsleet.proofs.Checks.{by-parts}
+use Rattle.exports.specs.CheckBytes.{exportDef}
+use Rattle.exports.proofs.Checks.{by-parts}
 use borrow.Author.Tests.{lt-ltb, le-ltb}
 use borrow.Author.Needs.{needs}
 use Rattle.pitchsleet.proofs.pitchsleet_check.Statement.{statement}

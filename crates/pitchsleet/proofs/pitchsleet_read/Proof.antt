@@ -1,7 +1,7 @@
 -- The gates are those of `exportDef`.
 use Rattle.utils.specs.Bytes.{pick}
-use Rattle.pitchsleet.proofs.Cells.{by-parts}
-use Rattle.pitchsleet.specs.Bytes.{exportDef}
+use Rattle.exports.proofs.Cells.{by-parts}
+use Rattle.exports.specs.Bytes.{exportDef}
 use borrow.Author.Tests.{lt-ltb, le-ltb}
 use borrow.Author.Needs.{needs}
 use Rattle.pitchsleet.proofs.pitchsleet_read.Statement.{statement}

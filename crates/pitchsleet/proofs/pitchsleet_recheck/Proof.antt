@@ -3,7 +3,7 @@ use borrow.Author.Needs.{needs}
 use borrow.Author.Tests.{lt-ltb, le-ltb}
 use Rattle.utils.specs.Bytes.{pick}
 use Rattle.pitchsleet.specs.RecheckBytes.{recheckDef}
-use Rattle.pitchsleet.proofs.Checks.{by-parts}
+use Rattle.exports.proofs.Checks.{by-parts}
 use Rattle.pitchsleet.proofs.pitchsleet_recheck.Statement.{statement}
 use Rattle.pitchsleet.proofs.pitchsleet_recheck.Tie as tie
 

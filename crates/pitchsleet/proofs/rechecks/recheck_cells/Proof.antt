@@ -2,7 +2,7 @@
 -- (`out-of`).
 use Rattle.recheck.specs.Recheck.{recheckOf}
 use Rattle.recheck.proofs.Numbers.{silent}
-use Rattle.pitchsleet.proofs.Checks.{out-of, sizes-reached}
+use Rattle.exports.proofs.Checks.{out-of, sizes-reached}
 use mathlib.Core.Path.{_∙_}
 use denote.Ref.{now}
 use borrow.Author.Needs.{needs}

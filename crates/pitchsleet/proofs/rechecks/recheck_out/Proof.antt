@@ -6,7 +6,7 @@ use mathlib.Core.List.{List}
 use denote.Ref.{now}
 use borrow.Author.Needs.{needs}
 use Rattle.recheck.specs.Recheck.{recheckOf}
-use Rattle.pitchsleet.specs.CheckBytes.{exported}
+use Rattle.exports.specs.CheckBytes.{exported}
 use Rattle.pitchsleet.specs.RecheckBytes.{cellsAt}
 use Rattle.pitchsleet.proofs.Tables.{count-fits, cells-lent}
 use Rattle.pitchsleet.proofs.rechecks.recheck_out.Statement.{statement}

@@ -3,8 +3,8 @@ use lib.ListN.{length-set}
 use native.Mathlib.Numerals.{towards-suc}
 use native.Mathlib.Omega.{arith}
 use borrow.Author.Needs.{needs}
-use Rattle.pitchsleet.proofs.put_cell.Statement.{statement}
-use Rattle.pitchsleet.proofs.put_cell.Tie as tie
+use Rattle.exports.proofs.put_cell.Statement.{statement}
+use Rattle.exports.proofs.put_cell.Tie as tie
 
 slice-write-out-2 : tie.Need-slice-write-out-2
 slice-write-out-2 c = simp length-set (omega arith)

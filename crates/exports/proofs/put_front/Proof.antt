@@ -8,10 +8,10 @@ use lib.Seq.{sets}
 use denote.Ref.{now}
 use borrow.Author.Needs.{needs}
 use Rattle.utils.proofs.Runs.{none-behind}
-use Rattle.pitchsleet.specs.Bytes.{le32s}
-use Rattle.pitchsleet.proofs.Cells.{front-stored, from-start}
-use Rattle.pitchsleet.proofs.put_front.Statement.{statement}
-use Rattle.pitchsleet.proofs.put_front.Tie as tie
+use Rattle.exports.specs.Bytes.{le32s}
+use Rattle.exports.proofs.Cells.{front-stored, from-start}
+use Rattle.exports.proofs.put_front.Statement.{statement}
+use Rattle.exports.proofs.put_front.Tie as tie
 
 put-cells-requires-2 : tie.Need-put-cells-requires-2
 put-cells-requires-2 c κs =

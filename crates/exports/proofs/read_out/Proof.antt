@@ -1,12 +1,12 @@
 -- Two runs of cells and zeros after them fill the slice (`whole`).
-use Rattle.pitchsleet.proofs.Cells.{whole}
+use Rattle.exports.proofs.Cells.{whole}
 use Rattle.lexer.specs.Read.{readOf}
 use native.Mathlib.Omega.{arith}
 use mathlib.Core.Path.{_∙_}
 use denote.Ref.{now}
 use borrow.Author.Needs.{needs}
-use Rattle.pitchsleet.proofs.read_out.Statement.{statement}
-use Rattle.pitchsleet.proofs.read_out.Tie as tie
+use Rattle.exports.proofs.read_out.Statement.{statement}
+use Rattle.exports.proofs.read_out.Tie as tie
 
 -- From the end back to the calls, and to the start.
 

@@ -16,13 +16,11 @@ use Rattle.checker.specs.Check.{Checking, checkOf}
 use Rattle.checker.specs.Promise.{rowsUsed, frontsOf, ChecksInto}
 use Rattle.checker.specs.Promise as cells
 use Rattle.checker.specs.declared.CheckAnswer.{CheckAnswer}
-use Rattle.pitchsleet.specs.Bytes.{le32s}
-use Rattle.recheck.specs.Recheck.{recheckOf}
-use Rattle.pitchsleet.specs.CheckBytes.{cellBytes, frontBytes, Export, export, exported, gated}
-use Rattle.pitchsleet.specs.CheckBytes.{exportDef, Sizes}
-use Rattle.pitchsleet.specs.CheckBytes.{Gives, Exports}
-use Rattle.pitchsleet.specs.RecheckBytes.{tableOf, recheckDef, Rechecks}
-use Rattle.pitchsleet.proofs.Cells.{length-le32s, length-front}
+use Rattle.exports.specs.Bytes.{le32s}
+use Rattle.exports.specs.CheckBytes.{cellBytes, frontBytes, Export, export, exported, gated}
+use Rattle.exports.specs.CheckBytes.{exportDef, Sizes}
+use Rattle.exports.specs.CheckBytes.{Gives, Exports}
+use Rattle.exports.proofs.Cells.{length-le32s, length-front}
 use Rattle.lexer.proofs.Promise.{message-finished}
 
 -- two adjacent runs are one
@@ -158,20 +156,14 @@ as-whole : {d : Export} {r : CheckAnswer} {o m : List ℕ} → Gives d r o m →
 as-whole e = rw (e .answer, e .out, e .message)
 
 -- what one definition permits is equal
-gives-equal : {d : Export} {r r′ : CheckAnswer} {o m o′ m′ : List ℕ}
+pub gives-equal : {d : Export} {r r′ : CheckAnswer} {o m o′ m′ : List ℕ}
     → Gives d r o m → Gives d r′ o′ m′ → export r o m ≡ export r′ o′ m′
 gives-equal a b = as-whole a ∙ sym (as-whole b)
 
--- TWO PERMITTED ANSWERS ARE EQUAL, of check ..
+-- TWO PERMITTED ANSWERS ARE EQUAL
 pub permitted-equal : (text o₀ m₀ : List ℕ) {r r′ : CheckAnswer} {o m o′ m′ : List ℕ}
     → Exports text o₀ m₀ r o m → Exports text o₀ m₀ r′ o′ m′ → export r o m ≡ export r′ o′ m′
 permitted-equal text o₀ m₀ a b = gives-equal a b
-
--- .. and of recheck
-pub permitted-again : (old table : List ℕ) (number : ℕ) (new o₀ m₀ : List ℕ) {r r′ : CheckAnswer} {o m o′ m′ : List ℕ}
-    → Rechecks old table number new o₀ m₀ r o m → Rechecks old table number new o₀ m₀ r′ o′ m′
-    → export r o m ≡ export r′ o′ m′
-permitted-again old table number new o₀ m₀ a b = gives-equal a b
 
 -- slices of equal lengths that have their sizes, whatever they held before
 pub same-gated : (x : Checking) (o₀ m₀ o₁ m₁ : List ℕ) {r r′ : CheckAnswer} {o m o′ m′ : List ℕ}
@@ -187,13 +179,3 @@ pub same-text : (text : List ℕ) (o₀ m₀ o₁ m₁ : List ℕ) {r r′ : Che
     → Exports text o₀ m₀ r o m → Exports text o₁ m₁ r′ o′ m′ → export r o m ≡ export r′ o′ m′
 unfolding exportDef
 same-text text o₀ m₀ o₁ m₁ h k p q a b = same-gated (checkOf text) o₀ m₀ o₁ m₁ h k p q a b
-
--- EQUAL INPUTS AND LENGTHS GIVE EQUAL ANSWERS
-pub same-inputs : (old table : List ℕ) (number : ℕ) (new : List ℕ) (o₀ m₀ o₁ m₁ : List ℕ) {r r′ : CheckAnswer}
-    {o m o′ m′ : List ℕ}
-    → 252228 ≤ length o₀ → 512 ≤ length m₀ → length o₀ ≡ length o₁ → length m₀ ≡ length m₁
-    → Rechecks old table number new o₀ m₀ r o m → Rechecks old table number new o₁ m₁ r′ o′ m′
-    → export r o m ≡ export r′ o′ m′
-unfolding recheckDef
-same-inputs old table number new o₀ m₀ o₁ m₁ h k p q a b =
-    same-gated (recheckOf old (tableOf table) number new) o₀ m₀ o₁ m₁ h k p q a b

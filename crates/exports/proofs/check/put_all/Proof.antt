@@ -3,15 +3,15 @@
 use lib.Seq.{sets}
 use lib.ListN.{length, take, replicate}
 use Rattle.utils.specs.Bytes.{padTo}
-use Rattle.pitchsleet.specs.Bytes.{le32s}
+use Rattle.exports.specs.Bytes.{le32s}
 use borrow.Author.Needs.{needs}
-use Rattle.pitchsleet.proofs.Checks.{fronts-stored}
+use Rattle.exports.proofs.Checks.{fronts-stored}
 use native.Mathlib.Omega.{arith}
 use Prim.Native.Nat.{ℕ, _-_}
 use mathlib.Core.Path.{_≡_, ap, _∙_}
 use denote.Ref.{now}
-use Rattle.pitchsleet.proofs.check.put_all.Statement.{statement}
-use Rattle.pitchsleet.proofs.check.put_all.Tie as tie
+use Rattle.exports.proofs.check.put_all.Statement.{statement}
+use Rattle.exports.proofs.check.put_all.Tie as tie
 
 -- From each store back to the one before it, and to the start.
 

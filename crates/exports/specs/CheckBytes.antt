@@ -15,7 +15,7 @@ use Rattle.utils.specs.Limits.{messageSize}
 use Rattle.unit.specs.Outcome.{asLong}
 use Rattle.checker.specs.Promise.{frontsOf}
 use Rattle.checker.specs.declared.CheckAnswer.{CheckAnswer}
-use Rattle.pitchsleet.specs.Bytes.{le32s}
+use Rattle.exports.specs.Bytes.{le32s}
 
 -- the cells of seven slices, one slice after the other
 unfoldable pub cellBytes : List ℕ → List ℕ → Slices → List ℕ

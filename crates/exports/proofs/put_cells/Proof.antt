@@ -2,15 +2,15 @@
 use lib.Seq.{sets}
 use lib.ListN.{drop-of-length-le, length, drop}
 use native.Mathlib.Nat.{add-zero, zero-mul}
-use Rattle.pitchsleet.specs.Bytes.{le32s}
-use Rattle.pitchsleet.proofs.Cells.{stored}
+use Rattle.exports.specs.Bytes.{le32s}
+use Rattle.exports.proofs.Cells.{stored}
 use borrow.Author.Needs.{needs}
 use native.Mathlib.Omega.{arith}
 use Prim.Native.Nat.{_+_, _-_, _*_, _≤_}
 use mathlib.Core.Path.{_≡_, refl, _∙_}
 use denote.Ref.{now}
-use Rattle.pitchsleet.proofs.put_cells.Statement.{statement}
-use Rattle.pitchsleet.proofs.put_cells.Tie as tie
+use Rattle.exports.proofs.put_cells.Statement.{statement}
+use Rattle.exports.proofs.put_cells.Tie as tie
 
 abbrev Inv-loop : tie.InvT-loop
 Inv-loop out₀ at cells i₀ out i =

@@ -6,8 +6,8 @@ use mathlib.Core.Path.{_≡_, refl, sym, _∙_}
 use lib.ListN.{length, replicate, length-set}
 use lib.Seq.{sets}
 use Rattle.utils.proofs.Runs.{zeroed-more}
-use Rattle.pitchsleet.proofs.clear_part.Statement.{statement}
-use Rattle.pitchsleet.proofs.clear_part.Tie as tie
+use Rattle.exports.proofs.clear_part.Statement.{statement}
+use Rattle.exports.proofs.clear_part.Tie as tie
 
 abbrev Inv-loop : tie.InvT-loop
 Inv-loop out₀ from to i₀ out i =

@@ -2,12 +2,12 @@
 -- (`out-of`).
 use Rattle.checker.specs.Check.{checkOf}
 use Rattle.checker.proofs.Numbers.{silent}
-use Rattle.pitchsleet.proofs.Checks.{out-of, sizes-reached}
+use Rattle.exports.proofs.Checks.{out-of, sizes-reached}
 use mathlib.Core.Path.{_∙_}
 use denote.Ref.{now}
 use borrow.Author.Needs.{needs}
-use Rattle.pitchsleet.proofs.check.check_out.Statement.{statement}
-use Rattle.pitchsleet.proofs.check.check_out.Tie as tie
+use Rattle.exports.proofs.check.check_out.Statement.{statement}
+use Rattle.exports.proofs.check.check_out.Tie as tie
 
 -- From the end back to the calls, and to the start.
 

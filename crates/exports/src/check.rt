@@ -6,7 +6,7 @@ ghost use Rattle.utils.specs.Bytes.{padTo};
 ghost use Rattle.functions.specs.Answer.{slices};
 ghost use Rattle.checker.specs.Check.{checkOf};
 ghost use Rattle.utils.specs.Limits.{messageSize};
-ghost use Rattle.pitchsleet.specs.CheckBytes.{frontBytes, Sizes, export, exported, checkSize};
+ghost use Rattle.exports.specs.CheckBytes.{frontBytes, Sizes, export, exported, checkSize};
 use crate::layout;
 use crate::put_front;
 use body::ITEM_CELLS;

@@ -4,7 +4,7 @@ use borrow.Author.Tests.{le-ltb}
 use Rattle.lexer.specs.Read.{readOf, ReadsInto}
 use Rattle.lexer.proofs.Promise.{no-message, message-finished}
 use Rattle.lexer.specs.declared.ReadAnswer.{ReadAnswer}
-use Rattle.pitchsleet.specs.Bytes.{Export, export, exported, bytesOf, exportDef, Exports, le32, le32s}
+use Rattle.exports.specs.Bytes.{Export, export, exported, bytesOf, exportDef, Exports, le32, le32s}
 use mathlib.Core.Path.{_≡_, refl, ap, _∙_, sym}
 use mathlib.Core.List.{List, [], _∷_, _++_, append-nil}
 use native.Mathlib.Omega.{arith}
