@@ -160,7 +160,7 @@ pub fn check_into(
         (slices (now (functions .exit)) (now (items .exit)) (now (arguments .exit)) (now (blocks .exit))
         (now (predecessors .exit))) ⌝ }
 {
-    let r = lexer::read_into(text, lexer::FIRST_LINE, tokens, names, message);
+    let r = read::read_into(text, read::FIRST_LINE, tokens, names, message);
     if r.number == numbers::ACCEPTED {
         return check_lexed(
             text,
@@ -214,7 +214,7 @@ pub fn finish(
     clear_from(arguments, r.arguments as usize * VARIABLE_CELLS);
     clear_from(blocks, r.blocks as usize * BLOCK_CELLS);
     clear_from(predecessors, r.predecessors as usize);
-    lexer::finish_message(r.number, message);
+    read::finish_message(r.number, message);
 }
 
 // Whether slices of these lengths, for functions, items, arguments, blocks and predecessors, have their sizes.

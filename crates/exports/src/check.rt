@@ -99,6 +99,6 @@ pub fn check_out(
         predecessors,
         out,
     );
-    lexer::finish_message(answer.number, message);
+    read::finish_message(answer.number, message);
     answer
 }

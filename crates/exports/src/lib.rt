@@ -79,7 +79,7 @@ pub fn read_out(
     ensures { λ r. ⌜ export r (now (out .exit)) (now (message .exit))
         ≡ exported (now (out .entry)) (now (message .entry)) (readOf (now (text .entry))) ⌝ }
 {
-    let answer = lexer::read_into(text, lexer::FIRST_LINE, tokens, names, message);
+    let answer = read::read_into(text, read::FIRST_LINE, tokens, names, message);
     put_front(out, 0, tokens, answer.tokens as usize * TOKEN_CELLS);
     put_front(
         out,
@@ -88,6 +88,6 @@ pub fn read_out(
         answer.names as usize * NAME_CELLS,
     );
     clear_part(out, layout::READ, out.len());
-    lexer::finish_message(answer.number, message);
+    read::finish_message(answer.number, message);
     answer
 }

@@ -7,14 +7,14 @@ ghost use Rattle.utils.specs.Bytes.{sameBytes};
 ghost use Rattle.lexer.specs.Sizes.{nameWidth};
 ghost use Rattle.lexer.specs.Numbered.{indexOf, spellings, identified};
 ghost use Rattle.lexer.specs.Steps.{firstNames, Table, newCells, printOf, spelledAt, Prints};
-use crate::Cursor;
 use crate::Found;
 use crate::Identified;
-use crate::Identifier;
-use crate::Name;
-use crate::Refusal;
 use crate::sizes::NAME_CELLS;
-use crate::tokens;
+use pieces::Cursor;
+use pieces::Identifier;
+use pieces::Name;
+use pieces::Refusal;
+use pieces::tokens;
 use utils::limits;
 use utils::put_cells;
 
@@ -25,7 +25,7 @@ const FACTOR: u64 = 129;
 const PRINTS: u64 = 4294967296;
 
 // A number that equal names share: most names are told apart by it, wherever their bytes differ.
-pub(crate) fn print_of(name: &[u8]) -> u32
+fn print_of(name: &[u8]) -> u32
     ensures { λ r. ⌜ r ≡ printOf (now (name .entry)) ⌝ }
 {
     let mut sum: u64 = 0;
@@ -103,7 +103,7 @@ fn lookup(
 }
 
 // A name's number; a new name is stored behind the `count` that there are.
-pub(crate) fn get_identifier(
+pub fn get_identifier(
     text: &[u8],
     names: &mut [u32],
     prints: &[u32],
@@ -139,7 +139,7 @@ pub(crate) fn get_identifier(
 }
 
 // Keeps the print of a name that is new: there were `count` names, and are `then`.
-pub(crate) fn keep_print(text: &[u8], names: &[u32], prints: &mut [u32], count: usize, then: usize)
+pub fn keep_print(text: &[u8], names: &[u32], prints: &mut [u32], count: usize, then: usize)
     requires { ⌜ Table (now text) (now names) then × Prints (now text) (now names) count (now prints)
         × (then ≤ count + 1) ⌝ }
     ensures { λ _. ⌜ Prints (now (text .entry)) (now (names .entry)) then (now (prints .exit)) ⌝ }

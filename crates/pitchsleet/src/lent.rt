@@ -1,4 +1,4 @@
-// The C functions on lent cells: what `lexer::read`, `checker::check` and `rechecker::recheck` promise, for a host that
+// The C functions on lent cells: what `read::read`, `checker::check` and `rechecker::recheck` promise, for a host that
 // keeps slices of cells. Nothing is copied.
 ghost use Rattle.functions.specs.Answer.{slices};
 ghost use Rattle.lexer.specs.Read.{Reads};
@@ -18,7 +18,7 @@ pub extern "C" fn pitchsleet_read_cells(
     ensures { λ r. ⌜ Reads (now (text .entry)) (now (tokens .entry)) (now (names .entry)) (now (message .entry))
         r (now (tokens .exit)) (now (names .exit)) (now (message .exit)) ⌝ }
 {
-    lexer::read(text, tokens, names, message)
+    read::read(text, tokens, names, message)
 }
 
 // Document 01's check.

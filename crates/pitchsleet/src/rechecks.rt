@@ -98,7 +98,7 @@ fn recheck_cells<'t>(
         predecessors,
         out,
     );
-    lexer::finish_message(answer.number, message);
+    read::finish_message(answer.number, message);
     answer
 }
 

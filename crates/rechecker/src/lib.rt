@@ -156,7 +156,7 @@ pub fn recheck_into<'t>(
         return refuse_plain(numbers::BAD_TABLE, Location(0), message);
     }
     let line = cell_at(table, columns::LINE + number as usize * columns::ROW);
-    let r = lexer::read_into(new, line, tokens, names, message);
+    let r = read::read_into(new, line, tokens, names, message);
     if r.number == numbers::ACCEPTED {
         return recheck_lexed(
             old,

@@ -1,4 +1,4 @@
-// Replays fixed cases against `lexer::read`, and compares all that it answers and writes. The cases stand on
+// Replays fixed cases against `read::read`, and compares all that it answers and writes. The cases stand on
 // standard input; host/examples/replay_read.rs makes them, and says what the file holds and where the expected answers
 // come from.
 use lexer::sizes;
@@ -38,7 +38,7 @@ fn ask(
     names: &mut [u32],
     message: &mut [u8],
 ) -> Outcome {
-    let a = lexer::read(text, tokens, names, message);
+    let a = read::read(text, tokens, names, message);
     compare(data, from, a, tokens, names, message)
 }
 

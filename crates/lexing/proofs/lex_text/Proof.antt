@@ -2,10 +2,10 @@
 use borrow.Author.Tests.{lt-ltb, le-ltb, not-true, not-false}
 use mathlib.Core.Path.{refl}
 use borrow.Author.Needs.{needs}
 use Rattle.lexer.specs.Read.{lexedFrom}
 use Rattle.utils.specs.Bytes.{pick}
-use Rattle.lexer.proofs.lex_text.Statement.{statement}
-use Rattle.lexer.proofs.lex_text.Tie as tie
+use Rattle.lexing.proofs.lex_text.Statement.{statement}
+use Rattle.lexing.proofs.lex_text.Tie as tie
 
 returns : tie.Need-returns
 unfolding lexedFrom pick

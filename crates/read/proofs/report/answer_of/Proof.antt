@@ -1,8 +1,8 @@
 -- Case by case, as `factsOf`.
 use borrow.Author.Needs.{needs}
 use Rattle.lexer.proofs.Cases.{answer-as, place-as}
-use Rattle.lexer.proofs.report.answer_of.Statement.{statement}
-use Rattle.lexer.proofs.report.answer_of.Tie as tie
+use Rattle.read.proofs.report.answer_of.Statement.{statement}
+use Rattle.read.proofs.report.answer_of.Tie as tie
 
 pub answer-of-spec : {M : Type 1} → statement M
 answer-of-spec =

@@ -2,8 +2,8 @@
 use borrow.Author.Needs.{needs}
 use borrow.Author.Tests.{eq-eqb, ne-eqb}
 use Rattle.utils.specs.Bytes.{pick}
-use Rattle.lexer.proofs.finish_message.Statement.{statement}
-use Rattle.lexer.proofs.finish_message.Tie as tie
+use Rattle.read.proofs.finish_message.Statement.{statement}
+use Rattle.read.proofs.finish_message.Tie as tie
 
 returns : tie.Need-returns
 unfolding pick

@@ -3,10 +3,10 @@ use native.Mathlib.Omega.{arith}
 use denote.Ref.{now}
 use borrow.Author.Needs.{needs}
 use Rattle.pieces.proofs.Progress.{piece-past}
 use Rattle.lexer.specs.Steps.{nextOf, addedBy}
 use Rattle.lexer.proofs.Cases.{next-as, added-as}
-use Rattle.lexer.proofs.next_token.Statement.{statement}
-use Rattle.lexer.proofs.next_token.Tie as tie
+use Rattle.lexing.proofs.next_token.Statement.{statement}
+use Rattle.lexing.proofs.next_token.Tie as tie
 
 number-name-requires : tie.Need-number-name-requires
 number-name-requires c κs =

@@ -1,9 +1,9 @@
 -- Test by test, as `sized`.
 use borrow.Author.Needs.{needs}
 use Rattle.pieces.proofs.Picked.{tests}
 use Rattle.lexer.specs.Read.{sized}
-use Rattle.lexer.proofs.fits.Statement.{statement}
-use Rattle.lexer.proofs.fits.Tie as tie
+use Rattle.read.proofs.fits.Statement.{statement}
+use Rattle.read.proofs.fits.Tie as tie
 
 pub fits-spec : {M : Type 1} → statement M
 unfolding sized

@@ -1,8 +1,8 @@
 -- Case by case, as `factsOf`.
 use borrow.Author.Needs.{needs}
 use Rattle.lexer.proofs.Cases.{message-as}
-use Rattle.lexer.proofs.report.report.Statement.{statement}
-use Rattle.lexer.proofs.report.report.Tie as tie
+use Rattle.read.proofs.report.report.Statement.{statement}
+use Rattle.read.proofs.report.report.Tie as tie
 
 pub report-spec : {M : Type 1} → statement M
 report-spec =

@@ -1,7 +1,7 @@
 -- The value is `valueOf` of the name's kind and number.
 use borrow.Author.Needs.{needs}
-use Rattle.lexer.proofs.named.Statement.{statement}
-use Rattle.lexer.proofs.named.Tie as tie
+use Rattle.lexing.proofs.named.Statement.{statement}
+use Rattle.lexing.proofs.named.Tie as tie
 
 returns : tie.Need-returns
 returns c = rw (c .before .value-of .ensures)

@@ -1,4 +1,4 @@
--- The loop's state is `Lexing`; proofs/Turns.antt says what each answer of next_token makes of it.
+-- The loop's state is `Lexing`; lexer/proofs/Turns.antt says what each answer of next_token makes of it.
 use borrow.Author.Needs.{needs}
 use native.Mathlib.Omega.{arith}
 use Prim.Native.Nat.{ℕ, _*_, _-_}
@@ -6,15 +6,15 @@ use mathlib.Core.Path.{_≡_, refl, _∙_}
 use mathlib.Core.List.{List}
 use lib.ListN.{length, take}
 use denote.Ref.{now}
 use Rattle.lexer.proofs.Turns.{Lexing, start, ready, tokens-room, tokens-long, names-long, skipped, skipped-less}
 use Rattle.lexer.proofs.Turns.{refused, refused-held, token-full-held, end-full-held, end-held}
 use Rattle.lexer.proofs.Turns.{count-fits, more-fits, known-fits}
 use Rattle.lexer.proofs.Turns.{token-place, token-less, token-full, token-more, end-place, end-full, end-done}
 use Rattle.pieces.specs.Pieces.{pieceAt}
 use Rattle.lexer.specs.Steps.{partsOf, addedBy, Prints}
 use Rattle.lexer.proofs.Prints.{no-prints, prints-kept, known-more}
-use Rattle.lexer.proofs.lex_all.Statement.{statement}
-use Rattle.lexer.proofs.lex_all.Tie as tie
+use Rattle.lexing.proofs.lex_all.Statement.{statement}
+use Rattle.lexing.proofs.lex_all.Tie as tie
 
 abbrev Inv-loop : tie.InvT-loop
 Inv-loop text line tokens₀ names₀ prints₀ count₀ known₀ at₀ tokens names prints count known at =

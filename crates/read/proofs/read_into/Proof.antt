@@ -3,11 +3,11 @@ use native.Mathlib.Omega.{arith}
 use mathlib.Core.Path.{sym, _∙_}
 use denote.Ref.{now}
 use borrow.Author.Needs.{needs}
 use Rattle.lexer.proofs.Promise.{into-done, into-refused}
 use Rattle.lexer.proofs.Sound.{refused-sound}
 use Rattle.lexer.proofs.Accepted.{result-done, result-refused}
-use Rattle.lexer.proofs.read_into.Statement.{statement}
-use Rattle.lexer.proofs.read_into.Tie as tie
+use Rattle.read.proofs.read_into.Statement.{statement}
+use Rattle.read.proofs.read_into.Tie as tie
 
 answer-of-requires : tie.Need-answer-of-requires
 answer-of-requires c κs =

@@ -3,11 +3,11 @@ use mathlib.Core.Path.{sym, _∙_}
 use native.Mathlib.Omega.{arith}
 use denote.Ref.{now}
 use borrow.Author.Needs.{needs}
 use Rattle.lexer.proofs.Promise.{by-parts, finished}
 use Rattle.lexer.specs.Read.{readDef, readOf}
 use Rattle.utils.specs.Bytes.{pick}
-use Rattle.lexer.proofs.read.Statement.{statement}
-use Rattle.lexer.proofs.read.Tie as tie
+use Rattle.read.proofs.read.Statement.{statement}
+use Rattle.read.proofs.read.Tie as tie
 
 read-into-requires : tie.Need-read-into-requires
 read-into-requires c κs =

@@ -1,7 +1,7 @@
 -- Each slice is cleared behind its count, and the message where there is none.
 use borrow.Author.Needs.{needs}
-use Rattle.lexer.proofs.finish.Statement.{statement}
-use Rattle.lexer.proofs.finish.Tie as tie
+use Rattle.read.proofs.finish.Statement.{statement}
+use Rattle.read.proofs.finish.Tie as tie
 
 returns : tie.Need-returns
 returns c =
