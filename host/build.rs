@@ -46,10 +46,13 @@ fn make_archive(root: &Path) -> Result<(), Vec<String>> {
         progress.show(&line);
         said.push(line);
     }
-    match making.wait().map_err(failed)?.success() {
-        true => Ok(()),
-        false => Err(said.split_off(said.len().saturating_sub(SHOWN))),
+    let status = making.wait().map_err(failed)?;
+    if status.success() {
+        return Ok(());
     }
+    let mut last = said.split_off(said.len().saturating_sub(SHOWN));
+    last.push(format!("{TOOL} has made no archive: {status}"));
+    Err(last)
 }
 
 /// cargo keeps what a build script says until it ends (but for `cargo build -vv`), and proofs take minutes. So what tells how

@@ -53,7 +53,7 @@
 //!   refused.
 //! - Two labels in a row, but at a function's start, leave an empty block between them, which is refused.
 //!
-//! Where an accepted text has such a trap in it, [`Unit::warnings`] tells.
+//! Of dropped numbers, names that nothing sets, and blocks that don't fall through, [`Unit::warnings`] tells.
 //!
 //! # Limits
 //!
@@ -66,7 +66,6 @@
 #[macro_use]
 mod each;
 mod headers;
-mod iter;
 mod lines;
 mod operation;
 mod operator;
@@ -77,12 +76,12 @@ mod reader;
 mod records;
 mod refusal;
 mod token;
+mod tokens_iter;
 mod types;
 mod unit;
 mod warning;
 
 pub use headers::Headers;
-pub use iter::Iter;
 pub use lines::{Lines, Position};
 pub use operation::{Arguments, ArgumentsIter, Operation, OperationValue};
 pub use operator::{BinaryOperator, Constant, UnaryOperator};
@@ -91,6 +90,7 @@ pub use printable::Printable;
 pub use reader::{Reader, Tokens};
 pub use refusal::{Refusal, RefusalKind};
 pub use token::{Identifier, Name, Token, TokenValue};
+pub use tokens_iter::TokensIter;
 pub use types::{Type, Variable};
 pub use unit::{Block, Edges, EdgesIter, Function, Label, Unit};
 pub use warning::{Warning, WarningKind};

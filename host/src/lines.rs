@@ -63,8 +63,10 @@ impl<'t> Lines<'t> {
     #[must_use]
     pub fn get(&self, line: usize) -> Option<&'t [u8]> {
         let start = self.start(line)?;
-        let end = self.start(line + 1).map_or(self.text.len(), |next| next - 1);
-        let bytes = &self.text[start..end];
+        let Some(next) = self.start(line + 1) else {
+            return Some(&self.text[start..]);
+        };
+        let bytes = &self.text[start..next - 1];
         Some(bytes.strip_suffix(b"\r").unwrap_or(bytes))
     }
 

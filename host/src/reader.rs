@@ -2,7 +2,6 @@
 use core::fmt::{self, Debug, Formatter};
 
 use crate::headers::Headers;
-use crate::iter::Iter;
 use crate::raw::{
     self, ARGUMENTS_CELLS, BLOCKS_CELLS, CheckAnswer, FUNCTIONS_CELLS, ITEMS_CELLS, MESSAGE_BYTES, NAME_CELLS,
     NAMES_CELLS, PREDECESSORS_CELLS, Slices, TOKEN_CELLS, TOKENS_CELLS,
@@ -10,6 +9,7 @@ use crate::raw::{
 use crate::records::{index, record};
 use crate::refusal::Refusal;
 use crate::token::{Identifier, Name, Token, TokenValue};
+use crate::tokens_iter::TokensIter;
 use crate::unit::Unit;
 
 /// Reads, checks and rechecks texts, one after the other, in buffers of its own.
@@ -282,8 +282,8 @@ impl<'r, 't> Tokens<'r, 't> {
 
     /// The tokens, from the first to the end of the text.
     #[must_use]
-    pub fn iter(&self) -> Iter<'r, 't> {
-        Iter::new(*self)
+    pub fn iter(&self) -> TokensIter<'r, 't> {
+        TokensIter::new(*self)
     }
 
     /// The name with a number; none for a number that this text gives to no name.
@@ -345,18 +345,18 @@ fn integer_length(rest: &str) -> usize {
 
 impl<'r, 't> IntoIterator for Tokens<'r, 't> {
     type Item = Token<'t>;
-    type IntoIter = Iter<'r, 't>;
+    type IntoIter = TokensIter<'r, 't>;
 
-    fn into_iter(self) -> Iter<'r, 't> {
+    fn into_iter(self) -> TokensIter<'r, 't> {
         self.iter()
     }
 }
 
 impl<'r, 't> IntoIterator for &Tokens<'r, 't> {
     type Item = Token<'t>;
-    type IntoIter = Iter<'r, 't>;
+    type IntoIter = TokensIter<'r, 't>;
 
-    fn into_iter(self) -> Iter<'r, 't> {
+    fn into_iter(self) -> TokensIter<'r, 't> {
         self.iter()
     }
 }

@@ -238,7 +238,7 @@ kinds! {
     MissingTarget 14,
     /// A name has another type already.
     UnexpectedType 15,
-    /// A name is used that no operation before has set, or a function called that there isn't.
+    /// A name is used that no operation which is checked before has set, or a function called that there isn't.
     Undefined 16,
     /// One type stands where another must be.
     OtherType 17,
@@ -285,7 +285,7 @@ impl RefusalKind {
         !matches!(self, Self::ShortBuffer | Self::TooManyBytes | Self::BadTable)
     }
 
-    /// Whether a limit is passed: a smaller text of the same kind would be accepted.
+    /// Whether one of the limits on a text's size is passed.
     #[must_use]
     pub fn is_limit(self) -> bool {
         (Self::TooManyBytes.number()..=Self::TooManyLabels.number()).contains(&self.number())

@@ -138,7 +138,7 @@ impl Debug for Unit<'_, '_> {
     }
 }
 
-/// A function of an accepted text.
+/// A function of an accepted text. Two are equal where they are the same function of equal texts.
 #[derive(Clone, Copy, PartialEq, Eq)]
 pub struct Function<'r, 't> {
     unit: Unit<'r, 't>,
@@ -282,7 +282,8 @@ pub struct Label {
     pub block: usize,
 }
 
-/// A block of a function: operations that run one after the other, and the edges from it and to it.
+/// A block of a function: operations that run one after the other, and the edges from it and to it. Two are equal where
+/// they are the same block of equal texts.
 #[derive(Clone, Copy, PartialEq, Eq)]
 pub struct Block<'r, 't> {
     function: Function<'r, 't>,

@@ -66,6 +66,9 @@ impl WarningKind {
     }
 }
 
+/// How much of a number is shown in a sentence; it may have thousands of digits.
+const SHOWN_DIGITS: usize = 20;
+
 /// A sentence for whoever wrote the text, without its place.
 impl Display for Warning<'_> {
     fn fmt(&self, f: &mut Formatter<'_>) -> fmt::Result {
@@ -83,7 +86,11 @@ impl Display for Warning<'_> {
                 write!(f, "no operation of {function} sets {used} '{what}', and no formal is named so")
             }
             WarningKind::DroppedNumber => {
-                write!(f, "the number {what} is above 2147483647: it is dropped, as if it weren't written")
+                let (what, more) = match what.split_at_checked(SHOWN_DIGITS) {
+                    Some((front, rest)) if !rest.is_empty() => (front, ".."),
+                    _ => (what, ""),
+                };
+                write!(f, "the number {what}{more} is above 2147483647: it is dropped, as if it weren't written")
             }
         }
     }

@@ -2,6 +2,7 @@
 //! repository, with an `rt` that only writes down that it was called.
 use std::ffi::OsString;
 use std::fs::{self, File};
+use std::io::{self, Write};
 use std::os::unix::fs::PermissionsExt;
 use std::path::{Path, PathBuf};
 use std::process::{Command, Output};
@@ -346,6 +347,22 @@ fn the_build_script_without_rt() {
     assert!(!said(&output).contains("panicked"), "{}", said(&output));
 }
 
+/// And where tools/archive ends without a word, with one that says so.
+#[test]
+fn the_build_script_where_nothing_is_said() {
+    let repository = Repository::new("build-silent");
+    repository.add_host();
+    repository.write("tools/archive", "exit 3\n");
+    let cargo = Command::new(env!("CARGO"))
+        .args(["check", "--offline", "--quiet", "--lib"])
+        .current_dir(repository.path("host"))
+        .output();
+    let output = cargo.expect("cargo runs");
+    assert!(!output.status.success());
+    let sentence = error_of_the_crate("tools/archive has made no archive: exit status: 3\n");
+    assert!(said(&output).contains(&sentence), "{}", said(&output));
+}
+
 /// Whoever waits at a terminal sees how far the proofs are, while cargo itself says nothing. `script` makes a terminal.
 #[test]
 fn the_build_script_shows_progress() {
@@ -359,7 +376,8 @@ fn the_build_script_shows_progress() {
         .env("PATH", repository.env_path())
         .output();
     let Ok(output) = output else {
-        println!("passed over: there is no `script` to make a terminal");
+        // Not by `println!`, whose output a passing test keeps to itself.
+        writeln!(io::stderr(), "passed over: there is no `script` to make a terminal").expect("standard error");
         return;
     };
     let shown = String::from_utf8_lossy(&output.stdout);

@@ -400,7 +400,6 @@ fn a_function_that_is_none_or_another() {
 -:2:3: note: this is the first byte above 127
  2 | # \\xc3\\xa9
    |   ^
- note: the message's line 6 is line 1 of the new file: the function that is replaced is on line 6
 ";
     assert_eq!(rechecked("ascii.bril", "start", "x\n# é".as_bytes(), 1), ascii);
     let too_long = "\

@@ -3,6 +3,7 @@ mod tool;
 
 use std::ffi::OsStr;
 use std::fs;
+use std::io::{self, Write};
 use std::os::unix::ffi::OsStrExt;
 use std::path::Path;
 use std::process::{Command, Stdio};
@@ -25,6 +26,17 @@ fn several_files_have_one_status() {
     let standard_input = answer(&["check", "-"], b"@g { nop; }", 0);
     assert_eq!((status(&output), out(&output)), (2, [alone(bad, 1), alone(good, 0), standard_input].concat().as_str()));
     assert_eq!(err(&output), "pitchsleet: no/such/file can't be read: No such file or directory (os error 2)\n");
+    // What is said of it stands between the others' answers, where both outputs are one.
+    let both = |words: &str| {
+        let output = Command::new("sh").args(["-c", &format!("'{TOOL}' {words} 2>&1")]).output().expect("a shell");
+        String::from_utf8(output.stdout).expect("UTF-8")
+    };
+    let said = both(&format!("check '{good}' no/such/file '{bad}'"));
+    let (before, behind) = said.split_once("pitchsleet: no/such/file can't be read: ").expect("it is said");
+    assert!(before == alone(good, 0) && behind.ends_with(&alone(bad, 1)), "{said}");
+    let said = both(&format!("check --dot '{good}' '{bad}' '{good}'"));
+    let graph = answer(&["check", "--dot", good], b"", 0);
+    assert_eq!(said, [graph.as_str(), &alone(bad, 1), &graph].concat());
     // A line of JSON for each, with its name.
     let lines = answer(&["read", "--json", good, bad], b"", 0);
     let lines: Vec<&str> = lines.lines().collect();
@@ -83,7 +95,8 @@ fn colours_on_a_terminal() {
         output.ok().map(|output| String::from_utf8(output.stdout).expect("UTF-8"))
     };
     let Some(said) = on_terminal("NO_COLOR", "") else {
-        println!("passed over: there is no `script` to make a terminal");
+        // Not by `println!`, whose output a passing test keeps to itself.
+        writeln!(io::stderr(), "passed over: there is no `script` to make a terminal").expect("standard error");
         return;
     };
     assert!(said.contains("\u{1b}[1;31mrefused 16"), "{said}");
@@ -102,7 +115,7 @@ fn an_option_of_another_command_is_named_as_such() {
         (&["check", "--dot", "--html", "-"], "--dot and --html are two answers"),
         (&["--json", "check", "-"], "a command must come before --json"),
         (&["check", "--color", "red", "-"], "--color takes always, never or auto"),
-        (&["check", "--json", "--quiet", "-"], "--quiet would leave nothing of --json"),
+        (&["check", "--json", "--quiet", "-"], "--quiet is of what a person reads, and not of --json"),
     ] {
         let output = run(words, b"");
         let expected = format!("pitchsleet: {why} (pitchsleet help says more)\n");
@@ -161,6 +174,8 @@ fn file_names_as_they_are() {
         let escaped = name.replace('\\', "\\\\").replace('"', "\\\"");
         assert!(json.starts_with(&format!("{{\"file\":\"{escaped}\",\"number\":16,")), "{json}");
     }
+    let json = said(b"a\x1b\n.bril", &["check", "--json"]);
+    assert!(json.starts_with("{\"file\":\"a\\u001b\\u000a.bril\",\"number\":16,"), "{json}");
     let shown = said(b"a\x1b[31m\n\xc2\x9b\xff.bril", &["check"]);
     assert!(shown.starts_with("a\\x1b[31m\\x0a\\xc2\\x9b\\xff.bril:1:6: refused 16: "), "{shown}");
     let output = Command::new(TOOL).args(["check", "\u{971c}"]).output().expect("the tool runs");

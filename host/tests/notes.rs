@@ -21,8 +21,10 @@ fn which_name_a_number_is() {
     assert_eq!(said, expected);
     assert!(behind("@f { jmp @g; }").ends_with("\n note: global_1 is '@g'\n"));
     assert!(behind("@f { x: .int = const 5; }").ends_with("\n note: label_2 is '.int'\n"));
-    // A word or a sign is itself; and so is a name that a message spells.
-    for text in ["@f { x: int = nop; }", "@f }", "@f { .a: nop; .a: nop; }", "@f { jmp .local_1; }"] {
+    // A word or a sign is itself; and so is a name that a message spells, or one that is spelled as its number.
+    for text in
+        ["@f { x: int = local_2; }", "@f { x: int = nop; }", "@f }", "@f { .a: nop; .a: nop; }", "@f { jmp .local_1; }"]
+    {
         assert!(!behind(text).contains("note:"), "{text}");
     }
 }
@@ -46,22 +48,26 @@ fn which_block_is_empty() {
 #[test]
 fn which_name_is_undefined() {
     let line = " 2 |   warm: bool = lt limit least;\n";
-    let note = "-:2:25: note: nothing has set 'least' when this runs, and no formal is named so\n";
+    let note = "-:2:25: note: no operation of the function sets 'least', and no formal is named so\n";
     let expected = [line, "   |                ^\n", note, line, "   |                         ^~~~~\n"].concat();
     assert_eq!(behind("@f(limit: int) {\n  warm: bool = lt limit least;\n}"), expected);
-    for (text, place) in [
-        ("@f: int { ret x; }", "1:15"),
-        ("@f { x: int = id x; }", "1:18"),
-        ("@f { x: bool = not\n y; }", "2:2"),
-        ("@g(a: int) { nop; } @f { call @g a; }", "1:34"),
-        ("@f(b: int) { x: int = add b b b; }".replace("b b b", "b a").as_str(), "1:29"),
+    let nowhere = "no operation of the function sets 'x', and no formal is named so";
+    let later = "only this operation, or one that is checked after it, sets 'x'";
+    for (text, place, words) in [
+        ("@f: int { ret x; }", "1:15", nowhere),
+        ("@f { y: bool = not\n x; }", "2:2", nowhere),
+        ("@g(x: int) { y: int = const 1; } @f { call @g x; } @h(x: int) { nop; }", "1:47", nowhere),
+        ("@f(b: int) { y: int = add b x; }", "1:29", nowhere),
+        ("@f { x: int = id x; }", "1:18", later),
+        ("@g { nop; } @f { y: int = id x; x: int = const 1; }", "1:30", later),
+        // The block .c may well run before .b, but it is checked after it.
+        ("@f(c: bool) { .a: br c .b .c; .b: y: int = id x; jmp .a; .c: x: int = const 1; jmp .a; }", "1:47", later),
     ] {
         let said = behind(text);
-        assert!(said.contains(&format!("\n-:{place}: note: nothing has set '")), "{text}: {said}");
+        assert!(said.contains(&format!("\n-:{place}: note: {words}\n")), "{text}: {said}");
     }
-    assert!(
-        behind("@f { call\n@nobody; }").contains("\n-:2:1: note: no function is named '@nobody'\n 2 | @nobody; }\n")
-    );
+    let call = behind("@f { call\n@nobody; }");
+    assert!(call.contains("\n-:2:1: note: no function is named '@nobody'\n 2 | @nobody; }\n"), "{call}");
 }
 
 #[test]
@@ -75,14 +81,26 @@ fn that_a_constant_is_too_large() {
     assert!(!behind("@f { x: int = const; 2147483648 }").contains("too large"));
 }
 
-/// Every refusal has its line, and none of its notes points behind the text.
+/// Whatever part of a text is checked, it is answered, and each place that is told is one of the text's.
 #[test]
-fn notes_never_fail() {
+fn every_place_is_in_the_text() {
     let text = "@f(a: int, b: bool): int { .s: x: int = add a a; br b .s .t; .t: print x; ret x; } @g { call @f x b; }";
+    let mut refused = 0;
     for end in 0..text.len() {
         for start in [0, end / 2] {
             let output = tool::run(&["check", "-"], &text.as_bytes()[start..end]);
-            assert!(tool::status(&output) <= 1, "{start}, {end}: {}", tool::err(&output));
+            if tool::status(&output) == 0 {
+                continue;
+            }
+            refused += 1;
+            let said = tool::out(&output);
+            let places: Vec<&str> = said.lines().filter_map(|line| line.strip_prefix("-:1:")).collect();
+            assert!(tool::status(&output) == 1 && places[0].contains(": refused "), "{start}, {end}: {said}");
+            for place in places {
+                let column: usize = place.split(':').next().and_then(|column| column.parse().ok()).expect("a column");
+                assert!((1..=end - start + 1).contains(&column), "{start}, {end}: {said}");
+            }
         }
     }
+    assert!(refused > 100, "{refused}");
 }

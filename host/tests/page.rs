@@ -71,7 +71,8 @@ fn refusals_and_warnings_in_their_places() {
     assert_eq!((status(&output), err(&output)), (1, ""));
 
     // What has no place stands in front; a note has its own.
-    assert!(read_of(&answer(&["check", "--html", "-"], &[b' '; 20_000], 1)).contains("too many bytes."));
+    let too_long = read_of(&answer(&["check", "--html", "-"], &b"nop;".repeat(10_000), 1));
+    assert!(too_long.contains("too many bytes.") && !too_long.contains("nop;"), "a part isn't shown for the whole");
     let read = read_of(&answer(&["check", "--html", "-"], "x\n# é".as_bytes(), 1));
     assert!(read.contains("this is the first byte above 127"), "{read}");
 }
@@ -87,6 +88,27 @@ fn several_files_are_one_page() {
     let output = run(&["check", "--html", "-", "no/such/file"], b"@f { nop; }");
     assert_eq!(status(&output), 2);
     assert!(out(&output).ends_with("</html>\n"), "the others are shown");
+    let output = run(&["check", "--html", "no/such/file"], b"");
+    assert_eq!((status(&output), out(&output)), (2, ""), "there is nothing to show");
+}
+
+/// A warning marks the block that it is of: one without `jmp`, `br` or `ret`, and not the next, at whose label it stands.
+#[test]
+fn the_block_that_is_warned_of_is_marked() {
+    let warned = |text: &[u8]| {
+        let page = answer(&["check", "--html", "-"], text, 0);
+        let marked = page.split(" warned\">").skip(1);
+        marked
+            .map(|rest| read_of(&format!("<body>{}", rest.split("</g>").next().expect("a box"))).trim().to_owned())
+            .collect()
+    };
+    let one: Vec<String> = warned(b"@f(c: bool) { br c .a .b; .a: nop; .b: ret; }");
+    assert!(matches!(&one[..], [only] if only.contains("block 1 .a")), "{one:?}");
+    let two: Vec<String> = warned(b"@f(c: bool) { br d .a .a; .a: ret; .b: print c; ret; }");
+    assert!(
+        matches!(&two[..], [first, second] if first.contains("block 0") && second.contains("block 2 .b")),
+        "{two:?}"
+    );
 }
 
 /// It names no other file and no other machine, runs nothing, and takes no byte of a text for its own.

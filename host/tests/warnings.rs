@@ -16,7 +16,7 @@ fn a_text_that_does_what_it_says() {
     for text in [
         "",
         "@f { nop; }",
-        "@f { }".replace(" }", " ret; }").as_str(),
+        "@f { ret; }",
         "@f(c: bool) { br c .a .b; .a: print c; jmp .b; .b: nop; }",
         // A name may be set in a block further on, or by a call.
         "@f { jmp .b; .a: print x; ret; .b: x: int = const 1; jmp .a; }",
@@ -77,8 +77,13 @@ fn a_number_that_is_dropped() {
     assert_eq!(warnings("/***/ 9999999999 */ 8888888888"), [dropped(20, "8888888888")]);
     assert_eq!(warnings("/****/ 9999999999"), [dropped(7, "9999999999")]);
     assert_eq!(warnings("// /*\n9999999999 // */"), [dropped(6, "9999999999")]);
-    // Read tells of them too.
+    // Of thousands of digits a sentence shows some.
+    let text = "9".repeat(5000);
     let mut reader = Reader::new();
+    let warning = reader.check(text.as_bytes()).expect("accepted").warnings()[0];
+    assert_eq!((warning.spelling.len(), warning.to_string().len()), (5000, 94));
+    assert!(warning.to_string().starts_with("the number 99999999999999999999.. is above 2147483647: "));
+    // Read tells of them too.
     let tokens = reader.read(b"x 9999999999 y").expect("accepted");
     let warnings: Vec<_> = tokens.warnings().iter().map(|warning| (warning.place, warning.spelling)).collect();
     assert_eq!(warnings, [(2, "9999999999")]);
@@ -150,4 +155,18 @@ fn warnings_in_json() {
     );
     assert_eq!(warnings, expected);
     assert_eq!(status(&run(&["check", "--json", "--deny-warnings", "-"], TEXT.as_bytes())), 1);
+}
+
+/// A stream's lines have them too; and the caret stands under what is meant, behind tabs and before a carriage return.
+#[test]
+fn warnings_of_streams_and_odd_lines() {
+    let text = b"@f {\tprint\tx;\r\n}";
+    let output = run(&["check", "--json", "--stream"], &[format!("{}\n", text.len()).as_bytes(), text].concat());
+    let expected = r#","warnings":[{"kind":"never-set","place":11,"file_line":1,"file_column":12,"message":"no "#;
+    assert!(out(&output).contains(expected), "{}", out(&output));
+    let (_, warning) = warned(&["check", "--quiet", "-"], text, 0);
+    let expected = "\n 1 | @f {    print    x;\n   |                  ^\n";
+    assert!(warning.ends_with(expected), "{warning}");
+    let (_, warning) = warned(&["check", "--quiet", "-"], b"@f {\tprint\tlong\r\n;}", 0);
+    assert!(warning.ends_with("\n 1 | @f {    print    long\n   |                  ^~~~\n"), "{warning}");
 }

@@ -10,10 +10,10 @@ pitchsleet: a verified reader and type checker of Bril text
                                        a new function in the place of one of an accepted text: what check would show
                                        of it, or why it is refused
     pitchsleet help                    this text; so do --help and -h
-    pitchsleet --version
+    pitchsleet --version               or -V
 
-    --quiet           nothing of accepted texts but warnings
-    --deny-warnings   a text with a warning counts as refused: exit status 1
+    --quiet, -q       nothing of accepted texts but warnings
+    --deny-warnings   exit status 1 where there is a warning; the answers stay as they are
     --color WHEN      always, never or auto (as it is by itself: on a terminal, unless NO_COLOR is set)
     --json            the answer as one line of JSON for each text
     --json --stream   many texts on standard input, a line of JSON for each
@@ -205,7 +205,7 @@ impl Words {
         let Options { form, quiet, deny_warnings, .. } = self.options;
         match (self.stream, form) {
             (_, form) if quiet && form != Form::Person => {
-                Err(format!("--quiet would leave nothing of {}", form.option()))
+                Err(format!("--quiet is of what a person reads, and not of {}", form.option()))
             }
             (true, Form::Json) if !self.operands.is_empty() => {
                 Err("--stream reads standard input and takes no FILE".to_owned())

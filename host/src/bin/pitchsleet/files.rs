@@ -1,10 +1,10 @@
 //! Texts in files, read or checked one after the other.
-use std::ffi::{OsStr, OsString};
+use std::ffi::OsString;
 use std::io::{self, Write};
 
 use pitchsleet::{Reader, Refusal, Warning};
 
-use crate::args::{Form, Options, shown};
+use crate::args::{Form, Options};
 use crate::failure::Failure;
 use crate::notes::{Note, Refused};
 use crate::page::Page;
@@ -14,7 +14,7 @@ use crate::{ACCEPTED, COULD_NOT_RUN, REFUSED, dot, html, human, input, json, not
 
 pub fn read(names: &[OsString], options: Options, output: &mut impl Write, status: &mut u8) -> Result<(), Failure> {
     let style = Style::of(options.color, &io::stdout());
-    each_text(names, status, |source, status| {
+    each_text(names, output, status, |source, output, status| {
         let mut reader = Reader::new();
         let answer = reader.read(source.text);
         let warnings = answer.as_ref().map(|tokens| tokens.warnings()).unwrap_or_default();
@@ -32,7 +32,7 @@ pub fn read(names: &[OsString], options: Options, output: &mut impl Write, statu
 pub fn check(names: &[OsString], options: Options, output: &mut impl Write, status: &mut u8) -> Result<(), Failure> {
     let style = Style::of(options.color, &io::stdout());
     let mut files = Vec::new();
-    each_text(names, status, |source, status| {
+    each_text(names, output, status, |source, output, status| {
         let mut reader = Reader::new();
         let answer = reader.check(source.text);
         let warnings = answer.as_ref().map(|unit| unit.warnings()).unwrap_or_default();
@@ -43,8 +43,9 @@ pub fn check(names: &[OsString], options: Options, output: &mut impl Write, stat
             (Form::Html, Err(refusal)) => files.push(html::refused(source, refusal, &notes_on(source, refusal))),
             (Form::Dot, Ok(unit)) => dot::write(output, unit)?,
             (Form::Dot, Err(refusal)) => {
-                // What reads the output is Graphviz, and a refusal is nothing for it. Where standard error is closed, the
-                // exit status alone must say it.
+                // What reads the output is Graphviz, and a refusal is nothing for it. Where standard error is closed,
+                // the exit status alone must say it.
+                output.flush()?;
                 let style = Style::of(options.color, &io::stderr());
                 let _ = human::refused(&mut io::stderr().lock(), style, source, refusal, &notes_on(source, refusal));
             }
@@ -54,22 +55,24 @@ pub fn check(names: &[OsString], options: Options, output: &mut impl Write, stat
         }
         warn(output, options, source, &warnings)
     })?;
-    match options.form {
-        Form::Html => Ok(page::write(output, &Page { files })?),
-        _ => Ok(()),
+    match files.is_empty() {
+        true => Ok(()),
+        false => Ok(page::write(output, &Page { files })?),
     }
 }
 
 /// What is done with each text; one that can't be read is named, and the others are answered all the same.
-fn each_text(
+fn each_text<W: Write>(
     names: &[OsString],
+    output: &mut W,
     status: &mut u8,
-    mut answer: impl FnMut(&Source<'_>, &mut u8) -> Result<(), Failure>,
+    mut answer: impl FnMut(&Source<'_>, &mut W, &mut u8) -> Result<(), Failure>,
 ) -> Result<(), Failure> {
     for name in names {
         match input::text_of(name) {
-            Ok(text) => answer(&source(name, &text), status)?,
+            Ok(text) => answer(&Source::new(name, &text), output, status)?,
             Err(why) => {
+                output.flush()?;
                 say(&why);
                 *status = COULD_NOT_RUN;
             }
@@ -78,12 +81,8 @@ fn each_text(
     Ok(())
 }
 
-pub fn source<'t>(name: &OsStr, text: &'t [u8]) -> Source<'t> {
-    Source::new(shown(name), text)
-}
-
 pub fn asked<'a>(source: &'a Source<'_>) -> json::Asked<'a> {
-    json::Asked { file: Some(&source.name), text: source.text }
+    json::Asked { file: Some(source.file), text: source.text }
 }
 
 /// The status is that of the worst answer.

@@ -1,6 +1,6 @@
 //! Answers as one page for a browser: each text with its refusal or its warnings in place, and a picture of each function's
 //! blocks and edges.
-use pitchsleet::{Block, Function, Refusal, RefusalKind, Unit, Warning};
+use pitchsleet::{Block, Function, Refusal, RefusalKind, Unit, Warning, WarningKind};
 
 use crate::human::{self, summary};
 use crate::listing;
@@ -38,8 +38,9 @@ pub fn refused(source: &Source<'_>, refusal: &Refusal, notes: &[Note]) -> FilePa
     let notes = notes.iter().filter(|note| note.span.is_none()).map(|note| note.words.clone()).collect();
     FilePage {
         name: source.name.clone(),
-        verdict: Verdict::Refused { messages: vec![first], notes },
-        lines: lines(source, &marks),
+        verdict: Verdict::Refused { message: first, notes },
+        // Of a text that is too long no more is known than its beginning.
+        lines: if refusal.kind() == RefusalKind::TooManyBytes { Vec::new() } else { lines(source, &marks) },
         sections: Vec::new(),
         marks,
     }
@@ -77,7 +78,11 @@ fn picture(unit: &Unit<'_, '_>, function: &Function<'_, '_>, warnings: &[Warning
     let boxes = function.blocks().zip(starts.iter().zip(ends)).map(|(block, (start, end))| PictureBox {
         lines: listing::block_lines(unit, &block).collect(),
         is_dead: block.is_dead(),
-        has_warning: warnings.iter().any(|warning| (*start..end).contains(&warning.place)),
+        has_warning: warnings.iter().any(|warning| match warning.kind {
+            // It stands at the label of the next block, and is of the one before.
+            WarningKind::NoFallThrough => warning.place == end,
+            _ => (*start..end).contains(&warning.place),
+        }),
     });
     Picture { boxes: boxes.collect(), edges: function.blocks().flat_map(|block| edges(&block)).collect() }
 }

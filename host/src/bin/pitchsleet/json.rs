@@ -1,4 +1,5 @@
 //! An answer as one line of JSON.
+use std::ffi::OsStr;
 use std::io::{self, Write};
 
 use pitchsleet::{
@@ -9,7 +10,7 @@ use pitchsleet::{
 /// What is answered: the bytes of a text, and the file's name where it comes from one.
 #[derive(Clone, Copy)]
 pub struct Asked<'a> {
-    pub file: Option<&'a str>,
+    pub file: Option<&'a OsStr>,
     pub text: &'a [u8],
 }
 
@@ -76,7 +77,7 @@ fn begin(out: &mut impl Write, asked: Asked<'_>) -> io::Result<()> {
     write!(out, "{{")?;
     if let Some(file) = asked.file {
         write!(out, r#""file":"#)?;
-        name(out, file)?;
+        name(out, &file.to_string_lossy())?;
         write!(out, ",")?;
     }
     Ok(())

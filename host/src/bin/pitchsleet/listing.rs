@@ -72,6 +72,6 @@ fn typed(unit: &Unit<'_, '_>, variable: Variable) -> String {
     }
 }
 
-fn push(line: &mut String, what: std::fmt::Arguments<'_>) {
+pub fn push(line: &mut String, what: std::fmt::Arguments<'_>) {
     line.write_fmt(what).expect("a String takes all");
 }

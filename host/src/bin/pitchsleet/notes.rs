@@ -1,6 +1,6 @@
 //! What a person wants to know of a refusal and its message doesn't say.
 use pitchsleet::raw::TEXT_BYTES;
-use pitchsleet::{Headers, Identifier, Reader, Refusal, RefusalKind, TokenValue, Tokens, WarningKind};
+use pitchsleet::{Headers, Identifier, Reader, Refusal, RefusalKind, Token, TokenValue, Tokens, WarningKind};
 
 use crate::source::Span;
 
@@ -84,19 +84,33 @@ fn numbered_name(refusal: &Refusal, tokens: &Tokens<'_, '_>) -> Option<Note> {
     let quoted = quoted(refusal)?;
     let token = tokens.get(tokens.at_place(refusal.place())?)?;
     let Identifier(number) = token.value.identifier()?;
-    (quoted == format!("{}_{number}", token.value.kind())).then(|| said(format!("{quoted} is '{}'", token.spelling)))
+    let is_numbered = quoted == format!("{}_{number}", token.value.kind()) && quoted != token.spelling;
+    is_numbered.then(|| said(format!("{quoted} is '{}'", token.spelling)))
 }
 
 /// Which of an operation's names it is that isn't there: the first of those behind its word that is spelled so.
 fn undefined(refusal: &Refusal, tokens: &Tokens<'_, '_>, operation: usize) -> Option<Note> {
     let name = quoted(refusal)?;
-    let behind = tokens.iter().skip(operation + 1).take_while(|token| token.value != TokenValue::Semicolon);
-    let token = behind.into_iter().find(|token| token.spelling == name)?;
+    let mut behind = tokens.iter().skip(operation + 1).take_while(|token| token.value != TokenValue::Semicolon);
+    let token = behind.find(|token| token.spelling == name)?;
     let words = match token.value {
         TokenValue::Global(_) => format!("no function is named '{name}'"),
-        _ => format!("nothing has set '{name}' when this runs, and no formal is named so"),
+        _ if is_set_around(tokens, operation, name) => {
+            // Blocks are checked in the order of the edges, which is not always that of the text.
+            format!("only this operation, or one that is checked after it, sets '{name}'")
+        }
+        _ => format!("no operation of the function sets '{name}', and no formal is named so"),
     };
     Some(at(token.place, name.len(), words))
+}
+
+/// Whether a name is set in the function that has the operation with an index: `NAME :` between two functions' ends.
+fn is_set_around(tokens: &Tokens<'_, '_>, operation: usize, name: &str) -> bool {
+    let is_end = |token: &Token<'_>| token.value == TokenValue::RightBrace;
+    let before = tokens.iter().take(operation).collect::<Vec<_>>();
+    let start = before.iter().rposition(is_end).map_or(0, |end| end + 1);
+    let function: Vec<Token<'_>> = tokens.iter().skip(start).take_while(|token| !is_end(token)).collect();
+    function.windows(2).any(|two| two[0].spelling == name && two[1].value == TokenValue::Colon)
 }
 
 /// The first block without an operation, in the function whose name stands at an index. Labels at a function's start all
@@ -132,6 +146,10 @@ fn dropped_constant(tokens: &Tokens<'_, '_>, word: usize) -> Option<Note> {
 
 /// Where a message's line isn't the file's: which it is, and why.
 fn on_lines(refusal: &Refusal, text: &[u8], refused: &Refused<'_>) -> Option<Note> {
+    if refusal.kind() == RefusalKind::NotAscii {
+        // Its line is the first one, wherever the byte stands, and the note at the byte has told.
+        return None;
+    }
     let counted = refusal.line() as usize;
     let of_file = refusal.position(text)?.line;
     let first = match refused {

@@ -15,7 +15,7 @@ pub struct Page {
 pub struct FilePage {
     pub name: String,
     pub verdict: Verdict,
-    /// The lines as they are shown. All of them are.
+    /// The lines as they are shown, in printable ASCII.
     pub lines: Vec<String>,
     pub sections: Vec<Section>,
     pub marks: Vec<Mark>,
@@ -23,7 +23,7 @@ pub struct FilePage {
 
 pub enum Verdict {
     Accepted { summary: String },
-    Refused { messages: Vec<String>, notes: Vec<String> },
+    Refused { message: String, notes: Vec<String> },
 }
 
 /// A function: its header, its first and its last line, counted from 1, and its picture.
@@ -34,8 +34,7 @@ pub struct Section {
     pub svg: String,
 }
 
-/// A place in the text and what is said of it. Lines and columns count from 1, columns in bytes of the line as it is
-/// shown.
+/// A place in the text and what is said of it. Lines and columns count from 1, columns in the line as it is shown.
 pub struct Mark {
     pub line: usize,
     pub column: usize,
@@ -114,7 +113,7 @@ fn contents(out: &mut impl Write, page: &Page) -> io::Result<()> {
     writeln!(out, "<nav aria-label=\"Files\">\n<ul class=\"files\">")?;
     for (index, file) in page.files.iter().enumerate() {
         let said = match (&file.verdict, warnings(file)) {
-            (Verdict::Refused { messages, .. }, _) => messages.first().cloned().unwrap_or_default(),
+            (Verdict::Refused { message, .. }, _) => message.clone(),
             (Verdict::Accepted { summary }, 0) => summary.clone(),
             (Verdict::Accepted { summary }, count) => format!("{summary}; {}", counted(count, "warning")),
         };
@@ -133,7 +132,7 @@ fn warnings(file: &FilePage) -> usize {
 fn by_line(file: &FilePage) -> BTreeMap<usize, Vec<&Mark>> {
     let mut marks: BTreeMap<usize, Vec<&Mark>> = BTreeMap::new();
     for mark in &file.marks {
-        marks.entry(mark.line.max(1)).or_default().push(mark);
+        marks.entry(mark.line).or_default().push(mark);
     }
     marks.values_mut().for_each(|marks| marks.sort_by_key(|mark| (mark.column, mark.severity)));
     marks
@@ -199,7 +198,7 @@ impl Part<'_> {
         writeln!(out, "</h{level}>")?;
         match &self.file.verdict {
             Verdict::Accepted { summary } => writeln!(out, "<p class=\"summary\">{}</p>", Escaped(summary))?,
-            Verdict::Refused { messages, notes } => self.refusal(out, messages, notes)?,
+            Verdict::Refused { message, notes } => self.refusal(out, message, notes)?,
         }
         self.found(out)?;
         self.functions(out)?;
@@ -212,11 +211,9 @@ impl Part<'_> {
         writeln!(out, "</section>")
     }
 
-    fn refusal(&self, out: &mut impl Write, messages: &[String], notes: &[String]) -> io::Result<()> {
+    fn refusal(&self, out: &mut impl Write, message: &str, notes: &[String]) -> io::Result<()> {
         writeln!(out, "<div class=\"said refusal\">")?;
-        for message in messages {
-            writeln!(out, "<p><strong>{}</strong></p>", Escaped(message))?;
-        }
+        writeln!(out, "<p><strong>{}</strong></p>", Escaped(message))?;
         for note in notes {
             writeln!(out, "<p><em>note:</em> {}</p>", Escaped(note))?;
         }
@@ -267,16 +264,11 @@ impl Part<'_> {
             let (anchor, header) = (self.anchor(*index), Escaped(&section.header));
             writeln!(out, "<h{level} id=\"{anchor}\"><a href=\"#{anchor}\"><code>{header}</code></a></h{level}>")?;
         }
-        if stretch.sections.is_empty() {
-            let unseen = self.marks.range(self.file.lines.len() + 1..).next().is_some();
-            return if stretch.before.is_empty() && !unseen {
-                Ok(())
-            } else {
-                self.source(out, stretch.before.clone())
-            };
-        }
         if !stretch.before.is_empty() {
             self.source(out, stretch.before.clone())?;
+        }
+        if stretch.sections.is_empty() {
+            return Ok(());
         }
         writeln!(out, "<div class=\"beside\">")?;
         self.source(out, stretch.lines.clone())?;
@@ -289,16 +281,9 @@ impl Part<'_> {
 
     /// Some lines, each with what is said of it below it.
     fn source(&self, out: &mut impl Write, lines: Range<usize>) -> io::Result<()> {
-        let is_last = lines.end == self.file.lines.len();
         writeln!(out, "<div class=\"source\"><div class=\"lines\">")?;
         for index in lines {
             self.line(out, index + 1, &self.file.lines[index])?;
-        }
-        if is_last {
-            // Marks behind the text's last line, as where a text ends too early.
-            for &line in self.marks.range(self.file.lines.len() + 1..).map(|(line, _)| line) {
-                self.line(out, line, "")?;
-            }
         }
         writeln!(out, "</div></div>")
     }
@@ -306,7 +291,8 @@ impl Part<'_> {
     fn line(&self, out: &mut impl Write, number: usize, text: &str) -> io::Result<()> {
         let marks = self.marks.get(&number).map_or(&[][..], Vec::as_slice);
         let spots: Vec<Spot<'_>> = marks.iter().map(|mark| Spot::new(mark, text)).collect();
-        let comment = if text.trim_start().starts_with('#') { " comment" } else { "" };
+        let is_comment = ["#", "//"].iter().any(|sign| text.trim_start().starts_with(sign));
+        let comment = if is_comment { " comment" } else { "" };
         let marked = if spots.is_empty() { "" } else { " marked" };
         write!(out, "<div class=\"line{comment}{marked}\" id=\"file-{}-line-{number}\">", self.number)?;
         writeln!(out, "<span class=\"number\">{number}</span><span class=\"text\">{}</span></div>", lit(text, &spots))?;
@@ -336,13 +322,8 @@ struct Spot<'a> {
 impl<'a> Spot<'a> {
     /// A mark behind the line's end stands right behind it, and one that runs past the end is shortened.
     fn new(mark: &'a Mark, text: &str) -> Self {
-        let start = text.char_indices().take_while(|(byte, _)| byte + 1 < mark.column).count();
-        let start = match text.is_char_boundary(mark.column.saturating_sub(1).min(text.len())) {
-            true => start,
-            false => start.saturating_sub(1),
-        };
-        let count = text.chars().count();
-        let end = start.saturating_add(mark.length).min(count).max(start + 1);
+        let start = (mark.column - 1).min(text.len());
+        let end = (start + mark.length).min(text.len()).max(start + 1);
         Self { mark, place: start..end }
     }
 }
@@ -448,20 +429,19 @@ mod tests {
         shown(Vec::new());
         shown(vec![section("@a", 1, 12)]);
         shown(vec![section("@b", 7, 9), section("@a", 2, 5)]);
-        // Two functions on a line, and lines that aren't there.
-        let page = shown(vec![section("@a", 3, 5), section("@b", 5, 7), section("@c", 8, 99), section("@d", 40, 50)]);
-        for name in ["@a", "@b", "@c", "@d"] {
+        // Two functions on a line.
+        let page = shown(vec![section("@a", 3, 5), section("@b", 5, 7), section("@c", 8, 12)]);
+        for name in ["@a", "@b", "@c"] {
             assert_eq!(page.matches(&format!("<svg>{name}</svg>")).count(), 1);
         }
-        shown(vec![section("@a", 0, 0), section("@b", 9, 4)]);
     }
 
     #[test]
     fn a_refusal_is_shown_in_place() {
-        let lines = lines(&["@main {", "  print x;"]);
-        let marks = vec![mark(3, 1, 0, Severity::Refusal, "the text ends in a function")];
-        let messages = vec!["a.bril:3:1: refused 9: it ends".to_owned()];
-        let verdict = Verdict::Refused { messages, notes: vec!["a note".to_owned()] };
+        let lines = lines(&["@main {", "  print x;", ""]);
+        let marks = vec![mark(3, 1, 1, Severity::Refusal, "the text ends in a function")];
+        let message = "a.bril:3:1: refused 9: it ends".to_owned();
+        let verdict = Verdict::Refused { message, notes: vec!["a note".to_owned()] };
         let page = page(vec![FilePage { verdict, ..file(&lines, Vec::new(), marks) }]);
         let words = [
             "<title>a.bril: refused</title>", ">refused</span></h1>", "a.bril:3:1: refused 9: it ends", "a note",
@@ -474,8 +454,8 @@ mod tests {
 
     #[test]
     fn a_text_without_lines_has_a_page() {
-        let page = page(vec![file(&[], Vec::new(), vec![mark(0, 0, 0, Severity::Refusal, "nothing here")])]);
-        assert!(in_order(&page, &["id=\"file-1-line-1\"", "nothing here", "</html>"]));
+        let page = page(vec![file(&[], Vec::new(), Vec::new())]);
+        assert!(in_order(&page, &["2 functions", "</html>"]) && !page.contains("class=\"source\""));
     }
 
     #[test]
@@ -484,8 +464,7 @@ mod tests {
         let lines = lines(&[hostile]);
         let sections = vec![section("@main", 1, 1)];
         let marks = vec![mark(1, 3, 5, Severity::Note, hostile), mark(1, 5, 50, Severity::Warning, hostile)];
-        let messages = vec![hostile.to_owned()];
-        let verdict = Verdict::Refused { messages: messages.clone(), notes: messages };
+        let verdict = Verdict::Refused { message: hostile.to_owned(), notes: vec![hostile.to_owned()] };
         let refused = FilePage { name: hostile.to_owned(), verdict, ..file(&lines, Vec::new(), Vec::new()) };
         let accepted = FilePage { name: hostile.to_owned(), ..file(&lines, sections, marks) };
         let page = page(vec![refused, accepted]);
@@ -498,12 +477,8 @@ mod tests {
         let place = |column, length, text: &str| Spot::new(&mark(1, column, length, Severity::Note, ""), text).place;
         assert_eq!(place(1, 2, "abc"), 0..2);
         assert_eq!(place(3, 9, "abc"), 2..3);
-        assert_eq!(place(4, 0, "abc"), 3..4);
-        assert_eq!(place(90, 2, "abc"), 3..4);
-        assert_eq!(place(0, 0, ""), 0..1);
-        // Columns are in bytes, also inside a character.
-        assert_eq!(place(4, 1, "\u{e9}\u{e9}c"), 1..2);
-        assert_eq!(place(5, usize::MAX, "\u{e9}\u{e9}c"), 2..3);
+        assert_eq!(place(4, 1, "abc"), 3..4);
+        assert_eq!(place(1, 1, ""), 0..1);
     }
 
     #[test]

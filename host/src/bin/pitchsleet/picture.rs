@@ -9,8 +9,8 @@ mod rows;
 mod straight;
 mod tracks;
 
-use std::fmt::{Arguments, Write};
-
+use crate::human::counted;
+use crate::listing::push;
 use crate::markup::Escaped;
 use layout::{Point, Rect, layout};
 
@@ -87,10 +87,6 @@ pub fn svg(picture: &Picture) -> String {
 }
 
 fn described(picture: &Picture) -> String {
-    let counted = |count: usize, thing: &str| match count {
-        1 => format!("1 {thing}"),
-        _ => format!("{count} {thing}s"),
-    };
     let (blocks, edges) = (counted(picture.boxes.len(), "block"), counted(picture.edges.len(), "edge"));
     format!("Control flow: {blocks}, {edges}")
 }
@@ -206,10 +202,6 @@ fn length(one: &Point, other: &Point) -> i32 {
 /// The point that is so far from one in the direction of another.
 fn toward(from: &Point, to: &Point, distance: i32) -> Point {
     Point { x: from.x + (to.x - from.x).signum() * distance, y: from.y + (to.y - from.y).signum() * distance }
-}
-
-fn push(svg: &mut String, what: Arguments<'_>) {
-    svg.write_fmt(what).expect("a String takes all");
 }
 
 #[cfg(test)]

@@ -20,7 +20,7 @@ pub fn answer(
     status: &mut u8,
 ) -> Result<(), Failure> {
     let (old, new) = (input::text_of(old_file)?, input::text_of(new_file)?);
-    let (old, new) = (files::source(old_file, &old), files::source(new_file, &new));
+    let (old, new) = (Source::new(old_file, &old), Source::new(new_file, &new));
     let style = Style::of(options.color, &io::stdout());
     let mut reader = Reader::new();
     let unit = match reader.check(old.text) {

@@ -1,5 +1,9 @@
 //! A text with its name, and parts of its lines that are fit for a terminal.
+use std::ffi::OsStr;
+
 use pitchsleet::{Lines, Printable};
+
+use crate::args::shown;
 
 /// How much of a long line is shown before the place, and from it on, in bytes.
 const BEFORE: usize = 60;
@@ -12,7 +16,8 @@ const CUT: &str = "..";
 const TAB: &str = "    ";
 
 pub struct Source<'t> {
-    /// What the output calls the text.
+    /// The file's name, and how it is shown to a person.
+    pub file: &'t OsStr,
     pub name: String,
     pub text: &'t [u8],
     pub lines: Lines<'t>,
@@ -33,8 +38,8 @@ pub struct Excerpt {
 }
 
 impl<'t> Source<'t> {
-    pub fn new(name: String, text: &'t [u8]) -> Self {
-        Self { name, text, lines: Lines::new(text) }
+    pub fn new(file: &'t OsStr, text: &'t [u8]) -> Self {
+        Self { file, name: shown(file), text, lines: Lines::new(text) }
     }
 
     /// `NAME:LINE:COLUMN`, where an editor goes to.

@@ -7,19 +7,19 @@ use crate::token::Token;
 
 /// The tokens of a text, in order; [`Tokens::iter`] gives it.
 #[derive(Clone, Debug)]
-pub struct Iter<'r, 't> {
+pub struct TokensIter<'r, 't> {
     tokens: Tokens<'r, 't>,
     left: Range<usize>,
 }
 
-impl<'r, 't> Iter<'r, 't> {
+impl<'r, 't> TokensIter<'r, 't> {
     pub(crate) fn new(tokens: Tokens<'r, 't>) -> Self {
         let left = 0..tokens.len();
         Self { tokens, left }
     }
 }
 
-impl<'t> Iterator for Iter<'_, 't> {
+impl<'t> Iterator for TokensIter<'_, 't> {
     type Item = Token<'t>;
 
     fn next(&mut self) -> Option<Token<'t>> {
@@ -37,12 +37,12 @@ impl<'t> Iterator for Iter<'_, 't> {
     }
 }
 
-impl DoubleEndedIterator for Iter<'_, '_> {
+impl DoubleEndedIterator for TokensIter<'_, '_> {
     fn next_back(&mut self) -> Option<Self::Item> {
         let index = self.left.next_back()?;
         self.tokens.get(index)
     }
 }
 
-impl ExactSizeIterator for Iter<'_, '_> {}
-impl FusedIterator for Iter<'_, '_> {}
+impl ExactSizeIterator for TokensIter<'_, '_> {}
+impl FusedIterator for TokensIter<'_, '_> {}
