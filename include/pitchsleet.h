@@ -43,9 +43,9 @@
 #include <stdint.h>
 
 /* The version, of this file and of the archive beside it. */
-#define PITCHSLEET_VERSION "0.1.0"
+#define PITCHSLEET_VERSION "0.2.0"
 #define PITCHSLEET_VERSION_MAJOR 0
-#define PITCHSLEET_VERSION_MINOR 1
+#define PITCHSLEET_VERSION_MINOR 2
 #define PITCHSLEET_VERSION_PATCH 0
 
 /* What a text may have at most. One more of a thing is refused. */
@@ -269,6 +269,7 @@
 #define PITCHSLEET_REFUSED_NOT_ONE_FUNCTION 40     /* the new text is not one function, from its @ to its } */
 #define PITCHSLEET_REFUSED_HEADER_CHANGED 41       /* the new function has another name or other types */
 #define PITCHSLEET_REFUSED_BAD_TABLE 42            /* too long an old text, no such function, or cells that no table has */
+#define PITCHSLEET_REFUSED_NUMBER_OUT_OF_RANGE 43  /* a number above 2147483647 */
 
 #ifdef __cplusplus
 extern "C" {

@@ -13,11 +13,11 @@
 //!
 //! From the model of document 01 in tests/support/model, which has no code in common with the Rust or with the proved
 //! crates; the archive is never asked. On each text that is inside the limits the Rust original is asked too, and must say
-//! the same: message, tokens, names, functions, blocks, edges, operations and types. A text that is refused by a limit, and
-//! one in which typing comes to an unreachable block, rests on the model alone; 22 is a panic of the Rust's. A recheck with
-//! a table as check wrote it is held to the Rust wherever demand 3 speaks: the new text is put in the old function's place,
-//! the model's recheck and its check of that whole text must agree as demand 3 says, and the Rust must say of the whole text
-//! what the model does.
+//! the same: message, tokens, names, functions, blocks, edges, operations and types. A text that is refused by a limit or
+//! for a number out of range, and one in which typing comes to an unreachable block, rests on the model alone; 22 is a panic
+//! of the Rust's. A recheck with a table as check wrote it is held to the Rust wherever demand 3 speaks: the new text is put
+//! in the old function's place, the model's recheck and its check of that whole text must agree as demand 3 says, and the
+//! Rust must say of the whole text what the model does.
 //!
 //! # The file
 //!
@@ -40,7 +40,7 @@ use std::process::ExitCode;
 use support::against_fresh::{Rechecked, compare_with_fresh};
 use support::against_rust::compare_with_rust;
 use support::case_file::{self, CaseFile, Held, Lists, spaced};
-use support::compare::is_by_a_limit;
+use support::compare::{is_by_a_limit, is_out_of_range};
 use support::fixed::{self, Titled};
 use support::model::{self, BYTES, Checked};
 use support::oracle::{Depth, Oracle};
@@ -149,9 +149,11 @@ fn hold_rechecks_to_rust(oracle: &mut Oracle, again: &[Recheck]) -> Held {
     held
 }
 
-/// Whether the Rust has a word in an answer: it knows no limits, and no order of blocks that can't be reached.
+/// Whether the Rust has a word in an answer: it knows no limits, and no order of blocks that can't be reached; and where a
+/// number is refused it has dropped it.
 fn is_owed(checked: &Checked) -> bool {
-    !is_by_a_limit(checked.said.number()) && !checked.order_is_open
+    let number = checked.said.number();
+    !is_by_a_limit(number) && !is_out_of_range(number) && !checked.order_is_open
 }
 
 fn compare(oracle: &mut Oracle, text: &[u8], checked: &Checked) -> Result<(), String> {

@@ -13,9 +13,10 @@
 //!
 //! From the model of document 01 in tests/support/model, which has no code in common with the Rust or with the proved
 //! crates; the archive is never asked. The Rust original is asked every text, also one that a limit refuses. It knows no
-//! numbers, no places and no limits. So the model without its limits must say what the Rust says: the message's bytes, and
-//! by them the number; each token's kind, value and line; each name's spelling. The spelling of each token and each name
-//! must stand at the place that the model gives it. What the limits do, and the answer 30, rests on the model alone.
+//! numbers, no places and no limits, and drops a number out of range. So the model that does the same must say what the Rust
+//! says: the message's bytes, and by them the number; each token's kind, value and line; each name's spelling. The spelling
+//! of each token and each name must stand at the place that the model gives it. What the limits do, and the answers 30 and
+//! 43, rests on the model alone.
 //!
 //! # The file
 //!
@@ -34,7 +35,7 @@ use support::against_rust::compare_with_rust;
 use support::case_file::{self, CaseFile, Held, Lists, spaced};
 use support::fixed::{Titled, distinct};
 use support::fixed_reads;
-use support::model::reading::read_without_limits;
+use support::model::reading::read_as_rust;
 use support::model::{self, BYTES, TOKENS};
 use support::oracle::{Depth, Oracle};
 use support::records::Cells;
@@ -109,7 +110,7 @@ fn hold_to_rust(oracle: &mut Oracle, texts: &[Titled]) -> Held {
     let asked: Vec<Vec<u8>> = texts.iter().map(|(_, text)| text.clone()).collect();
     for ((title, text), rust) in texts.iter().zip(oracle.ask(&asked)) {
         held.answered(model::read(text).number());
-        held.hold(title, text, compare_with_rust(text, &read_without_limits(text), &rust));
+        held.hold(title, text, compare_with_rust(text, &read_as_rust(text), &rust));
     }
     held
 }

@@ -40,12 +40,12 @@
 //! # What is read, and how lines are counted
 //!
 //! The rules are those of a Rust original, Xazax-hun/domains-oxide, whose tokens, names and messages this crate gives back
-//! byte for byte. Some of them surprise:
+//! byte for byte, but that it refuses a number above 2147483647, which the original drops without a word
+//! ([`RefusalKind::NumberOutOfRange`]). Some of the rules surprise:
 //!
 //! - A newline adds one to the line, but not inside a comment: neither one that ends a `#` or `//` comment nor one between
 //!   `/*` and `*/`. So a [`Token::line`] may be less than the line that an editor shows. [`Token::place`] is exact, and
 //!   [`Lines`] makes a file's line and column of it.
-//! - A number above 2147483647 is no token and no error: it is dropped.
 //! - After a star in a comment the next byte is passed over whatever it is, so `/***/` is not closed.
 //! - All bytes must be ASCII, in comments too.
 //! - The condition of a `br` is never looked up, nor is what `print` prints: both may be any name.
@@ -53,7 +53,7 @@
 //!   refused.
 //! - Two labels in a row, but at a function's start, leave an empty block between them, which is refused.
 //!
-//! Of dropped numbers, names that nothing sets, and blocks that don't fall through, [`Unit::warnings`] tells.
+//! Of names that nothing sets, dead blocks, and blocks that don't fall through, [`Unit::warnings`] tells.
 //!
 //! # Limits
 //!

@@ -25,6 +25,7 @@ use crate::raw::MESSAGE_BYTES;
 /// | 2 | a `/*` comment that is not closed | the comment's first byte |
 /// | 3 | a byte that begins nothing | that byte |
 /// | 4 | `-` without digits, or a number below -2147483648 | the `-` |
+/// | 43 | a number above 2147483647 | its first digit |
 /// | 31 | more than 16,384 bytes | line 0, place 0 |
 /// | 32 | more than 4,096 tokens, the end token among them | the token one too many |
 /// | 33 | more than 1,024 names | the name one too many |
@@ -276,6 +277,8 @@ kinds! {
     HeaderChanged 41,
     /// No function has the number, or the header table is not one of the old text.
     BadTable 42,
+    /// A number is above 2147483647.
+    NumberOutOfRange 43,
 }
 
 impl RefusalKind {

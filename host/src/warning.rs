@@ -2,7 +2,6 @@
 use core::fmt::{self, Display, Formatter};
 
 use crate::operation::OperationValue;
-use crate::reader::Tokens;
 use crate::token::Identifier;
 use crate::unit::{Function, Unit};
 
@@ -29,10 +28,10 @@ pub struct Warning<'t> {
     pub kind: WarningKind,
     /// Where it is: a byte's index in the text. [`Lines`](crate::Lines) has its line and column.
     pub place: usize,
-    /// What stands there: a label, a name, or a number's digits.
+    /// What stands there: a label or a name.
     pub spelling: &'t str,
-    /// The name of the function that it is of; none for a dropped number, which may stand outside all of them.
-    pub function: Option<&'t str>,
+    /// The name of the function that it is of.
+    pub function: &'t str,
     /// Whether the name is a `br`'s condition, and not what a `print` prints.
     is_condition: bool,
 }
@@ -49,30 +48,24 @@ pub enum WarningKind {
     /// A name that a `br` goes by or a `print` prints, which no operation of the function sets and no formal is. It isn't
     /// looked up when the text is checked, but will be when the rule runs.
     NeverSet,
-    /// A number above 2147483647. It is dropped, as if it weren't written.
-    DroppedNumber,
 }
 
 impl WarningKind {
-    /// A word for it: `no-fall-through`, `dead-block`, `never-set` or `dropped-number`.
+    /// A word for it: `no-fall-through`, `dead-block` or `never-set`.
     #[must_use]
     pub fn word(self) -> &'static str {
         match self {
             Self::NoFallThrough => "no-fall-through",
             Self::DeadBlock => "dead-block",
             Self::NeverSet => "never-set",
-            Self::DroppedNumber => "dropped-number",
         }
     }
 }
 
-/// How much of a number is shown in a sentence; it may have thousands of digits.
-const SHOWN_DIGITS: usize = 20;
-
 /// A sentence for whoever wrote the text, without its place.
 impl Display for Warning<'_> {
     fn fmt(&self, f: &mut Formatter<'_>) -> fmt::Result {
-        let (what, function) = (self.spelling, self.function.unwrap_or("the function"));
+        let (what, function) = (self.spelling, self.function);
         match self.kind {
             WarningKind::NoFallThrough => {
                 write!(
@@ -85,28 +78,7 @@ impl Display for Warning<'_> {
                 let used = if self.is_condition { "the condition" } else { "what is printed," };
                 write!(f, "no operation of {function} sets {used} '{what}', and no formal is named so")
             }
-            WarningKind::DroppedNumber => {
-                let (what, more) = match what.split_at_checked(SHOWN_DIGITS) {
-                    Some((front, rest)) if !rest.is_empty() => (front, ".."),
-                    _ => (what, ""),
-                };
-                write!(f, "the number {what}{more} is above 2147483647: it is dropped, as if it weren't written")
-            }
         }
-    }
-}
-
-impl<'t> Tokens<'_, 't> {
-    /// What the text says that it may not mean, as far as tokens tell: its dropped numbers, in the order of the text.
-    #[must_use]
-    pub fn warnings(&self) -> Vec<Warning<'t>> {
-        let mut warnings = Vec::new();
-        let mut end = 0;
-        for token in self {
-            push_dropped(&mut warnings, self.text(), end, token.place);
-            end = token.place + token.spelling.len();
-        }
-        warnings
     }
 }
 
@@ -115,7 +87,7 @@ impl<'t> Unit<'_, 't> {
     /// [`WarningKind`].
     #[must_use]
     pub fn warnings(&self) -> Vec<Warning<'t>> {
-        let mut warnings = self.tokens().warnings();
+        let mut warnings = Vec::new();
         for function in self.functions() {
             push_blocks(&mut warnings, self, &function);
             push_never_set(&mut warnings, self, &function);
@@ -131,7 +103,7 @@ impl<'t> Unit<'_, 't> {
             kind,
             place: token.place,
             spelling: token.spelling,
-            function: Some(function.name().spelling),
+            function: function.name().spelling,
             is_condition: false,
         }
     }
@@ -172,40 +144,4 @@ fn push_never_set<'t>(warnings: &mut Vec<Warning<'t>>, unit: &Unit<'_, 't>, func
             warnings.push(Warning { is_condition, ..warning });
         }
     }
-}
-
-/// What stands between two tokens is blanks, comments and numbers that were dropped.
-fn push_dropped<'t>(warnings: &mut Vec<Warning<'t>>, text: &'t str, start: usize, end: usize) {
-    let mut place = start;
-    while place < end {
-        let rest = &text.as_bytes()[place..end];
-        let length = comment_length(rest).unwrap_or_else(|| digits_length(rest).max(1));
-        if rest[0].is_ascii_digit() {
-            let spelling = &text[place..place + length];
-            let kind = WarningKind::DroppedNumber;
-            warnings.push(Warning { kind, place, spelling, function: None, is_condition: false });
-        }
-        place += length;
-    }
-}
-
-fn digits_length(rest: &[u8]) -> usize {
-    rest.iter().take_while(|byte| byte.is_ascii_digit()).count()
-}
-
-/// How long the comment is that the bytes begin with; none where they begin with none. One between stars ends with a star
-/// and the slash behind it, but a byte behind a star that is no slash isn't looked at again.
-fn comment_length(rest: &[u8]) -> Option<usize> {
-    if rest.starts_with(b"#") || rest.starts_with(b"//") {
-        let newline = rest.iter().position(|&byte| byte == b'\n');
-        return Some(newline.map_or(rest.len(), |at| at + 1));
-    }
-    let mut at = rest.starts_with(b"/*").then_some(2)?;
-    while let Some(star) = rest[at.min(rest.len())..].iter().position(|&byte| byte == b'*') {
-        at += star + 2;
-        if rest.get(at - 1) == Some(&b'/') {
-            return Some(at);
-        }
-    }
-    Some(rest.len())
 }

@@ -46,8 +46,9 @@ fn texts_of_document_01() {
     let message = "[line 1] Error at 'true': 'int' type expected; 'bool' found\n";
     assert_eq!(refusal_of("@f { x: int = const true; }"), (17, 1, 20, message.to_owned()));
     assert_eq!(refused("@f: int { nop; }").number(), 21);
-    assert_eq!(refused("@f { x: int = const 2147483648; }").number(), 10);
-    assert!(reader.check(b"@f { nop 2147483648; }").is_ok());
+    let out_of_range = |place| (43, 1, place, "[line 1] Error : Number out of range.\n".to_owned());
+    assert_eq!(refusal_of("@f { x: int = const 2147483648; }"), out_of_range(20));
+    assert_eq!(refusal_of("@f { nop 2147483648; }"), out_of_range(9));
     assert_eq!(refused("-2147483648").number(), 7);
     assert!(reader.check(b"@f { nop; } @f { nop; }").is_ok());
     assert_eq!(refused("@f { nop; } @f: int { nop; }").number(), 15);

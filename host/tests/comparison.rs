@@ -45,7 +45,7 @@ fn generated(depth: Depth, usual: u64, numbers: impl IntoIterator<Item = u32>) {
 
 #[test]
 fn read_generated_texts() {
-    generated(Depth::Read, TEXTS_TO_READ, [0, 1, 2, 3, 4, 31, 32, 33, 34]);
+    generated(Depth::Read, TEXTS_TO_READ, [0, 1, 2, 3, 4, 31, 32, 33, 34, 43]);
 }
 
 #[test]
@@ -63,7 +63,7 @@ fn read_edges_of_the_rules() {
 #[test]
 fn read_limits() {
     let report = compare(Depth::Read, "limits", edges::limits());
-    for number in [31, 32, 33, 34] {
+    for number in [31, 32, 33, 34, 43] {
         assert!(report.answered(number) > 0, "no text is answered with {number}");
     }
 }
@@ -72,7 +72,7 @@ fn read_limits() {
 
 #[test]
 fn check_generated_texts() {
-    generated(Depth::Check, TEXTS_TO_CHECK, (0..=22).chain(31..=38));
+    generated(Depth::Check, TEXTS_TO_CHECK, (0..=22).chain(31..=38).chain([43]));
 }
 
 #[test]
@@ -102,7 +102,7 @@ fn check_fixed_texts() {
     let texts = fixed::all();
     assert!(texts.len() >= 500);
     let report = compare(Depth::Check, "fixed", texts.into_iter().map(|(_, text)| text));
-    for number in 1..=22 {
+    for number in (1..=22).chain([43]) {
         assert!(report.answered(number) >= 3, "hardly a text is answered with {number}");
     }
 }

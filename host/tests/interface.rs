@@ -550,7 +550,7 @@ fn first_kind(text: &str) -> usize {
 /// Each refusal of the document, from a text that has it.
 #[test]
 fn refusals() {
-    let texts: [(usize, Vec<u8>); 8] = [
+    let texts: [(usize, Vec<u8>); 9] = [
         (1, b"\n\x80".to_vec()),
         (2, b"\n /*".to_vec()),
         (3, b"\n c$".to_vec()),
@@ -559,6 +559,7 @@ fn refusals() {
         (32, vec![b';'; raw::TOKENS]),
         (33, (0..=raw::NAMES).flat_map(|i| format!("x{i}\n").into_bytes()).collect()),
         (34, [b"\n".to_vec(), vec![b'x'; raw::LONGEST_NAME + 1]].concat()),
+        (43, b"\n x 2147483648".to_vec()),
     ];
     let mut rows = table("Refusals");
     rows.retain(|row| row[0] != "30");

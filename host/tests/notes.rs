@@ -71,14 +71,12 @@ fn which_name_is_undefined() {
 }
 
 #[test]
-fn that_a_constant_is_too_large() {
-    let line = " 1 | @f { x: int = const 2147483648; }\n";
-    let note = "-:1:21: note: this number is too large: above 2147483647 one is dropped\n";
-    let expected = [line, "   |               ^\n", note, line, "   |                     ^~~~~~~~~~\n"].concat();
-    assert_eq!(behind("@f { x: int = const 2147483648; }"), expected);
-    // The one that is dropped behind another const is no reason.
-    assert!(!behind("@f { x: int = const 1 2147483648; y: int = const; }").contains("too large"));
-    assert!(!behind("@f { x: int = const; 2147483648 }").contains("too large"));
+fn that_a_number_is_too_large() {
+    let lines = " 1 | @f { x: int = const 2147483648; }\n   |                     ^\n";
+    assert_eq!(
+        behind("@f { x: int = const 2147483648; }"),
+        format!("{lines} note: the largest number is 2147483647\n")
+    );
 }
 
 /// Whatever part of a text is checked, it is answered, and each place that is told is one of the text's.

@@ -13,7 +13,11 @@ fn texts_of_document_01() {
     let mut reader = Reader::new();
     assert_eq!(reader.read(b"").expect("accepted").len(), 1);
     assert_eq!(reader.read(b"@f { nop; }").expect("accepted").len(), 6);
-    assert_eq!(reader.read(b"@f { nop 2147483648; }").expect("accepted").len(), 6);
+    let large = refused(b"@f { nop 2147483648; }");
+    assert_eq!((large.number(), large.line(), large.place()), (43, 1, 9));
+    assert_eq!(large.message(), b"[line 1] Error : Number out of range.\n");
+    let largest = reader.read(b"2147483647").expect("accepted").get(0).map(|token| token.value);
+    assert_eq!(largest, Some(TokenValue::Integer(i32::MAX)));
     let lowest = reader.read(b"-2147483648").expect("accepted").get(0).map(|token| token.value);
     assert_eq!(lowest, Some(TokenValue::Integer(i32::MIN)));
     assert_eq!(refused(b"-2147483649").number(), 4);

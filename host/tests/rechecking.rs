@@ -218,7 +218,7 @@ fn not_one_function() {
     let no_name = ["", " @v { nop; }", "nop }", ".v { nop; }", "v { nop; }", "/**/@v { nop; }", "{ nop; }", "}", "\n"];
     let no_brace = [
         "@v", "@v { nop;", "@v { nop; };", "@v { nop; } ", "@v { nop; }\n", "@v { nop; }//", "@v { nop; } # }",
-        "@v { nop; } // }", "@v { nop; }/* */", "@v { nop; }2147483648", "@v { nop; } @w",
+        "@v { nop; } // }", "@v { nop; }/* */", "@v { nop; }2147483647", "@v { nop; } @w",
     ];
     for new in no_name.iter().chain(&no_brace) {
         assert_eq!(rechecked(V, new.as_bytes()), refused(40, 2, 0, ": not one function."), "{new}");

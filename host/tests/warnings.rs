@@ -23,9 +23,6 @@ fn a_text_that_does_what_it_says() {
         "@g: int { x: int = const 1; ret x; } @f { y: int = call @g; print y; }",
         // A function's last block, and labels at its start.
         "@f { .a: .b: nop; }",
-        // Nothing is dropped in comments, in names and behind a minus.
-        "# 2147483648\n// 99999999999\n/* 99999999999 **/ 99 */ @f { x2147483648: int = const -2147483648; } #9999999999",
-        "@f { x: int = const 2147483647; y: int = const 000000000000000; }",
     ] {
         assert_eq!(warnings(text), [], "{text}");
     }
@@ -61,38 +58,9 @@ fn a_name_that_is_never_set() {
     assert_eq!(said[0], "no operation of @g sets what is printed, 'n', and no formal is named so");
 }
 
-#[test]
-fn a_number_that_is_dropped() {
-    let dropped = |place, number| (WarningKind::DroppedNumber, place, number);
-    assert_eq!(warnings("2147483648"), [dropped(0, "2147483648")]);
-    let text = "9999999999@f/*9999999999*/{9999999999 nop 0000002147483648;}#1\n99999999990 /* */";
-    let expected = [
-        dropped(0, "9999999999"),
-        dropped(27, "9999999999"),
-        dropped(42, "0000002147483648"),
-        dropped(63, "99999999990"),
-    ];
-    assert_eq!(warnings(text), expected);
-    // As where comments end: behind a star the next byte is passed over, and the newline of `#` ends it.
-    assert_eq!(warnings("/***/ 9999999999 */ 8888888888"), [dropped(20, "8888888888")]);
-    assert_eq!(warnings("/****/ 9999999999"), [dropped(7, "9999999999")]);
-    assert_eq!(warnings("// /*\n9999999999 // */"), [dropped(6, "9999999999")]);
-    // Of thousands of digits a sentence shows some.
-    let text = "9".repeat(5000);
-    let mut reader = Reader::new();
-    let warning = reader.check(text.as_bytes()).expect("accepted").warnings()[0];
-    assert_eq!((warning.spelling.len(), warning.to_string().len()), (5000, 94));
-    assert!(warning.to_string().starts_with("the number 99999999999999999999.. is above 2147483647: "));
-    // Read tells of them too.
-    let tokens = reader.read(b"x 9999999999 y").expect("accepted");
-    let warnings: Vec<_> = tokens.warnings().iter().map(|warning| (warning.place, warning.spelling)).collect();
-    assert_eq!(warnings, [(2, "9999999999")]);
-    assert_eq!(tokens.warnings()[0].function, None);
-}
-
 const TEXT: &str = "# a rule
 @f {
-  frost: bool = const true 4000000000;
+  frost: bool = const true;
   br forst .pumps .end;
 .pumps:
   nop;
@@ -102,9 +70,6 @@ const TEXT: &str = "# a rule
 ";
 
 const WARNINGS: &str = "\
--:3:28: warning: the number 4000000000 is above 2147483647: it is dropped, as if it weren't written [dropped-number]
- 3 |   frost: bool = const true 4000000000;
-   |                            ^~~~~~~~~~
 -:4:6: warning: no operation of @f sets the condition 'forst', and no formal is named so [never-set]
  4 |   br forst .pumps .end;
    |      ^~~~~
@@ -123,15 +88,17 @@ fn the_tool_warns_on_standard_error() {
     let fine = b"@f { ret; }";
     assert_eq!(answer(&["check", "--deny-warnings", "-"], fine, 0), answer(&["check", "-"], fine, 0));
     // Of a refused text there are none.
-    let refused = run(&["check", "--deny-warnings", "-"], b"2147483648 @f { ret x; }");
+    let refused = run(&["check", "--deny-warnings", "-"], b"@f { br c .a .a; .a: ret x; }");
     assert_eq!((status(&refused), err(&refused)), (1, ""));
 }
 
 #[test]
-fn read_and_recheck_warn_too() {
-    let (_, warnings) = warned(&["read", "-"], TEXT.as_bytes(), 0);
-    assert_eq!(warnings, WARNINGS.split_inclusive('\n').take(3).collect::<String>());
-    assert_eq!(warned(&["read", "--deny-warnings", "-"], TEXT.as_bytes(), 1).1, warnings);
+fn recheck_warns_too_and_read_does_not() {
+    assert_eq!(
+        answer(&["read", "--deny-warnings", "-"], TEXT.as_bytes(), 0),
+        answer(&["read", "-"], TEXT.as_bytes(), 0)
+    );
+    assert!(answer(&["read", "--json", "-"], TEXT.as_bytes(), 0).ends_with(",\"warnings\":[]}\n"));
     let old = Scratch::new("warned-old.bril", b"@f { ret; }");
     let new = b"@f { br x .a .a; .a: ret; }";
     let (_, warnings) = warned(&["recheck", old.name(), "f", "-"], new, 0);
@@ -145,11 +112,9 @@ fn warnings_in_json() {
     assert_eq!((status(&output), err(&output)), (0, ""));
     let (_, warnings) = out(&output).split_once(",\"warnings\":").expect("warnings");
     let expected = concat!(
-        r#"[{"kind":"dropped-number","place":41,"file_line":3,"file_column":28,"#,
-        r#""message":"the number 4000000000 is above 2147483647: it is dropped, as if it weren't written"},"#,
-        r#"{"kind":"never-set","place":58,"file_line":4,"file_column":6,"#,
+        r#"[{"kind":"never-set","place":47,"file_line":4,"file_column":6,"#,
         r#""message":"no operation of @f sets the condition 'forst', and no formal is named so"},"#,
-        r#"{"kind":"no-fall-through","place":92,"file_line":7,"file_column":1,"message":"the block before '.end' has "#,
+        r#"{"kind":"no-fall-through","place":81,"file_line":7,"file_column":1,"message":"the block before '.end' has "#,
         r#"no jmp, br or ret: it returns, and doesn't go on with '.end'"}]}"#,
         "\n"
     );

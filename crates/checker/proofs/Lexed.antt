@@ -14,7 +14,8 @@ use Rattle.lexer.specs.Decoded.{tokensOf}
 use Rattle.lexer.specs.declared.ReadAnswer.{ReadAnswer}
 use Rattle.lexer.specs.declared.TokenAt.{TokenAt}
 use Rattle.lexer.proofs.Sound.{read-sound, never-cut}
-use Rattle.lexer.proofs.Accepted.{Done, refusal-number}
+use Rattle.lexer.proofs.Numbers.{refusal-number}
+use Rattle.lexer.proofs.Accepted.{Done}
 use Rattle.lexer.proofs.Promise.{done-reading}
 use Rattle.lexer.proofs.Cells.{length-tokens-cells, length-names-cells, cells-token-last}
 use Rattle.body.specs.Room.{Within}

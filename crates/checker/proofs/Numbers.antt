@@ -8,16 +8,13 @@ use mathlib.Core.List.{List, []}
 use native.Mathlib.Omega.{arith}
 use borrow.Author.Tests.{leb-true, ne-eqb}
 use Rattle.utils.specs.Bytes.{pick}
-use Rattle.pieces.specs.Refusals.{factsOf}
 use Rattle.pieces.specs.declared.Token.{Token}
-use Rattle.pieces.specs.declared.Refusal as pieces
-use Rattle.pieces.specs.declared.Refusal.the-variants as R
 use Rattle.lexer.specs.Numbered as lexes
 use Rattle.lexer.specs.Numbered.{Part, tokensCells}
 use Rattle.lexer.specs.Read.{lexedFrom, readOf}
 use Rattle.lexer.specs.Decoded.{Tok, tokensOf}
 use Rattle.lexer.proofs.Sound.{never-cut}
-use Rattle.lexer.proofs.Accepted.{refusal-number}
+use Rattle.lexer.proofs.Numbers.{Refuses, below-gate, behind-gate, lexical-refuses, refusal-lexical, refusal-number}
 use Rattle.parser.specs.declared.Refusal.{Refusal}
 use Rattle.parser.specs.declared.Consumed.{Consumed}
 use Rattle.body.specs.Room.{Within}
@@ -33,18 +30,8 @@ use Rattle.checker.proofs.ParsedNumbers.{Fine, FineEnd, Is, functions-f
 use Rattle.checker.proofs.TypedNumbers.{FineT, typed-fine}
 
 fine-listed : {e : Refusal} → Fine e → Listed (e .number)
-fine-listed {e} (Fine.low h g) = inl (leb-true _ _ h, leb-true _ _ g)
-fine-listed {e} (Fine.high h g) = inr (omega (arith, leb-true 36 (e .number) h), leb-true _ _ g)
-
-lexing-listed : (r : pieces.Refusal) → Listed (factsOf r .number)
-lexing-listed (R.NotAscii line) = inl (omega arith, omega arith)
-lexing-listed (R.CommentNotClosed c) = inl (omega arith, omega arith)
-lexing-listed (R.UnexpectedByte b c) = inl (omega arith, omega arith)
-lexing-listed (R.NumberExpected c) = inl (omega arith, omega arith)
-lexing-listed R.TooManyBytes = inr (omega arith, omega arith)
-lexing-listed (R.TooManyTokens c) = inr (omega arith, omega arith)
-lexing-listed (R.TooManyNames c) = inr (omega arith, omega arith)
-lexing-listed (R.NameTooLong c) = inr (omega arith, omega arith)
+fine-listed {e} (Fine.low h g) = inr (inl (leb-true _ _ h, leb-true _ _ g))
+fine-listed {e} (Fine.high h g) = inr (inr (omega (arith, leb-true 36 (e .number) h), leb-true _ _ g))
 
 -- What parsing and typing make of the tokens. -----------------------------------------------------------------------
 
@@ -59,7 +46,7 @@ typing-listed fs (Is.so (FineT.refused t e h)) = fine-listed h
 parsing-listed : (ts : List Tok) (fs : List Function) {c : Consumed} → FineEnd c → IfRefused (afterParsing ts fs c)
 parsing-listed ts fs (FineEnd.found i) = typing-listed fs (typed-fine ts fs fs untyped)
 parsing-listed ts fs (FineEnd.refused e h) = fine-listed h
-parsing-listed ts fs (FineEnd.many e h) = inr (omega (arith, h), omega (arith, h))
+parsing-listed ts fs (FineEnd.many e h) = inr (inr (omega (arith, h), omega (arith, h)))
 
 pub unit-listed : (ts : List Tok) → Within ts 0 → IfRefused (unitD ts)
 unfolding unitD
@@ -75,9 +62,13 @@ accepted-silent : (text : List ℕ) → Accepts text → checkOf text .message �
 unfolding checkOf readOf pick
 accepted-silent text a = rw (a .lexed, a .typed)
 
+listed-refuses : (n : ℕ) → Listed n → Refuses n
+listed-refuses n (inl h) = lexical-refuses n h
+listed-refuses n (inr (inl h)) = below-gate (omega (arith, h .0)) (h .1)
+listed-refuses n (inr (inr h)) = behind-gate (omega (arith, h .0)) (omega (arith, h .1))
+
 pub listed-above : (n : ℕ) → Listed n → 1 ≤ n
-listed-above n (inl h) = h .0
-listed-above n (inr h) = omega (arith, h .0)
+listed-above n l = listed-refuses n l .above
 
 refused-numbered : (text : List ℕ) → Listed (checkOf text .answer .number)
     → Numbered text (checkOf text .answer .number)
@@ -99,7 +90,7 @@ every-number text = by-lexing (lexedFrom 1 text) refl
         by-unit toks ns p (unitD (tokensOf (tokensCells toks))) refl
         (unit-listed _ (rw p at (within (lexed-itself 1 text (rw p)))))
     by-lexing (lexes.Outcome.refused r) p =
-        refused-numbered text (rw (p, ne-eqb _ _ (refusal-number r)) (lexing-listed r))
+        refused-numbered text (rw (p, ne-eqb _ _ (refusal-number r)) (inl (refusal-lexical r)))
     by-lexing lexes.Outcome.cut p = absurd (never-cut 1 text p)
 
 -- an accepted text has no message
@@ -112,8 +103,7 @@ silent text z = by (checkOf text .answer .number) z (every-number text)
 
 never-thirty : (text : List ℕ) (n : ℕ) → Numbered text n → n ≡ 30 → ⊥
 never-thirty text n (inl h) z = omega (arith, h .1)
-never-thirty text n (inr (f, inl h)) z = omega (arith, h .1)
-never-thirty text n (inr (f, inr h)) z = omega (arith, h .0)
+never-thirty text n (inr (f, l)) z = listed-refuses n l .not-gate z
 
 module _ (text m t n : List ℕ) (u : Slices) where
   -- 30 IS THE GATE'S: it is given exactly where a lent slice is shorter than its size

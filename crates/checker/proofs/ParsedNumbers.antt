@@ -50,9 +50,9 @@ use Rattle.functions.specs.declared.Entered.the-variants as E
 
 -- Refusals, and answers that may be one. ----------------------------------------------------------------------------
 
--- `Listed` as tests, which a search can compute; 31 to 34 are lexing's, and 35 stands apart
+-- `Listed` as tests, which a search can compute, without lexing's numbers; 35 stands apart
 pub data Fine (e : Refusal) : Type 0 where
-  low : leb 1 (e .number) ≡ true → leb (e .number) 22 ≡ true → Fine e
+  low : leb 5 (e .number) ≡ true → leb (e .number) 22 ≡ true → Fine e
   high : leb 36 (e .number) ≡ true → leb (e .number) 38 ≡ true → Fine e
 
 -- for each type of answers: found, or a refusal that is fine
@@ -193,7 +193,7 @@ module _ (ts : List Tok) where
   unfolding consumeD
   consumeF i kind = search shapes depth 14
 
-  namedF : (i kind number : ℕ) → leb 1 number ≡ true → leb number 22 ≡ true → Is FineN (namedD ts i kind number)
+  namedF : (i kind number : ℕ) → leb 5 number ≡ true → leb number 22 ≡ true → Is FineN (namedD ts i kind number)
   unfolding namedD
   namedF i kind number h g = search shapes depth 14
 

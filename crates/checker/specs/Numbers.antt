@@ -6,13 +6,14 @@ use mathlib.Core.List.{List}
 use Rattle.pieces.specs.declared.Token.{Token}
 use Rattle.lexer.specs.Numbered.{Part, Outcome, tokensCells}
 use Rattle.lexer.specs.Read.{lexedFrom}
+use Rattle.lexer.specs.Numbers.{Lexical}
 use Rattle.lexer.specs.Decoded.{tokensOf}
 use Rattle.functions.specs.Functions.{Function}
 use Rattle.unit.specs.Outcome.{checked, unitD}
 
--- the refusals of a text; 30 is the gate's (`checkDef`), 40 to 42 are recheck's
+-- the refusals of a text: lexing's, parsing's and typing's; 30 is the gate's (`checkDef`), 40 to 42 are recheck's
 abbrev pub Listed : ℕ → Type 0
-Listed n = ((1 ≤ n) × (n ≤ 22)) ⊎ ((31 ≤ n) × (n ≤ 38))
+Listed n = Lexical n ⊎ ((5 ≤ n) × (n ≤ 22)) ⊎ ((35 ≤ n) × (n ≤ 38))
 
 -- A text in which lexing, parsing and typing find nothing to refuse.
 pub record Accepts (text : List ℕ) : Type 0 where

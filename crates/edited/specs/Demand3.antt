@@ -51,7 +51,8 @@ pub record Edits (old : List ℕ) (k : ℕ) (new : List ℕ) : Type 0 where
   -- "Take an accepted text and replace one function"
   pub accepted : checkOf old .answer .number ≡ 0
   pub one : k < checkOf old .answer .functions
-  -- "the new text lexes alone", from the replaced function's line on
+  -- "the new text lexes alone", from the replaced function's line on: it has no lexical number (`Lexical` of
+  -- lexer/specs/Numbers.antt, 43 among them)
   pub lexes : readFrom (lineOf old k) new .answer .number ≡ 0
   -- "runs from its @ name to a closing brace as last byte, holds no second function": recheck doesn't answer with 40.
   -- (A text that is refused before its second function is met is spoken of, too.)

@@ -204,7 +204,7 @@ module _ (s : List ℕ) {u u′ : List ℕ} (g : Begins u u′) (at line : ℕ) 
       by : (small : Bool) → leb (numberAt (s ++ u) at .value) 2147483647 ≡ small
           → EndsBy (length s) (digitAt (s ++ u) at line) → digitAt (s ++ u′) at line ≡ digitAt (s ++ u) at line
       by true e k = rw (same (rw e at k))
-      by false e k = rw (same (rw e at k))
+      by false e k = absurd (rw e at k)
 
   word-front : EndsBy (length s) (wordAt (s ++ u) at line) → wordAt (s ++ u′) at line ≡ wordAt (s ++ u) at line
   unfolding wordAt nameAt thenValue

@@ -23,6 +23,7 @@ moveRefusal by down (R.NotAscii line) = R.NotAscii (down + line)
 moveRefusal by down (R.CommentNotClosed c) = R.CommentNotClosed (moveCursor by down c)
 moveRefusal by down (R.UnexpectedByte b c) = R.UnexpectedByte b (moveCursor by down c)
 moveRefusal by down (R.NumberExpected c) = R.NumberExpected (moveCursor by down c)
+moveRefusal by down (R.NumberOutOfRange c) = R.NumberOutOfRange (moveCursor by down c)
 moveRefusal by down R.TooManyBytes = R.TooManyBytes
 moveRefusal by down (R.TooManyTokens c) = R.TooManyTokens (moveCursor by down c)
 moveRefusal by down (R.TooManyNames c) = R.TooManyNames (moveCursor by down c)

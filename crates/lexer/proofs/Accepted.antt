@@ -7,17 +7,16 @@ use mathlib.Core.List.{List}
 use native.Mathlib.Omega.{arith}
 use lib.ListN.{length}
 use Rattle.utils.specs.Bytes.{pick, padTo}
-use Rattle.pieces.specs.Refusals.{factsOf}
 use Rattle.lexer.specs.Numbered.{Part, Outcome, tokensCells, namesCells}
 use Rattle.lexer.specs.Read.{reading, readRefusal, lexedFrom, readingOf, readOf, sized, padded, readDef, resultOf}
 use Rattle.lexer.specs.Read.{Reads}
 use Rattle.lexer.specs.Sound.{Sound}
 use Rattle.pieces.specs.declared.Token.{Token}
 use Rattle.pieces.specs.declared.Refusal.{Refusal}
-use Rattle.pieces.specs.declared.Refusal.the-variants as R
 use Rattle.lexer.specs.declared.LexResult.the-variants as X
 use Rattle.lexer.specs.declared.ReadAnswer.{ReadAnswer}
 use Rattle.lexer.proofs.Sound.{read-sound, never-cut}
+use Rattle.lexer.proofs.Numbers.{refusal-number}
 
 -- the tokens and the names of a text, how many there are, and that they are its reading
 pub record Done (s : List ℕ) (line count known : ℕ) : Type 0 where
@@ -46,17 +45,6 @@ result-refused line s r e = from (lexedFrom line s) refl e
     from (Outcome.done ts ns) p q = absurd (let z : _≡_ {A = ℕ} 0 1 = cc in omega arith)
     from (Outcome.refused r′) p q = cc
     from Outcome.cut p q = absurd (never-cut line s p)
-
--- no refusal has number 0
-pub refusal-number : (r : Refusal) → factsOf r .number ≡ 0 → ⊥
-refusal-number (R.NotAscii line) e = omega arith
-refusal-number (R.CommentNotClosed c) e = omega arith
-refusal-number (R.UnexpectedByte b c) e = omega arith
-refusal-number (R.NumberExpected c) e = omega arith
-refusal-number R.TooManyBytes e = omega arith
-refusal-number (R.TooManyTokens c) e = omega arith
-refusal-number (R.TooManyNames c) e = omega arith
-refusal-number (R.NameTooLong c) e = omega arith
 
 -- what `read` leaves of a text that it accepts
 pub record Accepted (s t₀ n₀ : List ℕ) (r : ReadAnswer) (t n : List ℕ) : Type 0 where

@@ -3,6 +3,8 @@
 pub mod Same
 -- every accepted reading is sound, every refusal stands in the text: `read-sound`, `refused-sound`, `never-cut`
 pub mod Sound
+-- which numbers a reading has
+pub mod Numbers
 -- the tokens that cells hold
 pub mod Records
 -- the names that cells hold

@@ -16,7 +16,8 @@ use Rattle.lexer.specs.declared.ReadAnswer.{ReadAnswer}
 use Rattle.pieces.specs.Refusals.{messageOf}
 use Rattle.pieces.specs.declared.Refusal.{Refusal}
 use Rattle.lexer.proofs.Cells.{length-tokens-cells, length-names-cells}
-use Rattle.lexer.proofs.Accepted.{Done, refusal-number}
+use Rattle.lexer.proofs.Numbers.{refusal-number}
+use Rattle.lexer.proofs.Accepted.{Done}
 
 -- the parts from the whole
 pub by-parts : {text t₀ n₀ m₀ : List ℕ} {r : ReadAnswer} {t n m : List ℕ}

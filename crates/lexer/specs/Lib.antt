@@ -7,6 +7,8 @@ pub mod Numbered
 pub mod Steps
 -- the whole answer
 pub mod Read
+-- which numbers it has
+pub mod Numbers
 -- what callers rely on of an accepted reading
 pub mod Sound
 -- what the cells hold, for callers

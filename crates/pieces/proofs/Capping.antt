@@ -64,7 +64,7 @@ number-low r n m g e h =
     (sym (capped-leb (n .value) m g) ∙ le-leb _ _ small, e ∙ ap (λ (k : ℕ). number k (n .end)) same)
 
 pub number-high : (r n : Number) (m : ℕ) → m < 2147483649 → r ≡ cappedNumber n → m < r .value
-    → (leb (n .value) m ≡ false) × (r .end ≡ n .end)
+    → leb (n .value) m ≡ false
 number-high r n m g e h =
     let v : r .value ≡ capped (n .value) = ap (λ (x : Number). x .value) e in
-    (sym (capped-leb (n .value) m g) ∙ lt-leb (capped (n .value)) m (omega arith), ap (λ (x : Number). x .end) e)
+    sym (capped-leb (n .value) m g) ∙ lt-leb (capped (n .value)) m (omega arith)

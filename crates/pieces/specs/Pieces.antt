@@ -1,5 +1,5 @@
 -- Document 01, "Text to tokens", from the left: one piece of a text at a place, and all pieces up to the end or the
--- first refusal 2 to 4. No table of names and no limit has a part in it.
+-- first refusal 2 to 4 or 43. No table of names and no limit has a part in it.
 use Prim.Native.Nat.{ℕ, zero, suc, _+_, _-_, _*_, _%_}
 use mathlib.Core.List.{List, [], _∷_}
 use mathlib.Core.Bool.{Bool, false}
@@ -93,12 +93,12 @@ slashAt s at line =
     (pick (eqb (getD s (at + 1) 0) 42) (onComment at line (commentEnd false (drop (at + 2) s) (at + 2)))
     (L.Refused (R.UnexpectedByte 47 (cursor at line))))
 
--- Above 2147483647 the token is dropped.
+-- "A positive number out of range is now refused by the lexer": 43, at the number's first byte (document 02, A2).
 unfoldable pub digitAt : List ℕ → ℕ → ℕ → Lexed
 digitAt s at line =
     let n = numberAt s at in
     pick (leb (n .value) 2147483647) (L.Token (token (T.Integer (n .value)) line at) (cursor (n .end) line))
-    (L.Skipped (cursor (n .end) line))
+    (L.Refused (R.NumberOutOfRange (cursor at line)))
 
 -- `-` and digits: below -2147483648, or no digit, is 4.
 unfoldable pub minusAt : List ℕ → ℕ → ℕ → Lexed

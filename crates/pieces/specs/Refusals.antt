@@ -30,6 +30,7 @@ factsOf (R.NotAscii line) = facts 1 line 0 (bytes "Only ASCII input is supported
 factsOf (R.CommentNotClosed c) = factsAt 2 c (bytes "Multiline comment no closed.")
 factsOf (R.UnexpectedByte b c) = factsAt 3 c (unexpected b)
 factsOf (R.NumberExpected c) = factsAt 4 c (bytes "Expected number after '-'.")
+factsOf (R.NumberOutOfRange c) = factsAt 43 c (bytes "Number out of range.")
 factsOf R.TooManyBytes = facts 31 0 0 (bytes "too many bytes.")
 factsOf (R.TooManyTokens c) = factsAt 32 c (bytes "too many tokens.")
 factsOf (R.TooManyNames c) = factsAt 33 c (bytes "too many names.")

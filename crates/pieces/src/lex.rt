@@ -36,22 +36,21 @@ pub(crate) fn lex_slash(text: &[u8], at: usize, line: u32) -> Lexed
     Lexed::Refused(Refusal::UnexpectedByte(b'/', Cursor { place: at, line }))
 }
 
-// At a digit. The Rust drops what its parse::<i32>() refuses, and goes on.
+// At a digit. The Rust drops what its parse::<i32>() refuses, and goes on; here it is refused.
 fn lex_digit(text: &[u8], at: usize, line: u32) -> Lexed
     ensures { λ r. ⌜ r ≡ digitAt (now (text .entry)) at line ⌝ }
 {
     let n = scan::lex_number(text, at);
     let value = n.value;
-    let next = Cursor { place: n.end, line };
     if value <= 2147483647 {
         let token = Token {
             value: TokenValue::Integer(value as u32),
             line: Location(line),
             place: at,
         };
-        return Lexed::Token(token, next);
+        return Lexed::Token(token, Cursor { place: n.end, line });
     }
-    Lexed::Skipped(next)
+    Lexed::Refused(Refusal::NumberOutOfRange(Cursor { place: at, line }))
 }
 
 // At a minus.

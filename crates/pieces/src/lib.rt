@@ -94,6 +94,8 @@ pub enum Refusal {
     UnexpectedByte(u8, Cursor),
     // 4, at the minus.
     NumberExpected(Cursor),
+    // 43, at the number's first digit.
+    NumberOutOfRange(Cursor),
     // 31
     TooManyBytes,
     // 32, at the token one too many.
@@ -105,7 +107,7 @@ pub enum Refusal {
 
 // What stands at a cursor, and the cursor after it.
 pub enum Lexed {
-    // A blank, a comment, or a number that is dropped.
+    // A blank or a comment.
     Skipped(Cursor),
     Name(Name, Cursor),
     Token(Token, Cursor),

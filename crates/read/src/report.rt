@@ -47,6 +47,11 @@ pub(crate) fn answer_of(refusal: Refusal) -> ReadAnswer
             Location(at.line),
             at.place,
         ),
+        Refusal::NumberOutOfRange(at) => refuse_at(
+            numbers::NUMBER_OUT_OF_RANGE,
+            Location(at.line),
+            at.place,
+        ),
         Refusal::TooManyBytes => refuse_at(numbers::TOO_MANY_BYTES, Location(0), 0),
         Refusal::TooManyTokens(at) => refuse_at(
             numbers::TOO_MANY_TOKENS,
@@ -91,6 +96,7 @@ pub(crate) fn report(message: &mut [u8], refusal: Refusal)
             at.line,
             b"Expected number after '-'.",
         ),
+        Refusal::NumberOutOfRange(at) => utils::error(message, at.line, b"Number out of range."),
         Refusal::TooManyBytes => utils::error(message, 0, b"too many bytes."),
         Refusal::TooManyTokens(at) => utils::error(message, at.line, b"too many tokens."),
         Refusal::TooManyNames(at) => utils::error(message, at.line, b"too many names."),

@@ -76,8 +76,7 @@ first-cell text k a = rw (a .lexed, a .typed) (functions-counted none (a .functi
 -- 0 is the number of an accepted text alone
 pub zero-accepts : (text : List ℕ) (k : ℕ) → Numbered text k → k ≡ 0 → Accepts text
 zero-accepts text k (inl h) e = h .0
-zero-accepts text k (inr (f, inl h)) e = absurd (omega (arith, h .0, e))
-zero-accepts text k (inr (f, inr h)) e = absurd (omega (arith, h .0, e))
+zero-accepts text k (inr (f, l)) e = absurd (omega (arith, numbers.listed-above k l, e))
 
 -- a table that is one gives no 42
 pub table-not-42 : (old table : List ℕ) (number : ℕ) (new : List ℕ) → Tabled old table number

@@ -11,17 +11,14 @@ use borrow.Author.Tests.{leb-true, ne-eqb}
 use lib.Dec.{eqb}
 use lib.ListN.{getD}
 use Rattle.utils.specs.Bytes.{pick}
-use Rattle.pieces.specs.Refusals.{factsOf}
 use Rattle.pieces.specs.declared.Token.{Token}
-use Rattle.pieces.specs.declared.Refusal as pieces
-use Rattle.pieces.specs.declared.Refusal.the-variants as R
 use Rattle.pieces.proofs.Progress.{pick-either}
 use Rattle.lexer.specs.Numbered as lexes
 use Rattle.lexer.specs.Numbered.{Part, tokensCells, namesCells}
 use Rattle.lexer.specs.Read.{lexedFrom, readingOf}
 use Rattle.lexer.specs.Decoded.{Tok, tokensOf, tokenAt}
 use Rattle.lexer.proofs.Sound.{never-cut}
-use Rattle.lexer.proofs.Accepted.{refusal-number}
+use Rattle.lexer.proofs.Numbers.{Refuses, below-gate, behind-gate, lexical-refuses, refusal-lexical, refusal-number}
 use Rattle.parser.specs.Step.{look}
 use Rattle.parser.specs.declared.Refusal.{Refusal}
 use Rattle.body.specs.Room.{Within}
@@ -45,11 +42,8 @@ use Rattle.recheck.specs.Recheck.{verdictAs, recheckOf}
 use Rattle.recheck.specs.Promise.{recheckDef}
 use Rattle.recheck.specs.Numbers.{Listed, Accepts, Numbered}
 
-low : {n : ℕ} → 1 ≤ n → n ≤ 22 → Listed n
-low h g = inl (h, g)
-
-lexing : {n : ℕ} → 31 ≤ n → n ≤ 34 → Listed n
-lexing h g = inr (inl (h, g))
+low : {n : ℕ} → 5 ≤ n → n ≤ 22 → Listed n
+low h g = inr (inl (h, g))
 
 high : {n : ℕ} → 36 ≤ n → n ≤ 38 → Listed n
 high h g = inr (inr (inl (h, g)))
@@ -60,16 +54,6 @@ own h g = inr (inr (inr (h, g)))
 fine-listed : {e : Refusal} → Fine e → Listed (e .number)
 fine-listed (Fine.low h g) = low (leb-true _ _ h) (leb-true _ _ g)
 fine-listed (Fine.high h g) = high (leb-true _ _ h) (leb-true _ _ g)
-
-lexing-listed : (r : pieces.Refusal) → Listed (factsOf r .number)
-lexing-listed (R.NotAscii line) = low (omega arith) (omega arith)
-lexing-listed (R.CommentNotClosed c) = low (omega arith) (omega arith)
-lexing-listed (R.UnexpectedByte b c) = low (omega arith) (omega arith)
-lexing-listed (R.NumberExpected c) = low (omega arith) (omega arith)
-lexing-listed R.TooManyBytes = lexing (omega arith) (omega arith)
-lexing-listed (R.TooManyTokens c) = lexing (omega arith) (omega arith)
-lexing-listed (R.TooManyNames c) = lexing (omega arith) (omega arith)
-lexing-listed (R.NameTooLong c) = lexing (omega arith) (omega arith)
 
 -- What parsing and typing make of the tokens. ------------------------------------------------------------------------
 
@@ -129,23 +113,14 @@ abbrev numberOf : Verdict → ℕ
 numberOf (accepts f symbols) = 0
 numberOf (refuses e) = e .number
 
+listed-refuses : (n : ℕ) → Listed n → Refuses n
+listed-refuses n (inl h) = lexical-refuses n h
+listed-refuses n (inr (inl h)) = below-gate (omega (arith, h .0)) (h .1)
+listed-refuses n (inr (inr (inl h))) = behind-gate (omega (arith, h .0)) (omega (arith, h .1))
+listed-refuses n (inr (inr (inr h))) = behind-gate (omega (arith, h .0)) (h .1)
+
 pub listed-above : (n : ℕ) → Listed n → 1 ≤ n
-listed-above n (inl h) = h .0
-listed-above n (inr (inl h)) = omega (arith, h .0)
-listed-above n (inr (inr (inl h))) = omega (arith, h .0)
-listed-above n (inr (inr (inr h))) = omega (arith, h .0)
-
-listed-below : (n : ℕ) → Listed n → n ≤ 41
-listed-below n (inl h) = omega (arith, h .1)
-listed-below n (inr (inl h)) = omega (arith, h .1)
-listed-below n (inr (inr (inl h))) = omega (arith, h .1)
-listed-below n (inr (inr (inr h))) = h .1
-
-listed-not-30 : (n : ℕ) → Listed n → n ≡ 30 → ⊥
-listed-not-30 n (inl h) z = omega (arith, h .1)
-listed-not-30 n (inr (inl h)) z = omega (arith, h .0)
-listed-not-30 n (inr (inr (inl h))) z = omega (arith, h .0)
-listed-not-30 n (inr (inr (inr h))) z = omega (arith, h .0)
+listed-above n l = listed-refuses n l .above
 
 module _ (old table : List ℕ) (number : ℕ) (new : List ℕ) where
   -- 42 IS THE TABLE'S: it is given where the header table isn't one ..
@@ -214,7 +189,7 @@ module _ (old table : List ℕ) (number : ℕ) (new : List ℕ) where
         → Accepts old table number new ⊎ Listed (recheckOf old table number new .answer .number)
     unfolding recheckOf pick
     by-lexing (lexes.Outcome.done toks ns) p = by-whole good toks ns p (isWhole new (tokensOf (tokensCells toks))) refl
-    by-lexing (lexes.Outcome.refused r) p = inr (rw (good, p, ne-eqb _ _ (refusal-number r)) (lexing-listed r))
+    by-lexing (lexes.Outcome.refused r) p = inr (rw (good, p, ne-eqb _ _ (refusal-number r)) (inl (refusal-lexical r)))
     by-lexing lexes.Outcome.cut p = absurd (never-cut _ new p)
 
     good-number : Accepts old table number new ⊎ Listed (recheckOf old table number new .answer .number)
@@ -242,7 +217,7 @@ module _ (old table : List ℕ) (number : ℕ) (new : List ℕ) where
       by-answer : Accepts old table number new ⊎ Listed (recheckOf old table number new .answer .number)
           → recheckOf old table number new .answer .number ≡ 42 → ⊥
       by-answer (inl a) z = omega (arith, accepted-zero a, z)
-      by-answer (inr l) z = omega (arith, listed-below _ l, z)
+      by-answer (inr l) z = listed-refuses _ l .not-table z
 
       by-table : (b : Bool) → isTable old table number ≡ b → recheckOf old table number new .answer .number ≡ 42
           → b ≡ false
@@ -268,7 +243,7 @@ module _ (old table : List ℕ) (number : ℕ) (new : List ℕ) where
 never-thirty : (old table : List ℕ) (number : ℕ) (new : List ℕ) (n : ℕ) → Numbered old table number new n
     → n ≡ 30 → ⊥
 never-thirty old table number new n (inl h) z = omega (arith, h .1)
-never-thirty old table number new n (inr (f, inl l)) z = listed-not-30 n l z
+never-thirty old table number new n (inr (f, inl l)) z = listed-refuses n l .not-gate z
 never-thirty old table number new n (inr (f, inr e)) z = omega (arith, e)
 
 module _ (old table : List ℕ) (number : ℕ) (new m t n : List ℕ) (u : Slices) where

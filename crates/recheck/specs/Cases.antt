@@ -135,9 +135,9 @@ cases =
     (block 2 [] [] 0 ∷ block 1 [] [] 0 ∷ [])
     ∷ refuses "@f { x: int = const true; }" 17 1 20 "[line 1] Error at 'true': 'int' type expected; 'bool' found"
     ∷ refuses "@f: int { nop; }" 21 1 10 "[line 1] Error at 'nop': Block terminator expected to be jump, br, or ret."
-    ∷ refuses "@f { x: int = const 2147483648; }" 10 1 14
-    "[line 1] Error at 'const': Integer or boolean constant expected."
-    ∷ accepts "@f { nop 2147483648; }" 6 1 (nop ∷ ret ∷ []) (block 2 [] [] 0 ∷ [])
+    -- by document 01 the first is 10 and the second accepted; document 02, A2: both "answer the new number"
+    ∷ refuses "@f { x: int = const 2147483648; }" 43 1 20 "[line 1] Error : Number out of range."
+    ∷ refuses "@f { nop 2147483648; }" 43 1 9 "[line 1] Error : Number out of range."
     ∷ accepted (rechecked "@f { nop; }" "@f { ret; }") 6 1 (ret ∷ []) (block 1 [] [] 0 ∷ [])
     ∷ refused (rechecked "@f { nop; }" "@f: int { nop; }") 41 1 0 "[line 1] Error : header changed."
     ∷ []

@@ -8,6 +8,7 @@ use lib.ListN.{getD}
 use Rattle.pieces.specs.declared.Token.{Token}
 use Rattle.lexer.specs.Numbered.{Part, Outcome, tokensCells, namesCells}
 use Rattle.lexer.specs.Read.{lexedFrom}
+use Rattle.lexer.specs.Numbers.{Lexical}
 use Rattle.lexer.specs.Decoded.{tokensOf}
 use Rattle.functions.specs.Functions.{Function}
 use Rattle.functions.specs.Columns.{lineAt}
@@ -17,7 +18,7 @@ use Rattle.recheck.specs.Recheck.{accepts, verdictD}
 
 -- The refusals of a new text: check's but 35, since there is no 65th function; 40, 41. 42 is the table's.
 abbrev pub Listed : ℕ → Type 0
-Listed n = ((1 ≤ n) × (n ≤ 22)) ⊎ ((31 ≤ n) × (n ≤ 34)) ⊎ ((36 ≤ n) × (n ≤ 38)) ⊎ ((40 ≤ n) × (n ≤ 41))
+Listed n = Lexical n ⊎ ((5 ≤ n) × (n ≤ 22)) ⊎ ((36 ≤ n) × (n ≤ 38)) ⊎ ((40 ≤ n) × (n ≤ 41))
 
 -- A header table in range and a new function that is accepted against it: lexing, the look at the first and the last
 -- token, parsing and typing find nothing to refuse.

@@ -100,7 +100,7 @@ parsedAs old rows number new r ts =
     (verdictD old rows number new (r .names) ts))
     (refusedWith 40 (getD rows (lineAt number) 0) 0)
 
--- "lexing of the new text alone, numbers 31, 1 to 4 and 32 to 34"
+-- "lexing of the new text alone, numbers 31, 1 to 4 and 32 to 34", and 43 (document 02, A2)
 abbrev pub lexedAs : List ℕ → List ℕ → ℕ → List ℕ → Reading → Checking
 lexedAs old rows number new r =
     pick (eqb (r .answer .number) 0) (parsedAs old rows number new r (tokensOf (r .tokens)))

@@ -10,6 +10,8 @@ pub const UNEXPECTED_BYTE: u32 = 3;
 
 pub const NUMBER_EXPECTED: u32 = 4;
 
+pub const NUMBER_OUT_OF_RANGE: u32 = 43;
+
 // Of the parser: another token than the one that is expected, and what else is missing or out of place.
 pub const TOKEN_EXPECTED: u32 = 5;
 

@@ -85,7 +85,7 @@ fn function_of(said: &Said, number: usize) -> &SaidFunction {
 /// 42", of both answers; and with a table as check wrote it there is no 42.
 pub fn fails(alone: Verdict, fresh: Verdict) -> Result<Option<Premise>, String> {
     Ok(match (alone.number, fresh.number) {
-        (1..=4 | 31..=34, _) => Some(Premise::LexesAlone),
+        (1..=4 | 31..=34 | 43, _) => Some(Premise::LexesAlone),
         (40, _) if alone.place == 0 => Some(Premise::RunsFromNameToBrace),
         (40, _) => Some(Premise::HoldsNoSecondFunction),
         (41, _) => Some(Premise::KeepsTheHeader),
@@ -93,7 +93,7 @@ pub fn fails(alone: Verdict, fresh: Verdict) -> Result<Option<Premise>, String> 
         (_, 31) => Some(Premise::StaysInsideBytes),
         (_, 32) => Some(Premise::StaysInsideTokens),
         (_, 33) => Some(Premise::StaysInsideNames),
-        (_, 1..=4 | 34) => return Err(format!("recheck says {alone}\n  a check of the edited text {fresh}")),
+        (_, 1..=4 | 34 | 43) => return Err(format!("recheck says {alone}\n  a check of the edited text {fresh}")),
         _ => None,
     })
 }

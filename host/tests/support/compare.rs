@@ -25,6 +25,8 @@ pub struct Report {
     /// Texts that the Rust was asked and that were left out, since typing came to a block that can't be reached, or ties
     /// with one: there its sources don't fix the order.
     unreachable: usize,
+    /// Texts that the Rust was asked and that were left out, since it drops a number that 43 refuses.
+    out_of_range: usize,
     /// How many texts were answered with each number.
     numbers: BTreeMap<u32, usize>,
     differing: usize,
@@ -51,16 +53,20 @@ impl Report {
             With::ModelAlone => {}
             With::Rust => self.held_to_rust += 1,
             With::ModelForTheOrder => self.unreachable += 1,
+            With::ModelForTheNumber => self.out_of_range += 1,
         }
     }
 }
 
 impl Display for Report {
     fn fmt(&self, f: &mut Formatter<'_>) -> fmt::Result {
-        let Self { texts, held_to_rust, unreachable, differing, .. } = self;
+        let Self { texts, held_to_rust, unreachable, out_of_range, differing, .. } = self;
         write!(f, "{texts} texts, {held_to_rust} of them held to the Rust")?;
         if *unreachable > 0 {
             write!(f, ", {unreachable} with an unreachable block left out of that")?;
+        }
+        if *out_of_range > 0 {
+            write!(f, ", {out_of_range} with a number out of range left out of that")?;
         }
         write!(f, "; answers")?;
         for (number, count) in &self.numbers {
@@ -92,6 +98,8 @@ enum With {
     Rust,
     /// Nothing: the order in which the Rust types the blocks isn't fixed.
     ModelForTheOrder,
+    /// Nothing: the Rust drops the number that is refused here.
+    ModelForTheNumber,
 }
 
 impl Comparison {
@@ -181,6 +189,7 @@ fn compare(depth: Depth, lent: &mut Lent, text: &[u8], rust: Option<&RustSaid>) 
     let with = match rust {
         None => With::ModelAlone,
         Some(_) if is_by_a_limit(said.number()) => With::ModelAlone,
+        Some(_) if is_out_of_range(said.number()) => With::ModelForTheNumber,
         Some(_) if order_is_open => With::ModelForTheOrder,
         Some(rust) => {
             compare_with_rust(text, &said, rust)?;
@@ -193,4 +202,9 @@ fn compare(depth: Depth, lent: &mut Lent, text: &[u8], rust: Option<&RustSaid>) 
 /// The Rust knows no limits: where one decides, the model alone is compared with.
 pub fn is_by_a_limit(number: u32) -> bool {
     (31..=38).contains(&number)
+}
+
+/// The Rust drops a number above 2147483647 and goes on: what it then says is of another text.
+pub fn is_out_of_range(number: u32) -> bool {
+    number == 43
 }

@@ -230,7 +230,7 @@ fn token_limit() -> Vec<Vec<u8>> {
         }
         texts.push(b"x ".repeat(count));
         texts.push(b"1\n".repeat(count));
-        texts.push([b"1 2147483648 ".repeat(300), b"1 ".repeat(count - 300)].concat());
+        texts.push([b"1 //\n".repeat(300), b"1 ".repeat(count - 300)].concat());
     }
     texts
 }

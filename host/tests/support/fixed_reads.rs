@@ -100,7 +100,7 @@ fn words() -> Vec<Titled> {
     texts
 }
 
-/// Numbers at the ends of 32 and 64 bits, dropped ones, and what isn't one.
+/// Numbers at the ends of 32 and 64 bits, those out of range, and what isn't one.
 fn numbers() -> Vec<Titled> {
     let (zeros, nines) = ("0".repeat(100), "9".repeat(40));
     let (long, minus_nines) = (format!("1{zeros}"), format!("-{nines}"));
@@ -112,8 +112,9 @@ fn numbers() -> Vec<Titled> {
         "-", "- 5", "--5", "-\n5", "-a", "-_", "+5", "1-2", "1 - 2", "1_0", "1a", "12abc34", "2147483648a",
         "2147483648;2147483648\n2147483648 7", "1.5", "1.a", "1@a", "0x10", "5 -5 - 5",
     ];
-    let dropped = titled("a dropped number on each line", ["9999999999\n9999999999\n9999999999\nx"]);
-    [titled("numbers", texts), dropped].concat()
+    let lines = titled("a number out of range on a later line", ["\n# 9999999999\n\n 9999999999\n9999999999\nx"]);
+    let others = ["$ 9999999999", "9999999999 $", "-9999999999 9999999999", "9999999999 -9999999999", "/*9999999999"];
+    [titled("numbers", texts), lines, titled("a number out of range and another refusal", others)].concat()
 }
 
 /// Comments closed, not closed, in each other, and beside tokens.
@@ -210,7 +211,7 @@ fn after_the_last_but_one() -> Vec<Rest> {
     let long = format!(" {}", "x".repeat(NAME + 1));
     let rests: [(&str, &str); 9] = [
         ("and the end", ""),
-        ("a dropped number and the end", "2147483648"),
+        ("a number out of range", "2147483648"),
         ("a comment and the end", "//x"),
         ("a newline and the end", "\n"),
         ("an unexpected byte", "$"),
@@ -225,11 +226,10 @@ fn after_the_last_but_one() -> Vec<Rest> {
 /// What may follow as many tokens as there is room for.
 pub fn after_all_tokens() -> Vec<Rest> {
     let (long, long_global) = (format!(" {}", "x".repeat(NAME + 1)), format!("\n@{}", "x".repeat(NAME)));
-    let rests: [(&str, &str); 20] = [
+    let rests: [(&str, &str); 19] = [
         ("and the end", ""),
         ("a newline and the end", "\n"),
-        ("a dropped number and the end", " 2147483648\n"),
-        ("a dropped number and a token", " 2147483648 ;"),
+        ("a number out of range", "\n 2147483648 ;"),
         ("a comment and the end", "/* */"),
         ("a line comment and the end", "#\n"),
         ("comments and a token", "//\n\n/**/;"),
@@ -254,13 +254,11 @@ fn token_limit() -> Vec<Titled> {
     let less = TOKENS - 1;
     let mut texts = with_rests(&format!("{less} tokens,"), &b";".repeat(less), after_the_last_but_one());
     texts.extend(with_rests(&format!("{TOKENS} tokens,"), &b";".repeat(TOKENS), after_all_tokens()));
-    let among_dropped = [b"1 2147483648 ".repeat(500), b"1 ".repeat(less - 500)].concat();
     texts.extend([
         (format!("{less} names that are one"), b"x ".repeat(less)),
         (format!("{TOKENS} names that are one"), b"x ".repeat(TOKENS)),
         (format!("{less} tokens on as many lines"), b";\n".repeat(less)),
         (format!("{TOKENS} numbers"), b"1 ".repeat(TOKENS)),
-        (format!("{less} numbers among dropped ones"), among_dropped),
     ]);
     texts
 }
@@ -268,7 +266,7 @@ fn token_limit() -> Vec<Titled> {
 /// What may follow as many names as there is room for.
 pub fn after_all_names() -> Vec<Rest> {
     let (last, long) = (&short_names(NAMES)[3 * NAMES - 3..], format!("\n{}", "y".repeat(NAME + 1)));
-    let rests: [(&str, &str); 9] = [
+    let rests: [(&str, &str); 10] = [
         ("the first again", "Aa"),
         ("the last again", str::from_utf8(last).expect("ASCII")),
         ("a word", "nop"),
@@ -277,7 +275,8 @@ pub fn after_all_names() -> Vec<Rest> {
         ("a name too long", &long),
         ("an unexpected byte", "\n$"),
         ("a name in a comment", "/* new */ // new"),
-        ("a number", "2147483648 1"),
+        ("a number", "2147483647 1"),
+        ("a number out of range", " 2147483648 new"),
     ];
     rests.map(|(word, rest)| (word, rest.to_owned())).to_vec()
 }

@@ -120,10 +120,11 @@ fn documents() -> Vec<Recheck> {
 }
 
 fn lexing() -> Vec<Recheck> {
-    let texts: [&[u8]; 17] = [
+    let texts: [&[u8]; 20] = [
         b"\xff", b"\n@f { nop; }\xc3", b"@f { nop; } $ \x80", b"/*", b"@f {\n nop; /* }", b"@f { nop; /***/ }",
         b"/* @f { nop; }", b"$", b"@f { nop; }\n@", b"@f {\n x: int =\n const $5; }", b" $", b"@g { $", b"@f { . }",
         b"-", b"@f { x: int = const -; }", b"@f { nop\n-2147483649; }", b"@f { nop -2147483648; }",
+        b"@f { x: int =\n const 2147483648; }", b"2147483648", b"@f { nop; }2147483648",
     ];
     titled("lexing, with lines from the replaced function's", THIRD, 0, texts).collect()
 }
@@ -135,7 +136,7 @@ fn not_one_function() -> Vec<Recheck> {
     ];
     let no_brace = [
         "@f", "@f { nop;", "@f { nop; };", "@f { nop; } ", "@f { nop; }\n", "@f { nop; }//", "@f { nop; } # }",
-        "@f { nop; }/* */", "@f { nop; }2147483648", "@f { nop; } @g", "@g { nop; } ", "@f { nop nop; } ",
+        "@f { nop; }/* */", "@f { nop; }2147483647", "@f { nop; } @g", "@g { nop; } ", "@f { nop nop; } ",
     ];
     let second = ["@f { nop; } @g { nop; }", "@f {\nnop; }\n@f { ret; }", "@f { nop; } @g }", "@f { ret x; } @g { }"];
     let behind =
@@ -201,7 +202,7 @@ fn headers() -> Vec<Recheck> {
 fn bodies() -> Vec<Recheck> {
     let refused = [
         "@f { nop }", "@f { x int = id y; }", "@f { print 5; }", "@f { call f; }", "@f { jmp x; }",
-        "@f { x: y = id z; }", "@f { x: int = const ; }", "@f { x: int = const 2147483648; }", "@f { x: int = ; }",
+        "@f { x: y = id z; }", "@f { x: int = const ; }", "@f { x: int = const nop; }", "@f { x: int = ; }",
         "@f {\nret; nop; }", "@f { .a: nop;\n.a: nop; }", "@f {\njmp .z; }", "@f { .a: br q .a .z; }", "@f { }",
         "@f { nop; .a: .b: nop; }", "@f { .a: }", "@f { nop; .a: jmp .b; .c: .d: nop; }",
     ];

@@ -1,7 +1,7 @@
 //! The edges of each rule, in document 01's order: under each rule the least texts that keep it and that break it.
 
 /// The rules of lexing, each with its texts, several edges in a text.
-pub const LEXING: [(&str, &[&str]); 7] = [
+pub const LEXING: [(&str, &[&str]); 8] = [
     ("blanks and lines", &[" \t\r", "x\n\r\n x"]),
     (
         "every word and every token of one byte",
@@ -12,7 +12,8 @@ pub const LEXING: [(&str, &[&str]); 7] = [
         ],
     ),
     ("comments eat their newlines", &["// /*\n\nx", "/*\n\n*/\nx", "\n /*\n*"]),
-    ("numbers side by side", &["00000000007 99999999999999999999", "-0-1"]),
+    ("numbers side by side", &["00000000007 02147483647-2147483648", "-0-1"]),
+    ("a number out of range", &["00000000007\n 99999999999999999999", "2147483648$"]),
     ("what begins a name, and where it ends", &["._", "x[", "x\n $", "x@y.z", "int ints Int @int .int"]),
     ("one table for all kinds of names", &["x @x .x x", "aZ_9 aZ_ zA0 aZ_9"]),
     (

@@ -34,11 +34,10 @@ what the message leaves out. LINE and COLUMN are the file's, of recheck NEW's, a
 count bytes. A refusal of no place in the text has FILE alone.
     The line in a message, [line N], is counted as the Rust original counts: from 1, and one more for each newline that
     is not in a comment; of recheck from the line of the function that is replaced. A note says where that differs.
-Warnings are of accepted texts that don't do what they seem to, on standard error in the same form:
+Warnings are of texts that check or recheck accepts and that don't do what they seem to, on standard error in that form:
     no-fall-through   a block without jmp, br or ret before a label: it returns, and doesn't go on with the label's block
     dead-block        a block that nothing goes to
     never-set         a br's condition, or what a print prints, that no operation of the function sets and no formal is
-    dropped-number    a number above 2147483647, which is dropped
 Refusals are on standard output, with --dot on standard error; with --html both are in the page. Bytes of a text outside
 printable ASCII are shown as \\x and two hexadecimal digits, tabs of the line shown as four blanks.
 
@@ -49,7 +48,7 @@ JSON: {\"file\":FILE,\"number\":0,\"line\":0,\"place\":0,\"message\":\"\",\"toke
     KIND is local, global, label, integer, END_OF_FILE, or the token's own text. VALUE is the name's number, the integer,
     or null. LINE is counted as in a message. PLACE counts bytes from 0. Bytes of a text outside printable ASCII are \\u00
     and two hexadecimal digits.
-    A WARNING is {\"kind\":WORD,\"place\":PLACE,\"file_line\":L,\"file_column\":C,\"message\":SENTENCE}.
+    A WARNING is {\"kind\":WORD,\"place\":PLACE,\"file_line\":L,\"file_column\":C,\"message\":SENTENCE}; read has none.
     check adds \"functions\":[FUNCTION,..] behind an accepted text's names. A FUNCTION is
     {\"token\":T,\"name\":N,\"line\":LINE,\"name_place\":PLACE,\"name_length\":BYTES,\"formals\":[[N,TYPE],..],\"ret\":TYPE,
     \"types\":[TYPE,..],\"type\":F,\"labels\":[[N,T,BLOCK],..],\"end_token\":T,\"end_place\":PLACE,\"blocks\":[{\"ops\":[OP,..],

@@ -17,15 +17,14 @@ pub fn read(names: &[OsString], options: Options, output: &mut impl Write, statu
     each_text(names, output, status, |source, output, status| {
         let mut reader = Reader::new();
         let answer = reader.read(source.text);
-        let warnings = answer.as_ref().map(|tokens| tokens.warnings()).unwrap_or_default();
-        raise(status, &answer, &warnings, options);
+        raise(status, &answer, &[], options);
         match (options.form, &answer) {
             (Form::Json, answer) => json::write_read(output, asked(source), answer)?,
             (_, Ok(_)) if options.quiet => {}
             (_, Ok(tokens)) => human::tokens(output, style, source, tokens)?,
             (_, Err(refusal)) => human::refused(output, style, source, refusal, &notes_on(source, refusal))?,
         }
-        warn(output, options, source, &warnings)
+        Ok(())
     })
 }
 

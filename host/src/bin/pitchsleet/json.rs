@@ -18,7 +18,7 @@ pub fn write_read(out: &mut impl Write, asked: Asked<'_>, answer: &Result<Tokens
     match answer {
         Ok(tokens) => {
             accepted(out, asked, tokens)?;
-            end_accepted(out, asked, &tokens.warnings())
+            end_accepted(out, asked, &[])
         }
         Err(refusal) => refused(out, asked, refusal, ""),
     }

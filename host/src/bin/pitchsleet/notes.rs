@@ -1,6 +1,6 @@
 //! What a person wants to know of a refusal and its message doesn't say.
 use pitchsleet::raw::TEXT_BYTES;
-use pitchsleet::{Headers, Identifier, Reader, Refusal, RefusalKind, Token, TokenValue, Tokens, WarningKind};
+use pitchsleet::{Headers, Identifier, Reader, Refusal, RefusalKind, Token, TokenValue, Tokens};
 
 use crate::source::Span;
 
@@ -49,6 +49,7 @@ fn at(place: usize, length: usize, words: impl Into<String>) -> Note {
 fn on_the_text(refusal: &Refusal, text: &[u8]) -> Vec<Note> {
     match refusal.kind() {
         RefusalKind::TooManyBytes => vec![said(format!("the text has more than {TEXT_BYTES} bytes"))],
+        RefusalKind::NumberOutOfRange => vec![said(format!("the largest number is {}", i32::MAX))],
         RefusalKind::NotAscii => {
             let first = text.iter().position(|byte| !byte.is_ascii());
             first.map(|place| at(place, 1, "this is the first byte above 127")).into_iter().collect()
@@ -67,7 +68,6 @@ fn on_tokens(refusal: &Refusal, kind: RefusalKind, tokens: &Tokens<'_, '_>) -> V
     let note = match kind {
         RefusalKind::Undefined => undefined(refusal, tokens, token),
         RefusalKind::EmptyBlock => empty_block(tokens, token),
-        RefusalKind::NoConstant => dropped_constant(tokens, token),
         _ => None,
     };
     numbered_name(refusal, tokens).into_iter().chain(note).collect()
@@ -133,15 +133,6 @@ fn empty_block(tokens: &Tokens<'_, '_>, name: usize) -> Option<Note> {
         (true, _) => format!("the block '{}' has no operation", label.spelling),
     };
     Some(at(label.place, label.spelling.len(), words))
-}
-
-/// The number that was dropped between the word `const` and what stands there instead of a constant.
-fn dropped_constant(tokens: &Tokens<'_, '_>, word: usize) -> Option<Note> {
-    let (start, end) = (tokens.get(word)?.place, tokens.get(word + 1)?.place);
-    let warnings = tokens.warnings();
-    let dropped = |kind| kind == WarningKind::DroppedNumber;
-    let number = warnings.iter().find(|warning| dropped(warning.kind) && (start..end).contains(&warning.place))?;
-    Some(at(number.place, number.spelling.len(), "this number is too large: above 2147483647 one is dropped"))
 }
 
 /// Where a message's line isn't the file's: which it is, and why.

@@ -13,9 +13,11 @@ const SYMBOLS: [&str; 8] = ["(", ")", ",", ":", ";", "=", "{", "}"];
 /// What stands at the front of a text, and how many bytes it takes.
 enum Piece {
     Newline,
-    /// Blanks, comments and numbers that are dropped.
+    /// Blanks and comments.
     Nothing(usize),
     Integer(i64, usize),
+    /// A number above 2147483647.
+    OutOfRange(usize),
     Fixed(&'static str),
     Name(&'static str, usize),
     Refused(u32, String),
@@ -49,17 +51,17 @@ pub fn read(text: &[u8]) -> Said {
 
 /// The answer to a text whose first line has a number.
 pub fn read_from(line: u32, text: &[u8]) -> Said {
-    Reading::new(line, text, true).said()
+    Reading::new(line, text, false).said()
 }
 
-/// The answer that a text would have if there were no limits: the Rust's own.
-pub fn read_without_limits(text: &[u8]) -> Said {
-    Reading::new(1, text, false).said()
+/// The answer that a text would have if there were no limits and a number out of range were dropped: the Rust's own.
+pub fn read_as_rust(text: &[u8]) -> Said {
+    Reading::new(1, text, true).said()
 }
 
 struct Reading<'t> {
     text: &'t [u8],
-    is_limited: bool,
+    is_as_rust: bool,
     line: u32,
     place: usize,
     tokens: Vec<SaidToken>,
@@ -68,9 +70,9 @@ struct Reading<'t> {
 }
 
 impl<'t> Reading<'t> {
-    fn new(line: u32, text: &'t [u8], is_limited: bool) -> Self {
+    fn new(line: u32, text: &'t [u8], is_as_rust: bool) -> Self {
         let (tokens, names, numbers) = (Vec::new(), Vec::new(), HashMap::new());
-        Self { text, is_limited, line, place: 0, tokens, names, numbers }
+        Self { text, is_as_rust, line, place: 0, tokens, names, numbers }
     }
 
     fn said(mut self) -> Said {
@@ -82,7 +84,7 @@ impl<'t> Reading<'t> {
 
     /// "Order: 31, 1, then from left to right."
     fn whole(&mut self) -> Result<(), Stop> {
-        if self.is_limited && self.text.len() > BYTES {
+        if !self.is_as_rust && self.text.len() > BYTES {
             return Err(Stop { number: 31, line: 0, place: 0, words: "too many bytes.".to_owned() });
         }
         if self.text.iter().any(|&byte| byte > 127) {
@@ -110,6 +112,12 @@ impl<'t> Reading<'t> {
                 self.token("integer", Some(value))?;
                 length
             }
+            Piece::OutOfRange(length) => {
+                if !self.is_as_rust {
+                    self.stop(43, "Number out of range.")?;
+                }
+                length
+            }
             Piece::Fixed(kind) => {
                 self.token(kind, None)?;
                 kind.len()
@@ -128,14 +136,14 @@ impl<'t> Reading<'t> {
     /// "For one name 34 comes before 33, and both before 32."
     fn name(&mut self, length: usize) -> Result<usize, Stop> {
         let spelling = &self.text[self.place..][..length];
-        if self.is_limited && length > NAME {
+        if !self.is_as_rust && length > NAME {
             self.stop(34, "name too long.")?;
         }
         if let Some(&known) = self.numbers.get(spelling) {
             return Ok(known);
         }
         let number = self.names.len();
-        if self.is_limited && number == NAMES {
+        if !self.is_as_rust && number == NAMES {
             self.stop(33, "too many names.")?;
         }
         self.numbers.insert(spelling, number);
@@ -145,7 +153,7 @@ impl<'t> Reading<'t> {
     }
 
     fn token(&mut self, kind: &'static str, value: Option<i64>) -> Result<(), Stop> {
-        if self.is_limited && self.tokens.len() == TOKENS {
+        if !self.is_as_rust && self.tokens.len() == TOKENS {
             self.stop(32, "too many tokens.")?;
         }
         self.tokens.push(SaidToken { kind, value, line: self.line, place: self.place });
@@ -190,12 +198,12 @@ fn comment_length(inside: &[u8]) -> Option<usize> {
     }
 }
 
-/// "Above 2147483647 the token is dropped."
+/// "A positive number out of range is now refused by the lexer" (document 02, A2).
 fn positive(text: &[u8]) -> Piece {
     let length = digits_length(text);
     match value_of(&text[..length]) {
         Some(value) if value <= 2_147_483_647 => Piece::Integer(value, length),
-        _ => Piece::Nothing(length),
+        _ => Piece::OutOfRange(length),
     }
 }
 

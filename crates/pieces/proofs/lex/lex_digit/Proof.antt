@@ -28,7 +28,7 @@ returns-2 c =
     let high =
     number-high (lex-number .result) (numberAt (now (a .text)) (a .at)) 2147483647 (omega arith) (lex-number .ensures)
     (if1 .left) in
-    rw (high .0, high .1)
+    rw high
 
 pub lex-digit-spec : {M : Type 1} → statement M
 lex-digit-spec =

@@ -44,7 +44,7 @@ returns-3 c =
     let high =
     number-high (lex-number .result) (numberAt (now (a .text)) (a .at + 1)) 2147483648 (omega arith)
     (lex-number .ensures) (if2 .left) in
-    rw (← peek .ensures, ← is-digit .ensures, not-false (is-digit .result) (if1 .left), high .0)
+    rw (← peek .ensures, ← is-digit .ensures, not-false (is-digit .result) (if1 .left), high)
 
 pub lex-minus-spec : {M : Type 1} → statement M
 lex-minus-spec =

@@ -9,7 +9,7 @@ answer-of-spec =
     tie.close
     (tie.spec (λ c. search needs) (λ c κs. search needs) (λ c. search needs) (λ c κs. search place-as)
     (λ c. search needs) (λ c κs. search place-as) (λ c. search needs) (λ c κs. search place-as) (λ c. search needs)
-    (λ c κs. search needs) (λ c. search needs) (λ c κs. search place-as) (λ c. search needs) (λ c κs. search place-as)
-    (λ c. search needs) (λ c κs. search place-as) (λ c. search answer-as) (λ c. search answer-as)
+    (λ c κs. search place-as) (λ c. search needs) (λ c κs. search needs) (λ c. search needs) (λ c κs. search place-as)
+    (λ c. search needs) (λ c κs. search place-as) (λ c. search needs) (λ c κs. search place-as) (λ c. search answer-as)
     (λ c. search answer-as) (λ c. search answer-as) (λ c. search answer-as) (λ c. search answer-as)
-    (λ c. search answer-as) (λ c. search answer-as))
+    (λ c. search answer-as) (λ c. search answer-as) (λ c. search answer-as) (λ c. search answer-as))
