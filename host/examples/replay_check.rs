@@ -149,8 +149,8 @@ fn hold_rechecks_to_rust(oracle: &mut Oracle, again: &[Recheck]) -> Held {
     held
 }
 
-/// Whether the Rust has a word in an answer: it knows no limits, and no order of blocks that can't be reached; and where a
-/// number is refused it has dropped it.
+/// Whether the Rust has a word in an answer: it knows no limits, and no order of blocks that can't be reached, and it drops a
+/// number that is refused here.
 fn is_owed(checked: &Checked) -> bool {
     let number = checked.said.number();
     !is_by_a_limit(number) && !is_out_of_range(number) && !checked.order_is_open

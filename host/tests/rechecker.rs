@@ -284,6 +284,7 @@ fn lexical_numbers() {
     assert_eq!(refusal_of(I, "@i $"), told(3, 1, 3, ": Unexpected token: '$'."));
     assert_eq!(refusal_of(B, "@b # \n\n$"), told(3, 5, 7, ": Unexpected token: '$'."));
     assert_eq!(refusal_of(B, "@b {\nx: int = const -; }"), told(4, 5, 20, ": Expected number after '-'."));
+    assert_eq!(refusal_of(B, "@b {\nx: int = const 2147483648; }"), told(43, 5, 20, ": Number out of range."));
     assert_eq!(refusal_of(B, &" ".repeat(16_385)), told(31, 0, 0, ": too many bytes."));
     let tokens = |nops: usize| format!("@v\n{{{}}}", "nop;".repeat(nops));
     assert_eq!(refusal_of(V, &tokens(2_047)), told(32, 3, 4 + 4 * 2_047, ": too many tokens."));

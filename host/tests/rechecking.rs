@@ -49,7 +49,7 @@ fn generated_edits() {
     for number in [0].into_iter().chain(5..=22).chain(36..=38) {
         assert!(report.answered(number) > 0, "no edit is answered with {number}");
     }
-    for number in [0].into_iter().chain(2..=22).chain([36, 37, 40, 41, 42]) {
+    for number in [0].into_iter().chain(2..=22).chain([36, 37, 40, 41, 42, 43]) {
         assert!(report.answered_by_other_tables(number) > 0, "no edit with another table is answered with {number}");
     }
     for premise in Premise::ALL {
@@ -73,7 +73,7 @@ fn fixed_rechecks() {
     comparison.all(rechecks::all().iter().filter_map(Recheck::edit));
     let report = comparison.report;
     assert!(report.is_clean(), "{report}");
-    for number in (0..=22).chain(31..=34).chain(36..=38).chain(40..=42) {
+    for number in (0..=22).chain(31..=34).chain(36..=38).chain(40..=43) {
         assert!(report.answered_by_other_tables(number) > 0, "no fixed recheck is answered with {number}");
     }
 }
@@ -140,10 +140,11 @@ fn texts_of_document_01() {
 /// Each number that a new text can have, with line, place and message.
 #[test]
 fn each_number() {
-    let cases: [(&str, u32, usize, &str); 24] = [
+    let cases: [(&str, u32, usize, &str); 25] = [
         ("@v {\n /* }", 2, 6, ": Multiline comment no closed."),
         ("@v { $ }", 3, 5, ": Unexpected token: '$'."),
         ("@v { x: int = const -; }", 4, 20, ": Expected number after '-'."),
+        ("@v { x: int = const 2147483648; }", 43, 20, ": Number out of range."),
         ("@v { nop }", 5, 9, "at '}': ';' expected."),
         ("@v { print 5; }", 6, 11, "at '5': Local identifier expected."),
         ("@v { call f; }", 7, 10, "at 'local_1': Global identifier expected."),
@@ -273,10 +274,12 @@ fn header_changed() {
 /// What comes first, where a text has two faults.
 #[test]
 fn orders() {
-    let cases: [(u32, &[u8], u32); 21] = [
+    let cases: [(u32, &[u8], u32); 23] = [
         (V, b"@v { nop; } $ \xff", 1),
         (V, b" $", 3),
         (V, b"@w { $", 3),
+        (V, b" 2147483648", 43),
+        (V, b"@w { 2147483648 $", 43),
         (V, b"@v { nop nop; } ", 40),
         (V, b"@w { nop; } ", 40),
         (V, b"nop @v { nop; }", 40),

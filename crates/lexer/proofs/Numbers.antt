@@ -24,7 +24,7 @@ refusal-lexical (R.TooManyTokens c) = inr (inl (omega arith, omega arith))
 refusal-lexical (R.TooManyNames c) = inr (inl (omega arith, omega arith))
 refusal-lexical (R.NameTooLong c) = inr (inl (omega arith, omega arith))
 
--- a number that is none of 0, of 30, which is the gate's, and of 42, which is the header table's
+-- a number that is not 0, not 30, which is the gate's, and not 42, which is the header table's
 pub record Refuses (n : ℕ) : Type 0 where
   pub above : 1 ≤ n
   pub not-gate : n ≡ 30 → ⊥
@@ -46,7 +46,7 @@ lexical-refuses n (inr (inr h)) =
 pub refusal-number : (r : Refusal) → factsOf r .number ≡ 0 → ⊥
 refusal-number r e = omega (arith, e, lexical-refuses _ (refusal-lexical r) .above)
 
--- EVERY NUMBER OF A READING IS LEXICAL, and is 0 exactly where the text lexes
+-- EVERY NUMBER OF A READING IS 0, exactly where the text lexes, OR LEXICAL
 pub every-number : (line : ℕ) (text : List ℕ) → Numbered line text (readFrom line text .answer .number)
 every-number line text = by-lexing (lexedFrom line text) refl
   where

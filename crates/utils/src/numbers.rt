@@ -1,4 +1,5 @@
-// Document 01's numbers (docs/INTERFACE.md has the message of each): of a text that is accepted, and of refusals.
+// Document 01's numbers, and document 02's 43 (docs/INTERFACE.md has the message of each): of a text that is accepted,
+// and of refusals.
 pub const ACCEPTED: u32 = 0;
 
 // Of the reading of a text.

@@ -47,11 +47,11 @@ fn rules() -> Vec<Titled> {
 
 /// Refusals of reading, which are refusals of checking.
 fn reading() -> Vec<Titled> {
-    let texts: [&[u8]; 19] = [
+    let texts: [&[u8]; 20] = [
         b"\x80", b"@f { nop; }\xc3", b"@f { ret; nop; } # \xe9", b"/*", b"@f { nop; /* }", b"@f { } /***/", b"$",
         b"@f { x: int = const $5; }", b"@f { nop; }\n@", b"\0", b"@f { } _", b"-", b"@f { x: int = const -; }",
         b"@f { } -2147483649", b"\n\n/", b"@f { . }", b"2147483648", b"@f {\n ret x; nop; 9999999999 }",
-        b"@f { } 2147483648 $",
+        b"@f { } 2147483648 $", b"2147483648 \x80",
     ];
     titled("refused by reading", texts)
 }

@@ -113,8 +113,20 @@ fn numbers() -> Vec<Titled> {
         "2147483648;2147483648\n2147483648 7", "1.5", "1.a", "1@a", "0x10", "5 -5 - 5",
     ];
     let lines = titled("a number out of range on a later line", ["\n# 9999999999\n\n 9999999999\n9999999999\nx"]);
-    let others = ["$ 9999999999", "9999999999 $", "-9999999999 9999999999", "9999999999 -9999999999", "/*9999999999"];
-    [titled("numbers", texts), lines, titled("a number out of range and another refusal", others)].concat()
+    let (long_name, before_long) =
+        (format!("{} 9999999999", "x".repeat(NAME + 1)), format!("9999999999 {}", "x".repeat(NAME + 1)));
+    let others = [
+        "$ 9999999999", "9999999999 $", "-9999999999 9999999999", "9999999999 -9999999999", "/*9999999999",
+        "9999999999/*", &long_name, &before_long,
+    ];
+    let no_numbers = ["x2147483648 @f2147483648 .a2147483648 -2147483648 /* 2147483648 */ # 9999999999"];
+    [
+        titled("numbers", texts),
+        lines,
+        titled("a number out of range and another refusal", others),
+        titled("digits in names and comments", no_numbers),
+    ]
+    .concat()
 }
 
 /// Comments closed, not closed, in each other, and beside tokens.
@@ -392,15 +404,15 @@ fn random_pieces(dice: &mut Drawn, with_odd_ones: bool) -> Vec<u8> {
     text.into_bytes()
 }
 
-const WORDS: [&str; 27] = [
+const WORDS: [&str; 26] = [
     "x", "y", "v0", "v1", "long_name", "@f", "@main", "@g2", ".a", ".b1", ".loop", "0", "1", "42", "-1", "-0",
-    "2147483647", "2147483648", "-2147483648", ":", ";", ",", "=", "(", ")", "{", "}",
+    "2147483647", "-2147483648", ":", ";", ",", "=", "(", ")", "{", "}",
 ];
 const GAPS: [&str; 21] = [
     " ", " ", " ", " ", " ", " ", " ", " ", "\n", "\n", "\n", "\n", "\t", "\r\n", "  ", "# c\n", "// d\n", "/* e */",
     "/* f\n */", "/**/", "\n\n",
 ];
-const ODD: [&str; 11] = ["-", "@", ".", "/", "/*", "_", "$", "-2147483649", "\0", "/***/", "*"];
+const ODD: [&str; 12] = ["-", "@", ".", "/", "/*", "_", "$", "-2147483649", "2147483648", "\0", "/***/", "*"];
 
 fn random_bytes(dice: &mut Drawn, end: Option<usize>) -> Vec<u8> {
     let length = 1 + dice.below(40);

@@ -1,5 +1,6 @@
-//! Document 01's reading, checking and rechecking, written from its sentences. It has no code in common with the proved crates or with
-//! the Rust, and it alone decides what the limits do and what an empty block is, which the Rust doesn't have.
+//! Document 01's reading, checking and rechecking, with what has landed of document 02 (A2), written from their sentences. It
+//! has no code in common with the proved crates or with the Rust, and it alone decides what the limits do, what a number out of
+//! range is and what an empty block is, which the Rust doesn't have.
 mod parsing;
 pub mod reading;
 mod rechecking;
