@@ -1,4 +1,6 @@
 // The new function alone: parsed, held against the replaced one's header, and typed among the old headers.
+#![tactic(auto)]
+
 ghost use Rattle.std.specs.Prelude.{◌≡◌, true, ◌≤◌, length, get_or};
 ghost use Rattle.lexer.specs.Decoded.{tokens_of};
 ghost use Rattle.body.specs.Room.{Within};

@@ -1,4 +1,6 @@
 // A function's body: parse_function_body of bril-lib/src/parser.rs. Its items go to their records as they are read.
+#![tactic(auto)]
+
 mod item;
 pub mod kinds;
 pub mod records;
@@ -17,7 +19,7 @@ use pieces::Identifier;
 pub const ITEM_CELLS: usize = 8;
 
 // What an item's last two cells hold, by its kind.
-#[derive(Drop)]
+#[derive(Clone, Copy)]
 pub enum Last {
     // The right operand and its type, the label of a label or a `jmp`, or nothing.
     Name(Identifier, u32),
@@ -28,7 +30,7 @@ pub enum Last {
 }
 
 // An item (docs/INTERFACE.md): the result and the left operand, each with its type, and what its kind has besides.
-#[derive(Drop)]
+#[derive(Clone, Copy)]
 pub struct ItemRecord {
     pub kind: u32,
     pub token: u32,
@@ -40,7 +42,7 @@ pub struct ItemRecord {
 }
 
 // Where to go on behind a body, and how many items, arguments and labels it has.
-#[derive(Drop)]
+#[derive(Clone, Copy)]
 pub struct Closed {
     pub next: usize,
     pub items: usize,
@@ -48,14 +50,14 @@ pub struct Closed {
     pub labels: usize,
 }
 
-#[derive(Drop)]
+#[derive(Clone, Copy)]
 pub enum BodyRead {
     Done(Closed),
     Refused(Refusal),
 }
 
 // An operation's record, how many arguments there are with its own, and the index to go on at.
-#[derive(Drop)]
+#[derive(Clone, Copy)]
 pub enum ItemRead {
     Done {
         record: ItemRecord,
@@ -67,7 +69,7 @@ pub enum ItemRead {
 
 // The loop's state: the next token, the next free item and argument, how many labels there are, what stands before
 // (as turns.rt numbers it), and the last operation's token.
-#[derive(Drop)]
+#[derive(Clone, Copy)]
 pub struct Going {
     pub at: usize,
     pub items: usize,
@@ -77,7 +79,7 @@ pub struct Going {
     pub last: u32,
 }
 
-#[derive(Drop)]
+#[derive(Clone, Copy)]
 pub enum Turn {
     On(Going),
     // Items and arguments as in `Going`.

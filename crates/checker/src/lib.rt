@@ -1,4 +1,6 @@
 // Any text to typed functions with blocks and edges, or one refusal.
+#![tactic(auto)]
+
 ghost use Rattle.std.specs.Prelude.{◌≡◌, ◌*◌, ◌≤◌, length, take};
 ghost use Rattle.utils.specs.Bytes.{pad_to};
 ghost use Rattle.lexer.specs.Decoded.{tokens_of};
@@ -20,7 +22,7 @@ use utils::{clear_from, limits, numbers};
 
 // What `check` answers: document 01's number, line and place, and how many records each slice has.
 #[repr(C)]
-#[derive(Drop)]
+#[derive(Clone, Copy)]
 pub struct CheckAnswer {
     pub number: u32,
     pub line: u32,

@@ -11,7 +11,7 @@ use Rattle.pieces.specs.declared.Token.{Token}
 use Rattle.pieces.specs.declared.Identifier.{Identifier}
 use Rattle.lexer.specs.Numbered as lexes
 use Rattle.lexer.specs.Numbered.{Part, names_cells}
-use Rattle.lexer.specs.Read.{lexed_from}
+use Rattle.lexer.specs.Read.{lexed_from, reading_of}
 use Rattle.lexer.specs.Decoded.{Tok, name_of}
 use Rattle.lexer.proofs.Same.{same_bytes-refl}
 use Rattle.parser.specs.Moved.{SimName}
@@ -52,7 +52,7 @@ rechecked-low : (old table : List ℕ) (k : ℕ) (new : List ℕ) (toks : List T
 unfolding recheck_of function_alone then_function pick
 rechecked-low old table k new toks ns g t p w h e =
     rw (t, p, w, h, e)
-    (answer-low new _ (tokens_in toks) _ _
+    (answer-low new (reading_of (lexes.Outcome.done toks ns)) (tokens_in toks) _ _
     (typed_as g (function_typed (tokens_in toks) (globals_spelled old table new (names_cells ns)) g untyped))
     (typed-low g (function-fine (tokens_in toks) (globals_spelled old table new (names_cells ns)) g untyped)))
 

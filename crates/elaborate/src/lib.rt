@@ -1,4 +1,6 @@
 // The types of operands, written once a function is typed: what Sema's analyze_op hands back in the Rust.
+#![tactic(auto)]
+
 ghost use Rattle.std.specs.Prelude.{◌≡◌, ℕ, ◌+◌, ◌*◌, ◌≤◌, ◌<◌, length, get_or, set};
 ghost use Rattle.body.specs.Records.{item_record};
 ghost use Rattle.functions.specs.Columns.{type_at, table_size};

@@ -1,4 +1,6 @@
 // Cells as bytes. They go out little-endian, at the offsets of docs/INTERFACE.md.
+#![tactic(auto)]
+
 pub mod check;
 pub mod layout;
 

@@ -1,4 +1,6 @@
 // The functions of a text: parse and parse_function of bril-lib/src/parser.rs, with Unit of ir.rs.
+#![tactic(auto)]
+
 mod build;
 pub mod columns;
 pub mod header;
@@ -21,7 +23,7 @@ use parser::{Refusal, types};
 use pieces::{Identifier, kinds};
 
 // The number of a function type and the index behind the opening brace.
-#[derive(Drop)]
+#[derive(Clone, Copy)]
 pub enum Entered {
     At { ty: u32, next: usize },
     Refused(Refusal),
@@ -29,7 +31,7 @@ pub enum Entered {
 
 // A name, how many formals it has, the cell of its result's type, its function type's number, and the index behind the
 // brace.
-#[derive(Drop)]
+#[derive(Clone, Copy)]
 pub struct Head {
     pub name: Identifier,
     pub formals: usize,
@@ -39,20 +41,20 @@ pub struct Head {
 }
 
 // A function's row in the header table.
-#[derive(Drop)]
+#[derive(Clone, Copy)]
 pub enum FoundRow {
     At(usize),
     Absent,
 }
 
-#[derive(Drop)]
+#[derive(Clone, Copy)]
 pub enum HeaderRead {
     At(Head),
     Refused(Refusal),
 }
 
 // How much of each slice is used.
-#[derive(Drop)]
+#[derive(Clone, Copy)]
 pub struct Counts {
     pub functions: usize,
     pub items: usize,
@@ -62,7 +64,7 @@ pub struct Counts {
 }
 
 // Where to go on behind a body, and how much it takes of each slice.
-#[derive(Drop)]
+#[derive(Clone, Copy)]
 pub struct Body {
     pub next: usize,
     pub items: usize,
@@ -71,20 +73,20 @@ pub struct Body {
     pub predecessors: usize,
 }
 
-#[derive(Drop)]
+#[derive(Clone, Copy)]
 pub enum Building {
     Done(Body),
     Refused(Refusal),
 }
 
 // Where to go on behind a function, how many function types there are, and how much is used of each slice.
-#[derive(Drop)]
+#[derive(Clone, Copy)]
 pub enum FunctionRead {
     Done(usize, u32, Counts),
     Refused(Refusal),
 }
 
-#[derive(Drop)]
+#[derive(Clone, Copy)]
 pub enum ProgramRead {
     Done(Counts),
     Refused(Refusal),

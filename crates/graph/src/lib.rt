@@ -3,6 +3,8 @@
 // A caller lends the block records of a text, eight cells each (`BlockRecord`). The caller says which record is that of
 // the function's first block, and how many blocks the function has. Nothing is asked of the cells: specs/Records.antt
 // says which graph any cells are.
+#![tactic(auto)]
+
 pub mod blocks;
 mod place;
 pub mod successors;
@@ -20,13 +22,13 @@ use utils::limits;
 pub const BLOCK_CELLS: usize = 8;
 
 // A block of a function, by its number in it: the Rust's index.
-#[derive(Drop)]
+#[derive(Clone, Copy)]
 pub struct BlockId(pub u32);
 
 // A block as it is recorded: its first operation, as an index among all items, and how many it has; how many successors
 // it has, and the pair of them; its first predecessor, as an index among all predecessors, and how many; and 1 where it
 // is dead, else 0.
-#[derive(Drop)]
+#[derive(Clone, Copy)]
 pub struct BlockRecord {
     pub first: u32,
     pub operations: u32,
@@ -40,14 +42,14 @@ pub struct BlockRecord {
 
 // The Rust's worklist once every block was pushed. The order stands in an array of the caller's; the worklist says how
 // many of its blocks were taken, and goes in and comes back by value.
-#[derive(Drop)]
+#[derive(Clone, Copy)]
 pub struct RPOWorklist {
     pub taken: u32,
     pub blocks: u32,
 }
 
 // The Rust's Option<usize>, with the worklist after it.
-#[derive(Drop)]
+#[derive(Clone, Copy)]
 pub enum Popped {
     Block(BlockId, RPOWorklist),
     Empty,

@@ -16,7 +16,7 @@ const LEAVE: u32 = limits::MOST_BLOCKS;
 const PROCESSING: usize = 2 * limits::BLOCKS + 1;
 
 // How many entries `processing` has, and where the blocks left begin.
-#[derive(Drop)]
+#[derive(Clone, Copy)]
 pub struct Step {
     pub top: usize,
     pub at: usize,

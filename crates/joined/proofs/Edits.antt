@@ -417,7 +417,7 @@ module _ {pre f post new : List ℕ} {line first : ℕ} {e : Edit pre f post new
         let l : i < length z.0 = omega (arith, both-length z.1, k.counted) in
         let all = entered_all [] (words_of s k.front) in
         rw (z.3 i l)
-        (stands_fit (length pre) (stands_first s _ front-table (old_distinct k) old_grown k.front all z.1)
+        (stands_fit _ _ (length pre) (stands_first s _ front-table (old_distinct k) old_grown k.front all z.1)
         pre_inside i l)
 
     -- where the token before f is a closing brace (or there is none)

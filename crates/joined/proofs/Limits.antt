@@ -34,11 +34,11 @@ use Rattle.joined.proofs.Edits.{Known, known, tail, edited_items, old_items}
 
 -- Short names. -----------------------------------------------------------------------------------------------------
 
-pub stands_short : {s : List ℕ} {W : List (List ℕ)} {is : List Item} {T : List Token} → Both (Stands s W) is T
+pub stands_short : (s : List ℕ) (W : List (List ℕ)) {is : List Item} {T : List Token} → Both (Stands s W) is T
     → AllShort is
-stands_short Both.none = tt
-stands_short (Both.more {x = Item.spelled n} p q) = (p.3, stands_short q)
-stands_short (Both.more {x = Item.plain t} p q) = (tt, stands_short q)
+stands_short s W Both.none = tt
+stands_short s W (Both.more {x = Item.spelled n} p q) = (p.3, stands_short s W q)
+stands_short s W (Both.more {x = Item.plain t} p q) = (tt, stands_short s W q)
 
 short-join : (is js : List Item) → AllShort is → AllShort js → AllShort (is ++ js)
 short-join [] js h g = g
@@ -148,10 +148,10 @@ edited_limited {pre} {f} {post} {new} {line} {first} e = from (known e)
   where
     from : Known pre f post new line first e → Limited (lexed_from line (pre ++ (new ++ post)))
     from k =
-        let old : AllShort k.old.items = stands_short k.old.stand in
+        let old : AllShort k.old.items = stands_short _ _ k.old.stand in
         let front = run-first k.old k.old_front in
         let a : AllShort k.front = short-front k.front front.later (rw front.whole at old) in
-        let n : AllShort k.alone-new.items = stands_short k.alone-new.stand in
+        let n : AllShort k.alone-new.items = stands_short _ _ k.alone-new.stand in
         let c : AllShort (tail k).items =
         short_unmoved (length (pre ++ f)) k.behind (tail k).items
         (short_back k.through _ (rw (old_items k) at old)) in

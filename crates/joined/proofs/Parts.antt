@@ -197,17 +197,17 @@ placed_last {t} {ns = ns} v A M e =
     placed_last-from (token X.EndOfFile v.last (length t) ∷ []) A M v.tokens (both_parted A M b)
 
 -- a name's token carries a number of the table
-pub stands_fit : {s : List ℕ} {W : List (List ℕ)} (n : ℕ) {is : List Item} {T : List Token} → Both (Stands s W) is T
+pub stands_fit : (s : List ℕ) (W : List (List ℕ)) (n : ℕ) {is : List Item} {T : List Token} → Both (Stands s W) is T
     → AllInside n is → (i : ℕ) → i < length T → is_name (kind_of (get_or T i no_token).value) ≡ true
     → carried (get_or T i no_token).value < length W
-stands_fit n Both.none h i k e = absurd (omega arith)
-stands_fit n (Both.more {x = Item.spelled x} {y = t} p q) h zero k e =
+stands_fit s W n Both.none h i k e = absurd (omega arith)
+stands_fit s W n (Both.more {x = Item.spelled x} {y = t} p q) h zero k e =
     let c = name-carried x.kind p.0 h.0.1 h.0.2 in
     rw (p.4, c) p.1
-stands_fit n (Both.more {x = Item.plain x} {y = t} p q) h zero k e =
+stands_fit s W n (Both.more {x = Item.plain x} {y = t} p q) h zero k e =
     let f : is_name (kind_of x.value) ≡ true = rw p at e in
     absurd (omega (arith, name-to (kind_of x.value) f, h.0.0))
-stands_fit n (Both.more p q) h (suc i) k e = stands_fit n q h.1 i (omega arith) e
+stands_fit s W n (Both.more p q) h (suc i) k e = stands_fit s W n q h.1 i (omega arith) e
 
 -- an element of a list with one more, by its index
 pub snoc_at : (T : List Token) (E : Token) (i : ℕ) (P : Token → Type 0) → i < length T + 1 →
@@ -273,7 +273,7 @@ module _ {t : List ℕ} {line : ℕ} {ts : List Token} {ns : List Part} (v : Lex
       (length T) w w' ts (T ++ R)
       (λ i h. omega (arith, whole_length)) (omega (arith, length-append T R))
       (λ i h. rw (get_or-append T R no_token i h) (part_moved i h))
-      (λ i h. rw (get_or-append T R no_token i h) (stands_fit (length s) stand inside i h))
+      (λ i h. rw (get_or-append T R no_token i h) (stands_fit s W (length s) stand inside i h))
       (λ i e. rw (get_or-append T R no_token i (omega arith)) (λ not. absurd (not (brace i e)))))
 
   end_there : (last : ℕ) → z.back ≡ token X.EndOfFile (down + last) (on + length s) ∷ [] → (i : ℕ) → i ≡ length T
@@ -298,7 +298,7 @@ module _ {t : List ℕ} {line : ℕ} {ts : List Token} {ns : List Part} (v : Lex
       (λ k. part_moved i k)
       (λ k. ap tok_of (there_at i ∙ end_there last e i k)))
       (λ i h. snoc_at T E i (λ u. is_name (kind_of u.value) ≡ true → carried u.value < length W) h
-      (λ k. stands_fit (length s) stand inside i k)
+      (λ k. stands_fit s W (length s) stand inside i k)
       (λ k q. absurd (let z : ◌≡◌ {A = ℕ} 0 1 = cc in omega arith)))
       (λ i k. snoc_at T E i (λ u. (kind_of u.value ≡ 28 → ⊥) → kind_of u.value ≡ 38) (omega arith)
       (λ h. absurd (omega arith)) (λ _ _. refl))

@@ -104,21 +104,21 @@ turns_alike (suc n) (suc m) s at line h g k =
     on later (L.Refused r) p = refl
 
 -- the pieces from a run's start are its items, then the pieces from its end
-pub pieces-of-run : (n m : ℕ) {s : List ℕ} {at line at' line' : ℕ} {is : List Item} → Run s at line is at' line'
+pub pieces-of-run : {s : List ℕ} (n m : ℕ) {at line at' line' : ℕ} {is : List Item} → Run s at line is at' line'
     → at ≤ length s → length s < n + at → length s < m + at'
     → pieces_from n s at line ≡ before is (pieces_from m s at' line')
 unfolding pieces_from on_piece before
-pieces-of-run n m {s} {at} {line} Run.stop h g k = turns_alike n m s at line h g k
+pieces-of-run {s} n m {at} {line} Run.stop h g k = turns_alike n m s at line h g k
 pieces-of-run zero m (Run.skip e r) h g k = absurd (omega arith)
 pieces-of-run zero m (Run.spelled e r) h g k = absurd (omega arith)
 pieces-of-run zero m (Run.plain e r) h g k = absurd (omega arith)
-pieces-of-run (suc n) m {s} {at} {line} (Run.skip {a = a} {l = l} e r) h g k =
+pieces-of-run {s} (suc n) m {at} {line} (Run.skip {a = a} {l = l} e r) h g k =
     let p = past_of s at line (L.Skipped (cursor a l)) e h in
     rw e (pieces-of-run n m r p.within (omega (arith, p.on)) k)
-pieces-of-run (suc n) m {s} {at} {line} (Run.spelled {a = a} {l = l} {n = x} e r) h g k =
+pieces-of-run {s} (suc n) m {at} {line} (Run.spelled {a = a} {l = l} {n = x} e r) h g k =
     let p = past_of s at line (L.Name x (cursor a l)) e h in
     rw e (ap (Pieces.spelled x) (pieces-of-run n m r p.within (omega (arith, p.on)) k))
-pieces-of-run (suc n) m {s} {at} {line} (Run.plain {a = a} {l = l} {t = t} e r) h g k =
+pieces-of-run {s} (suc n) m {at} {line} (Run.plain {a = a} {l = l} {t = t} e r) h g k =
     let p = past_of s at line (L.Token t (cursor a l)) e h in
     rw e (ap (Pieces.plain t) (pieces-of-run n m r p.within (omega (arith, p.on)) k))
 

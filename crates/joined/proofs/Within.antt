@@ -175,7 +175,7 @@ module _ {pre f post : List ℕ} {line : ℕ} {ts : List Token} {ns : List Part}
 
   all_short : AllShort stretch.own
   all_short =
-      let all = subst AllShort stretch.whole (stands_short v.stand) in
+      let all = subst AllShort stretch.whole (stands_short _ _ v.stand) in
       short_unmoved (length pre) 0 stretch.own
       (short-front (move_items (length pre) 0 stretch.own) stretch.back (short_back stretch.front _ all))
 

@@ -1,4 +1,6 @@
 // Names numbered, and the cells of tokens and names: stored, and read back. From bril-lib/src/lexer.rs.
+#![tactic(auto)]
+
 pub mod names;
 pub mod sizes;
 
@@ -15,14 +17,14 @@ use pieces::{Cursor, Identifier, Location, Refusal, Token, kinds, tokens};
 use utils::{limits, put_cells};
 
 // A name's number, or none: the Rust's Option<Identifier>.
-#[derive(Drop)]
+#[derive(Clone, Copy)]
 pub enum Found {
     At(Identifier),
     Nothing,
 }
 
 // A name's number, in the table already or new to it.
-#[derive(Drop)]
+#[derive(Clone, Copy)]
 pub enum Identified {
     Known(Identifier),
     New(Identifier),
@@ -30,7 +32,7 @@ pub enum Identified {
 }
 
 // One turn of `lexing::lex_all`: a piece whose name has its number.
-#[derive(Drop)]
+#[derive(Clone, Copy)]
 pub enum Next {
     Skipped(Cursor),
     // The token, the cursor after it, and how many names there are then.
@@ -40,7 +42,7 @@ pub enum Next {
 }
 
 // What `lexing::lex_text` answers: how many tokens and names a text has.
-#[derive(Drop)]
+#[derive(Clone, Copy)]
 pub enum LexResult {
     Done { tokens: u32, names: u32 },
     Refused(Refusal),
@@ -48,7 +50,7 @@ pub enum LexResult {
 
 // What `read::read` answers: document 01's number, line and place, and how many tokens and names there are.
 #[repr(C)]
-#[derive(Drop)]
+#[derive(Clone, Copy)]
 pub struct ReadAnswer {
     pub number: u32,
     pub line: u32,
@@ -59,7 +61,7 @@ pub struct ReadAnswer {
 
 // A token as its record has it, and the index of the token after it; the end token is followed by itself.
 // `name` is a local's, global's or label's number, `integer` an integer's bits; each is 0 of any other token.
-#[derive(Drop)]
+#[derive(Clone, Copy)]
 pub struct TokenAt {
     pub kind: u32,
     pub name: Identifier,

@@ -202,9 +202,11 @@ Parted start end (b ∷ bs) = (b.first ≡ start) × Parted (b.first + b.operati
 parted : (start end here : ℕ) (labels : List ℕ) (ps : List Shape) (bs : List Block) → Blocked labels here ps bs
     → start ≡ here → end ≡ here + length ps → Parted start end bs
 parted start end here labels ps bs (final h) s e = (omega (arith, h.begins), omega (arith, h.begins, h.counted))
-parted start end here labels ps bs (followed {l = l} {ops = ops} {ps = qs} h q) s e =
-    let all = length-append ops (name l ∷ qs) in
-    (omega (arith, h.begins), parted _ end _ _ qs _ q (omega (arith, h.begins, h.counted)) (omega arith))
+parted start end here labels ps bs (followed {l = l} {ops = ops} {ps = qs} {b = b} h q) s e =
+    let all = length-append ops (name l ∷ qs) in (
+      omega (arith, h.begins),
+      parted (b.first + b.operations + 1) end _ _ qs _ q (omega (arith, h.begins, h.counted)) (omega arith),
+    )
 
 leading_are : (labels : List ℕ) (rest : List Shape) → leading rest ≡ 0
     → (leading (map name labels ++ rest) ≡ length labels)

@@ -1,4 +1,6 @@
 // Blocks and edges of a function, once its body is read: the end of parse_function of bril-lib/src/parser.rs.
+#![tactic(auto)]
+
 mod close;
 mod enter;
 mod labels;
@@ -12,21 +14,21 @@ use graph::BlockId;
 use parser::Refusal;
 
 // How many blocks and predecessors a function has, or 22 or 14.
-#[derive(Drop)]
+#[derive(Clone, Copy)]
 pub enum Linked {
     Done { blocks: usize, predecessors: usize },
     Refused(Refusal),
 }
 
 // The block that a label names: the Rust's Option<usize>.
-#[derive(Drop)]
+#[derive(Clone, Copy)]
 pub enum Found {
     At(BlockId),
     Nowhere,
 }
 
 // How many successors a block has, and the two of them; or 14.
-#[derive(Drop)]
+#[derive(Clone, Copy)]
 pub enum Goes {
     Done {
         count: u32,
@@ -37,14 +39,14 @@ pub enum Goes {
 }
 
 // How many blocks a function has, or 22 or 14.
-#[derive(Drop)]
+#[derive(Clone, Copy)]
 pub enum Numbered {
     Done(usize),
     Refused(Refusal),
 }
 
 // How many labels a function has, and how many of them lead: those stand before its first operation and name block 0.
-#[derive(Drop)]
+#[derive(Clone, Copy)]
 pub struct LabelCounts {
     pub all: usize,
     pub leading: usize,

@@ -1,4 +1,6 @@
 // The messages of the refusals of parsing and typing: each error of parser.rs and ir.rs.
+#![tactic(auto)]
+
 mod items;
 mod texts;
 mod words;

@@ -1,5 +1,7 @@
 // Tokens to operations, from the parsing half of bril-lib/src/parser.rs, with what it uses of ir.rs.
 // A token is an index into the token records; line and place are looked up once, when a refusal is answered.
+#![tactic(auto)]
+
 mod expression;
 pub mod labels;
 pub mod runs;
@@ -17,7 +19,7 @@ use utils::numbers;
 // Why the parser refuses: document 01's number, the token that the Rust reports with, and what the message needs: the
 // kind (5), type (15, 17) or count (20) that was wanted, the type or count that was found, or the name that it spells
 // (14 to 16).
-#[derive(Drop)]
+#[derive(Clone, Copy)]
 pub struct Refusal {
     pub number: u32,
     pub token: usize,
@@ -27,7 +29,7 @@ pub struct Refusal {
 }
 
 // The types of ir.rs: its Type, whose name antt keeps for itself.
-#[derive(Drop)]
+#[derive(Clone, Copy)]
 pub enum Ty {
     Placeholder,
     Int,
@@ -40,7 +42,7 @@ pub enum Ty {
 // Cells of a variable: its name and its type.
 pub const VARIABLE_CELLS: usize = 2;
 
-#[derive(Drop)]
+#[derive(Clone, Copy)]
 pub struct Variable {
     pub id: Identifier,
     pub ty: Ty,
@@ -48,7 +50,7 @@ pub struct Variable {
 
 // The operations of ir.rs but calls, whose arguments are a run of a lent slice. An operand that typing has not seen yet
 // is its name alone. The first number is the operation's token.
-#[derive(Drop)]
+#[derive(Clone, Copy)]
 pub enum Operation {
     BinaryOp {
         token: usize,
@@ -76,40 +78,40 @@ pub enum Operation {
 }
 
 // Each step answers the index to go on at, or a refusal.
-#[derive(Drop)]
+#[derive(Clone, Copy)]
 pub enum Consumed {
     At(usize),
     Refused(Refusal),
 }
 
-#[derive(Drop)]
+#[derive(Clone, Copy)]
 pub enum Named {
     At(Identifier, usize),
     Refused(Refusal),
 }
 
-#[derive(Drop)]
+#[derive(Clone, Copy)]
 pub enum TypeRead {
     At(Ty, usize),
     Refused(Refusal),
 }
 
 // `x: type =`
-#[derive(Drop)]
+#[derive(Clone, Copy)]
 pub enum Defined {
     At(Variable, usize),
     Refused(Refusal),
 }
 
 // How many variables a run has and the index to go on at, or a refusal.
-#[derive(Drop)]
+#[derive(Clone, Copy)]
 pub enum Run {
     Done { count: usize, next: usize },
     Refused(Refusal),
 }
 
 // A call's callee, how many arguments it has and the index to go on at, or a refusal.
-#[derive(Drop)]
+#[derive(Clone, Copy)]
 pub enum Called {
     Done {
         callee: Identifier,
@@ -120,7 +122,7 @@ pub enum Called {
 }
 
 // An operation; or a call, with or without a result, whose word stands at the index.
-#[derive(Drop)]
+#[derive(Clone, Copy)]
 pub enum Parsed {
     Done(Operation, usize),
     Call(usize),

@@ -1,4 +1,6 @@
 // One piece of a text after the other, from bril-lib/src/lexer.rs.
+#![tactic(auto)]
+
 pub mod kinds;
 mod lex;
 pub mod scan;
@@ -8,14 +10,14 @@ ghost use Rattle.std.specs.Prelude.{◌≡◌, ◌<◌};
 ghost use Rattle.pieces.specs.Pieces.{piece_at};
 
 // A name's number in the table of names.
-#[derive(Drop)]
+#[derive(Clone, Copy)]
 pub struct Identifier(pub u32);
 
 // A line.
-#[derive(Drop)]
+#[derive(Clone, Copy)]
 pub struct Location(pub u32);
 
-#[derive(Drop)]
+#[derive(Clone, Copy)]
 pub enum TokenValue {
     Local(Identifier),
     Global(Identifier),
@@ -58,10 +60,10 @@ pub enum TokenValue {
 }
 
 // A value's kind, and what it carries: a name's number, an integer's bits, or 0.
-#[derive(Drop)]
+#[derive(Clone, Copy)]
 pub struct Kinded(pub u32, pub u32);
 
-#[derive(Drop)]
+#[derive(Clone, Copy)]
 pub struct Token {
     pub value: TokenValue,
     pub line: Location,
@@ -69,21 +71,21 @@ pub struct Token {
 }
 
 // A value, or none: the Rust's Option<TokenValue>.
-#[derive(Drop)]
+#[derive(Clone, Copy)]
 pub enum OptionValue {
     Some(TokenValue),
     None,
 }
 
 // The lexer's position: the next byte, and the line counted so far, which no newline in a comment adds to.
-#[derive(Drop)]
+#[derive(Clone, Copy)]
 pub struct Cursor {
     pub place: usize,
     pub line: u32,
 }
 
 // A name that has no number yet. Its kind is 1 for a local, 2 for a global, 3 for a label.
-#[derive(Drop)]
+#[derive(Clone, Copy)]
 pub struct Name {
     pub kind: u32,
     pub place: usize,
@@ -92,7 +94,7 @@ pub struct Name {
 }
 
 // Why a text is refused. `facts_of` gives document 01's number, line, place and text for each.
-#[derive(Drop)]
+#[derive(Clone, Copy)]
 pub enum Refusal {
     // 1. The line is the text's first.
     NotAscii(u32),
@@ -114,7 +116,7 @@ pub enum Refusal {
 }
 
 // What stands at a cursor, and the cursor after it.
-#[derive(Drop)]
+#[derive(Clone, Copy)]
 pub enum Lexed {
     // A blank or a comment.
     Skipped(Cursor),
@@ -125,14 +127,14 @@ pub enum Lexed {
 }
 
 // A number's value, which counts no higher than 2147483649, and the place after it.
-#[derive(Drop)]
+#[derive(Clone, Copy)]
 pub struct Number {
     pub value: u64,
     pub end: usize,
 }
 
 // The place after a comment's closing, or no closing.
-#[derive(Drop)]
+#[derive(Clone, Copy)]
 pub enum Comment {
     Closed(usize),
     Open,

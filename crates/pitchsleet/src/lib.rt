@@ -1,4 +1,6 @@
 // The C functions. Cells go out as little-endian bytes at the offsets of docs/INTERFACE.md.
+#![tactic(auto)]
+
 mod lent;
 mod rechecks;
 

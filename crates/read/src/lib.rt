@@ -1,4 +1,6 @@
 // A text's whole answer: tokens and names as cells, or a refusal and its message.
+#![tactic(auto)]
+
 mod report;
 
 ghost use Rattle.std.specs.Prelude.{◌≡◌, ◌≤◌, eqb, [], length};

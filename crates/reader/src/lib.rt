@@ -1,12 +1,14 @@
 // The thin reader: Lexer<'src> of bril-lib/src/lexer.rs, which keeps the source slice beside its position.
 // Each function over it takes it apart and calls a covered function on the slice and the numbers.
+#![tactic(auto)]
+
 ghost use Rattle.std.specs.Prelude.{◌≡◌, ◌<◌, ◌-◌};
 ghost use Rattle.pieces.specs.Pieces.{piece_at};
 ghost use Rattle.reader.specs.Reader.{lexer, behind, stepped_at, step_of, left_of};
 
 use pieces::{Cursor, Lexed};
 
-#[derive(Drop)]
+#[derive(Clone, Copy)]
 pub struct Lexer<'src> {
     pub source: &'src [u8],
     pub place: usize,
@@ -14,7 +16,7 @@ pub struct Lexer<'src> {
 }
 
 // A piece, and the reader behind it.
-#[derive(Drop)]
+#[derive(Clone, Copy)]
 pub struct Step<'src> {
     pub source: &'src [u8],
     pub place: usize,
@@ -23,7 +25,7 @@ pub struct Step<'src> {
 }
 
 // A piece, and the position behind it.
-#[derive(Drop)]
+#[derive(Clone, Copy)]
 pub struct Stepped {
     pub place: usize,
     pub line: u32,
@@ -31,6 +33,7 @@ pub struct Stepped {
 }
 
 // Where the reader stands behind a piece. At the end and at a refusal it stays where it is.
+#[tactic(auto, unfolding(crate::specs::Reader::behind))]
 fn behind(at: Cursor, piece: Lexed) -> Cursor
     ensures { result ≡ behind at piece }
 {
@@ -81,6 +84,7 @@ impl<'src> Lexer<'src> {
     }
 
     // The next piece, and the reader behind it.
+    #[tactic(auto, unfolding(crate::specs::Reader::step_of, crate::specs::Reader::stepped_at))]
     pub fn next(self) -> Step<'src>
         requires { self.line < 4294967295 }
         ensures { result ≡ step_of self.entry }
@@ -103,6 +107,7 @@ impl<'src> Lexer<'src> {
 }
 
 // The piece at a place of a plain slice, by the reader: who calls this needs no walk.
+#[tactic(auto, unfolding(crate::specs::Reader::step_of, crate::specs::Reader::stepped_at))]
 pub fn lex_at(text: &[u8], place: usize, line: u32) -> Lexed
     requires { line < 4294967295 }
     ensures { result ≡ piece_at text.now place line }

@@ -1,4 +1,6 @@
 // One new function against the headers of an accepted text.
+#![tactic(auto)]
+
 ghost use Rattle.std.specs.Prelude.{◌≡◌, true, ◌≤◌, length, get_or};
 ghost use Rattle.utils.specs.Bytes.{pad_to};
 ghost use Rattle.lexer.specs.Decoded.{tokens_of};

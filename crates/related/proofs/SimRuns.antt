@@ -65,7 +65,7 @@ module _ {m : Move} {n : ℕ} {ts ts' : List Tok} (s : Sim m n ts ts') where
       let far = run_onward last ends o.2 r in
       let inside : p'.at < n = omega (arith, o.1, far.0) in
       let a = here q inside e in
-      let more = along last ends (behind_s q a.same) o.2 g r in
+      let more = along {p = behind_one p a.found} last ends (behind_s q a.same) o.2 g r in
       record {
         functions = a.found ∷ more.functions;
         run =

@@ -1,6 +1,8 @@
 // Decodes a file of fixed cases: numbers, and lists of numbers or bytes, as host/tests/support/case_file.rs has them.
 // A byte follows every number and every list of a good file. So a place that is the file's length says that the file is
 // malformed; each function here passes it on, and the caller looks once.
+#![tactic(auto)]
+
 ghost use Rattle.std.specs.Prelude.{◌≡◌, ◌+◌, ◌-◌, ◌*◌, ◌%◌, ◌<◌, ◌≤◌, false, length, drop};
 ghost use Rattle.utils.specs.Bytes.{pick};
 ghost use Rattle.replay.specs.Numbers.{is_digit, in_comment, to_digit, number_at};
@@ -10,14 +12,14 @@ pub mod held;
 pub mod lists;
 pub mod parts;
 
-#[derive(Drop)]
+#[derive(Clone, Copy)]
 pub struct Number {
     pub value: u32,
     pub next: usize,
 }
 
 // How many cells a list has, and the place after it.
-#[derive(Drop)]
+#[derive(Clone, Copy)]
 pub struct Loaded {
     pub count: usize,
     pub next: usize,
@@ -25,7 +27,7 @@ pub struct Loaded {
 
 // What a case showed: the first part that differs, the number that the answer must have, and the place in the file
 // after what was held to it.
-#[derive(Drop)]
+#[derive(Clone, Copy)]
 pub struct Outcome {
     pub part: u32,
     pub number: u32,
@@ -34,7 +36,7 @@ pub struct Outcome {
 
 // How many cases a list has, how many came out as expected so far, how many are left; how many cases of the file there
 // were so far in all, and the place after them.
-#[derive(Drop)]
+#[derive(Clone, Copy)]
 pub struct Tally {
     pub count: u32,
     pub right: u32,

@@ -5,7 +5,7 @@ use utils::limits;
 
 // Whether a case is one of recheck; how much of their room its old text and its header table take; the function's
 // number, and the place in the file after them.
-#[derive(Drop)]
+#[derive(Clone, Copy)]
 pub struct Given {
     pub again: bool,
     pub old: usize,

@@ -1,6 +1,8 @@
 // Replays fixed cases against `checker::check` and `rechecker::recheck`, and compares all that they answer and write.
 // The cases stand on standard input; host/examples/replay_check.rs makes them, and says what the file holds and where
 // the expected answers come from.
+#![tactic(auto)]
+
 mod given;
 mod lend;
 

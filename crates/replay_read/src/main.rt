@@ -1,6 +1,8 @@
 // Replays fixed cases against `read::read`, and compares all that it answers and writes. The cases stand on
 // standard input; host/examples/replay_read.rs makes them, and says what the file holds and where the expected answers
 // come from.
+#![tactic(auto)]
+
 use lexer::sizes;
 use replay::held::{OLD_BYTE, OLD_CELL, SPARE};
 use replay::{Outcome, Tally, cases, held, lists, parts};

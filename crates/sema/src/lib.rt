@@ -1,4 +1,6 @@
 // Typing: Sema of bril-lib/src/parser.rs, with SymbolTable of ir.rs.
+#![tactic(auto)]
+
 mod blocks;
 mod calls;
 pub mod function;
@@ -7,14 +9,14 @@ mod symbols;
 
 use parser::Refusal;
 
-#[derive(Drop)]
+#[derive(Clone, Copy)]
 pub enum Checked {
     Fine,
     Refused(Refusal),
 }
 
 // A call's arguments: `count` of them, from the argument `first` of the slice of all calls' arguments on.
-#[derive(Drop)]
+#[derive(Clone, Copy)]
 pub struct Arguments {
     pub first: u32,
     pub count: u32,

@@ -1,4 +1,6 @@
 // A text's functions, parsed and typed: Unit of bril-lib/src/ir.rs, once Sema of parser.rs has passed it.
+#![tactic(auto)]
+
 pub mod types;
 
 ghost use Rattle.std.specs.Prelude.{◌≡◌, ◌≤◌, length};

@@ -1,4 +1,6 @@
 // The message form of utils/src/lib.rs, and the reads, stores and clears of lent buffers that every crate shares.
+#![tactic(auto)]
+
 pub mod limits;
 pub mod numbers;
 

@@ -1,0 +1,116 @@
+-- The header is kept or 41 is answered; what parsing leaves, with the row in its place among the old headers, is what
+-- typing asks; and each return is the verdict: the first refusal, or the function with its types.
+use borrow.Author.Tests.{not-true, not-false}
+use native.Mathlib.Omega.{arith}
+use Prim.Native.Nat.{◌≤◌}
+use mathlib.Core.Path.{sym, ◌∙◌}
+use lib.ListN.{length}
+use Rattle.lexer.specs.Decoded.{tokens_of}
+use Rattle.functions.specs.Answer.{slices}
+use Rattle.headers.proofs.Ranges.{table_in_range}
+use Rattle.alone.proofs.Building.{parsed_is, header_changed, parse_refused, typing_asks, types-refused}
+use Rattle.alone.proofs.Building.{types-fine}
+use Rattle.alone.proofs.build.Goals as goal
+
+pub keeps-requires : goal.keeps-requires
+keeps-requires c =
+
+    let t = table_in_range c.args.old.now c.args.rows.now c.args.number c.requires.0 in
+    (omega (arith, t.there, t.in_range.count), c.requires.5)
+
+pub returns-then-not-keeps : goal.returns-then-not-keeps
+returns-then-not-keeps c =
+    let w = header_changed c.args.old.now c.args.rows.now c.args.number c.args.new.now (tokens_of c.args.tokens.now)
+    c.args.names.now c.args.functions.now c.args.items.now c.args.arguments.now c.args.blocks.now
+    c.args.predecessors.now
+    c.refuse.result c.refuse.ensures (sym c.keeps.ensures ∙ c.if-not-keeps.true) _ in
+    record { value = w.0; verdict_held = w.1; counted = w.2 }
+
+pub place_alone-at-requires : goal.place_alone-at-requires
+place_alone-at-requires c =
+
+    let t = table_in_range c.args.old.now c.args.rows.now c.args.number c.requires.0 in (
+      t.there,
+      t.in_range.count,
+      omega (arith, c.requires.3, c.parse_alone.kept.1.1.0),
+      omega (arith, c.requires.5, c.keeps.kept.1.1.1.1.1.1.0),
+    )
+
+pub type_rows-requires : goal.type_rows-requires
+type_rows-requires c =
+
+    let kept = sym c.keeps.ensures ∙ c.if-not-keeps.false in
+    let parsed =
+    parsed_is (tokens_of c.args.tokens.now) c.args.names.now c.in-Done.n
+    (slices c.args.functions.now c.args.items.now c.args.arguments.now c.args.blocks.now c.args.predecessors.now)
+    (slices c.parse_alone.new.functions c.parse_alone.new.items c.parse_alone.new.arguments
+    c.parse_alone.new.blocks
+    c.parse_alone.new.predecessors)
+    (sym c.in-Done.is ∙ c.parse_alone.ensures.value) c.parse_alone.ensures.function_held in
+    let room : 2881 ≤ length c.keeps.new.local =
+    omega (arith, c.requires.5, c.keeps.kept.1.1.1.1.1.1.0) in
+    typing_asks c.args.old.now c.args.rows.now c.args.number c.args.new.now (tokens_of c.args.tokens.now)
+    c.args.names.now c.args.functions.now c.args.items.now c.args.arguments.now c.args.blocks.now
+    c.args.predecessors.now
+    kept c.requires.0 c.args.known c.requires.1 c.requires.3 c.requires.4 c.in-Done.n
+    c.parse_alone.new.functions c.parse_alone.new.items c.parse_alone.new.arguments c.parse_alone.new.blocks
+    c.parse_alone.new.predecessors parsed
+    c.keeps.new.local c.place_alone-at.new.local c.place_alone-at.new.functions c.place_alone-at.result room
+    c.place_alone-at.ensures (omega (arith, room, c.place_alone-at.kept.1.1.1.1.1.1.1.0))
+
+pub returns-in-Refused : goal.returns-in-Refused
+returns-in-Refused c =
+
+    let kept = sym c.keeps.ensures ∙ c.if-not-keeps.false in
+    let w = parse_refused c.args.old.now c.args.rows.now c.args.number c.args.new.now (tokens_of c.args.tokens.now)
+    c.args.names.now c.args.functions.now c.args.items.now c.args.arguments.now c.args.blocks.now
+    c.args.predecessors.now
+    kept _ (sym c.in-Refused.is ∙ c.parse_alone.ensures.value) _ in
+    record { value = w.0; verdict_held = w.1; counted = w.2 }
+
+pub returns-in-Refused-type_rows : goal.returns-in-Refused-type_rows
+returns-in-Refused-type_rows c =
+    let kept = sym c.keeps.ensures ∙ c.if-not-keeps.false in
+    let parsed =
+    parsed_is (tokens_of c.args.tokens.now) c.args.names.now c.in-Done.n
+    (slices c.args.functions.now c.args.items.now c.args.arguments.now c.args.blocks.now c.args.predecessors.now)
+    (slices c.parse_alone.new.functions c.parse_alone.new.items c.parse_alone.new.arguments
+    c.parse_alone.new.blocks
+    c.parse_alone.new.predecessors)
+    (sym c.in-Done.is ∙ c.parse_alone.ensures.value) c.parse_alone.ensures.function_held in
+    let room : 2881 ≤ length c.keeps.new.local =
+    omega (arith, c.requires.5, c.keeps.kept.1.1.1.1.1.1.0) in
+    let w = types-refused c.args.old.now c.args.rows.now c.args.number c.args.new.now (tokens_of c.args.tokens.now)
+    c.args.names.now c.args.functions.now c.args.items.now c.args.arguments.now c.args.blocks.now
+    c.args.predecessors.now
+    kept c.requires.0 c.args.known c.requires.1 c.requires.3 c.requires.4 c.in-Done.n
+    c.parse_alone.new.functions c.parse_alone.new.items c.parse_alone.new.arguments c.parse_alone.new.blocks
+    c.parse_alone.new.predecessors parsed
+    c.keeps.new.local c.place_alone-at.new.local c.place_alone-at.new.functions c.place_alone-at.result room
+    c.place_alone-at.ensures
+    c.type_rows.result c.type_rows.new.items c.type_rows.new.arguments c.type_rows.ensures _
+    c.in-Refused-type_rows.is _ in
+    record { value = w.0; verdict_held = w.1; counted = w.2 }
+
+pub returns-in-Fine : goal.returns-in-Fine
+returns-in-Fine c =
+    let kept = sym c.keeps.ensures ∙ c.if-not-keeps.false in
+    let parsed =
+    parsed_is (tokens_of c.args.tokens.now) c.args.names.now c.in-Done.n
+    (slices c.args.functions.now c.args.items.now c.args.arguments.now c.args.blocks.now c.args.predecessors.now)
+    (slices c.parse_alone.new.functions c.parse_alone.new.items c.parse_alone.new.arguments
+    c.parse_alone.new.blocks
+    c.parse_alone.new.predecessors)
+    (sym c.in-Done.is ∙ c.parse_alone.ensures.value) c.parse_alone.ensures.function_held in
+    let room : 2881 ≤ length c.keeps.new.local =
+    omega (arith, c.requires.5, c.keeps.kept.1.1.1.1.1.1.0) in
+    let w = types-fine c.args.old.now c.args.rows.now c.args.number c.args.new.now (tokens_of c.args.tokens.now)
+    c.args.names.now c.args.functions.now c.args.items.now c.args.arguments.now c.args.blocks.now
+    c.args.predecessors.now
+    kept c.requires.0 c.args.known c.requires.1 c.requires.3 c.requires.4 c.in-Done.n
+    c.parse_alone.new.functions c.parse_alone.new.items c.parse_alone.new.arguments c.parse_alone.new.blocks
+    c.parse_alone.new.predecessors parsed
+    c.keeps.new.local c.place_alone-at.new.local c.place_alone-at.new.functions c.place_alone-at.result room
+    c.place_alone-at.ensures
+    c.type_rows.result c.type_rows.new.items c.type_rows.new.arguments c.type_rows.ensures c.in-Fine.is in
+    record { value = w.0; verdict_held = w.1; counted = w.2 }

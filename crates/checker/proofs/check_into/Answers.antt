@@ -1,0 +1,30 @@
+-- What `read_into` tells is whether the text is read; a text that isn't is refused by its number (`not-lexed`).
+use native.Mathlib.Omega.{arith}
+use Rattle.checker.proofs.Ends.{is-lexed, not-lexed}
+use Rattle.checker.proofs.check_into.Goals as goal
+
+pub read_into-r-requires : goal.read_into-r-requires
+read_into-r-requires c =
+
+    (omega arith, c.requires.tokens-long, c.requires.names-long, c.requires.message-long)
+
+pub check_lexed-requires : goal.check_lexed-requires
+check_lexed-requires c =
+
+    (
+      is-lexed 1 c.args.text.now c.args.message.now c.read_into-r.result _ _ _
+          c.read_into-r.ensures c.if-r-eq-ACCEPTED.true,
+      record {
+        message-long = omega (arith, c.requires.message-long, c.read_into-r.kept.1.1.1.1.0);
+        tokens-long = omega (arith, c.requires.tokens-long, c.read_into-r.kept.1.1.0);
+        names-long = omega (arith, c.requires.names-long, c.read_into-r.kept.1.1.1.0);
+        functions-long = c.requires.functions-long;
+        long = c.requires.long;
+      },
+    )
+
+pub returns : goal.returns
+returns c =
+    rw c.refused.ensures
+    (not-lexed c.args.text.now c.args.message.now c.read_into-r.result _ _ _ c.read_into-r.ensures
+    c.if-r-eq-ACCEPTED.false _)

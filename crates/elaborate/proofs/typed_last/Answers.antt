@@ -1,0 +1,11 @@
+-- By what the cells hold, as the definition.
+use Rattle.elaborate.specs.Types.{typed_last}
+use Rattle.elaborate.proofs.typed_last.Goals as goal
+
+pub returns-in-Labels : goal.returns-in-Labels
+unfolding typed_last
+returns-in-Labels c = rw c.in-Labels.is
+
+pub returns-in-Run : goal.returns-in-Run
+unfolding typed_last
+returns-in-Run c = rw c.in-Run.is

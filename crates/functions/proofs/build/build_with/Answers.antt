@@ -1,0 +1,64 @@
+-- The records that parsing stored are read back as the shapes of the closed items, and their labels stand in front:
+-- that is what linking asks (`ready`), so its blocks and edges are those of `built_d` (`answered`, `is_held`).
+use mathlib.Core.List.{[]}
+use Rattle.functions.proofs.Whole.{body_refused, ready, link_refused, answered, is_held}
+use Rattle.link.specs.Cells.{LinkHeld}
+use Rattle.lexer.specs.Decoded.{tokens_of}
+use mathlib.Core.Path.{subst}
+use native.Mathlib.Omega.{arith}
+use mathlib.Core.Path.{refl, sym, ◌∙◌}
+use Rattle.functions.proofs.build.build_with.Goals as goal
+
+pub parse_body-requires : goal.parse_body-requires
+parse_body-requires c =
+    (c.requires.0.within, ((c.requires.0.items-few, c.requires.0.arguments-few), (c.requires.3.items-long, c.requires.3.arguments-long, c.requires.2)))
+
+pub link-requires : goal.link-requires
+link-requires c =
+    ready (tokens_of c.args.tokens.now) c.args.void c.args.name c.args.at c.args.n c.args.items.now _ c.args.arguments.now _ _ _
+    c.in-Done.closed (sym c.in-Done.is ∙ c.parse_body.ensures.value) c.parse_body.ensures.held c.requires.0 c.requires.1
+    c.args.blocks.now c.args.predecessors.now c.requires.3 (omega (arith, c.requires.2, c.parse_body.auto.1.1.1.1.1.1.1.0))
+
+pub returns-in-Refused : goal.returns-in-Refused
+returns-in-Refused c =
+    record {
+      value = rw (body_refused (tokens_of c.args.tokens.now) c.args.void c.args.name c.args.at c.args.n [] [] [] [] [] []
+    c.in-Refused.e (sym c.in-Refused.is ∙ c.parse_body.ensures.value)) refl;
+      build_held = rw (body_refused (tokens_of c.args.tokens.now) c.args.void c.args.name c.args.at c.args.n [] [] [] [] [] []
+    c.in-Refused.e (sym c.in-Refused.is ∙ c.parse_body.ensures.value)) tt;
+    }
+
+pub returns-in-Refused-link : goal.returns-in-Refused-link
+returns-in-Refused-link c =
+    record {
+      value = rw (link_refused (tokens_of c.args.tokens.now) c.args.void c.args.name c.args.at c.args.n c.args.items.now _
+    c.args.arguments.now _ _ _
+    c.in-Done.closed (sym c.in-Done.is ∙ c.parse_body.ensures.value) c.parse_body.ensures.held c.requires.0 c.requires.1
+    c.args.blocks.now c.args.predecessors.now c.requires.3 (omega (arith, c.requires.2, c.parse_body.auto.1.1.1.1.1.1.1.0))
+    c.in-Refused-link.e (sym c.in-Refused-link.is ∙ c.link.ensures.value)) refl;
+      build_held = rw (link_refused (tokens_of c.args.tokens.now) c.args.void c.args.name c.args.at c.args.n c.args.items.now _
+    c.args.arguments.now _ _ _
+    c.in-Done.closed (sym c.in-Done.is ∙ c.parse_body.ensures.value) c.parse_body.ensures.held c.requires.0 c.requires.1
+    c.args.blocks.now c.args.predecessors.now c.requires.3 (omega (arith, c.requires.2, c.parse_body.auto.1.1.1.1.1.1.1.0))
+    c.in-Refused-link.e (sym c.in-Refused-link.is ∙ c.link.ensures.value)) tt;
+    }
+
+pub returns-in-Done-link : goal.returns-in-Done-link
+returns-in-Done-link c =
+    let kept = subst (LinkHeld _ _ _ _ _ _ _ _) c.in-Done-link.is c.link.ensures.link_held in
+    record {
+      value = answered (tokens_of c.args.tokens.now) c.args.void c.args.name c.args.at c.args.n c.args.items.now _ c.args.arguments.now
+          _ _ _
+          c.in-Done.closed (sym c.in-Done.is ∙ c.parse_body.ensures.value) c.parse_body.ensures.held c.requires.0
+          c.requires.1
+          c.args.blocks.now c.args.predecessors.now c.requires.3
+          (omega (arith, c.requires.2, c.parse_body.auto.1.1.1.1.1.1.1.0))
+          _ _ (sym c.in-Done-link.is ∙ c.link.ensures.value) _ _ kept;
+      build_held = is_held (tokens_of c.args.tokens.now) c.args.void c.args.name c.args.at c.args.n c.args.items.now _ c.args.arguments.now
+          _ _ _
+          c.in-Done.closed (sym c.in-Done.is ∙ c.parse_body.ensures.value) c.parse_body.ensures.held c.requires.0
+          c.requires.1
+          c.args.blocks.now c.args.predecessors.now c.requires.3
+          (omega (arith, c.requires.2, c.parse_body.auto.1.1.1.1.1.1.1.0))
+          _ _ (sym c.in-Done-link.is ∙ c.link.ensures.value) _ _ kept;
+    }

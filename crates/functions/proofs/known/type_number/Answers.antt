@@ -1,0 +1,40 @@
+-- No row before i has this function type, so the rows from i on give the number that all of them give (`known_more`);
+-- with none left (`known-none`) the type is new, and its number is the count so far.
+use native.Mathlib.Nat.{sub-zero}
+use Rattle.functions.proofs.Turns.{known_more, known-none}
+use Rattle.functions.specs.Known.{type_number}
+use Rattle.utils.specs.Bytes.{pick}
+use native.Mathlib.Omega.{arith}
+use Prim.Native.Nat.{◌-◌}
+use Rattle.functions.proofs.known.type_number.Goals as goal
+
+pub returns-then-same_type : goal.returns-then-same_type
+unfolding type_number pick
+returns-then-same_type c =
+    rw (
+      ← c.loop-i.invariant.1,
+      known_more c.args.rows.now c.loop-i.i c.args.n c.loop-i-test.true,
+      ← c.same_type.ensures,
+      c.if-same_type.true,
+    )
+
+pub loop-i-preserved : goal.loop-i-preserved
+unfolding type_number pick
+loop-i-preserved c =
+    (
+      omega arith,
+      rw (
+        ← c.loop-i.invariant.1,
+        known_more c.args.rows.now c.loop-i.i c.args.n c.loop-i-test.true,
+        ← c.same_type.ensures,
+        c.if-same_type.false,
+      ),
+    )
+
+pub returns : goal.returns
+unfolding type_number
+returns c =
+    rw (← c.loop-i.invariant.1, known-none c.args.rows.now c.loop-i.i c.args.n c.loop-i-test.false)
+
+pub loop-i-init : goal.loop-i-init
+loop-i-init c = (omega arith, rw sub-zero)

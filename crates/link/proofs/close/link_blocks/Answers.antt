@@ -1,0 +1,46 @@
+-- The blocks that are left, resolved and stored from here, give the whole (`Cutting`).
+use native.Mathlib.Omega.{arith}
+use Prim.Native.Nat.{◌-◌}
+use Rattle.link.proofs.Cutting.{cut-start, next-room}
+use Rattle.link.proofs.close.link_blocks.Goals as goal
+
+pub overflow_add-end : goal.overflow_add-end
+overflow_add-end c =
+
+    omega (arith, c.requires.few-items)
+
+pub overflow_add-from : goal.overflow_add-from
+overflow_add-from c =
+
+    omega (arith, c.requires.few-items, c.requires.before-few)
+
+pub loop-e-init : goal.loop-e-init
+loop-e-init c =
+
+    cut-start c.args.items.now c.args.first c.args.count c.args.counts.leading c.args.base c.args.name c.args.blocks.now
+    c.requires.before_are c.requires.before-few c.requires.few-blocks
+
+pub block_end-stop-requires : goal.block_end-stop-requires
+block_end-stop-requires c =
+
+    (c.loop-e.invariant.high, c.requires.items_there)
+
+pub add_block-requires : goal.add_block-requires
+add_block-requires c =
+
+
+
+    (
+      omega (arith, c.block_end-stop.ensures.0),
+      omega (arith, c.block_end-stop.ensures.1, c.requires.few-items),
+      omega (arith, c.block_end-stop.ensures.1, c.requires.items_there),
+      c.requires.few-labels,
+      c.requires.labels_there,
+      omega (arith, c.loop-e.invariant.left.long, c.requires.blocks_there),
+      next-room c.requires c.loop-e.invariant c.block_end-stop.ensures.0,
+    )
+
+pub loop-e-smaller : goal.loop-e-smaller
+loop-e-smaller c =
+
+    omega (arith, c.block_end-stop.ensures.0, c.block_end-stop.ensures.1, c.if-stop-end.false)

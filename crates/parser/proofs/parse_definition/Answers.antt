@@ -1,0 +1,12 @@
+-- Each return has taken the steps that lead to it in the definition, in their order.
+use Rattle.parser.specs.Grammar.{definition_d}
+use Rattle.parser.proofs.Taken.{taken}
+use Rattle.parser.proofs.parse_definition.Goals as goal
+
+pub returns-in-Refused : goal.returns-in-Refused
+unfolding definition_d
+returns-in-Refused c = search taken
+
+pub returns-in-At : goal.returns-in-At
+unfolding definition_d
+returns-in-At c = search taken

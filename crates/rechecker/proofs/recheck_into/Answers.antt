@@ -1,0 +1,63 @@
+-- A bad table is 42; else the new text is read, and what is read is held against the table.
+use native.Mathlib.Omega.{arith}
+use Prim.Native.Nat.{ℕ}
+use mathlib.Core.Path.{sym, subst, ◌∙◌}
+use borrow.Author.Tests.{not-true, not-false}
+use Rattle.checker.specs.Promise.{Lexed}
+use Rattle.checker.proofs.Ends.{is-lexed, as_long-before}
+use Rattle.recheck.specs.Recheck.{recheck_of}
+use Rattle.rechecker.proofs.Ends.{bad_table, line_small, not-lexed, refused_with_lem}
+use Rattle.rechecker.proofs.recheck_into.Goals as goal
+
+pub returns-then-not-is_table : goal.returns-then-not-is_table
+returns-then-not-is_table c =
+
+    refused_with_lem _ 42 0 _ c.args.message.now _ _ _ _
+    (bad_table c.args.old.now c.args.table.now c.args.number c.args.new.now
+    (sym c.is_table.ensures ∙ c.if-not-is_table.true))
+    (λ z. omega (arith, z)) c.refuse_plain.ensures.0 c.refuse_plain.ensures.1
+
+pub read_into-r-requires : goal.read_into-r-requires
+read_into-r-requires c =
+
+    (
+      omega (
+        arith,
+        line_small c.args.old.now c.args.table.now c.args.number
+            (sym c.is_table.ensures ∙ c.if-not-is_table.false) _ c.cell_at-line.ensures,
+      ),
+      c.requires.tokens-long,
+      c.requires.names-long,
+      c.requires.message-long,
+    )
+
+pub recheck_lexed-requires : goal.recheck_lexed-requires
+recheck_lexed-requires c =
+
+    let lexed = is-lexed _ c.args.new.now c.args.message.now c.read_into-r.result _ _ _ c.read_into-r.ensures
+    c.if-r-eq-ACCEPTED.true in (
+      sym c.is_table.ensures ∙ c.if-not-is_table.false,
+      subst (λ (k : ℕ). Lexed k c.args.new.now c.read_into-r.result c.read_into-r.new.tokens
+          c.read_into-r.new.names) c.cell_at-line.ensures lexed,
+      record {
+        message-long = omega (arith, c.requires.message-long, c.read_into-r.kept.1.1.1.1.0);
+        tokens-long = omega (arith, c.requires.tokens-long, c.read_into-r.kept.1.1.0);
+        names-long = omega (arith, c.requires.names-long, c.read_into-r.kept.1.1.1.0);
+        functions-long = c.requires.functions-long;
+        long = c.requires.long;
+      },
+    )
+
+pub returns-then-r-eq-ACCEPTED : goal.returns-then-r-eq-ACCEPTED
+returns-then-r-eq-ACCEPTED c =
+
+    as_long-before (recheck_of c.args.old.now c.args.table.now c.args.number c.args.new.now) c.args.message.now _ _ _ _ _ _
+    c.read_into-r.kept.1.1.1.1.0 c.recheck_lexed.ensures
+
+pub returns : goal.returns
+returns c =
+    rw c.refused.ensures
+    (not-lexed _ c.args.new.now c.args.message.now c.read_into-r.result _ _ _ c.read_into-r.ensures
+    c.args.old.now c.args.table.now c.args.number
+    (sym c.is_table.ensures ∙ c.if-not-is_table.false) c.cell_at-line.ensures
+    c.if-r-eq-ACCEPTED.false _)

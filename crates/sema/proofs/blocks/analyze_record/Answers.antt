@@ -1,0 +1,23 @@
+-- By what the record's last two cells hold, as `item_by`.
+use mathlib.Core.Path.{◌∙◌}
+use Rattle.lexer.specs.Decoded.{tokens_of}
+use Rattle.sema.specs.Globals.{globals_in}
+use Rattle.sema.proofs.Records.{item-branch, item-call, item-call_into}
+use Rattle.sema.proofs.blocks.analyze_record.Goals as goal
+
+pub returns-then-r-eq-CALL_INTO : goal.returns-then-r-eq-CALL_INTO
+returns-then-r-eq-CALL_INTO c =
+    c.analyze_call_into.ensures
+    ∙ item-call_into (tokens_of c.args.tokens.now) (globals_in c.args.rows.now c.args.n) c.args.ret c.args.table.now c.args.r
+    c.args.arguments.now c.in-Run.is c.if-r-eq-CALL_INTO.true
+
+pub returns-in-Labels : goal.returns-in-Labels
+returns-in-Labels c =
+    item-branch (tokens_of c.args.tokens.now) (globals_in c.args.rows.now c.args.n) c.args.ret c.args.table.now c.args.r
+    c.args.arguments.now c.in-Labels.is
+
+pub returns-else-r-eq-CALL_INTO : goal.returns-else-r-eq-CALL_INTO
+returns-else-r-eq-CALL_INTO c =
+    c.analyze_call.ensures
+    ∙ item-call (tokens_of c.args.tokens.now) (globals_in c.args.rows.now c.args.n) c.args.ret c.args.table.now c.args.r
+    c.args.arguments.now c.in-Run.is c.if-r-eq-CALL_INTO.false

@@ -1,0 +1,49 @@
+-- Typing what the worklist still has, from the table as it is, gives what typing all of it gave from the table at
+-- entry: a pop takes the first block and leaves the rest (`blocks-fine`), which is fewer (`fewer`).
+use Rattle.lexer.specs.Decoded.{tokens_of}
+use Rattle.graph.specs.Worklist.{remaining}
+use Rattle.sema.specs.Globals.{globals_in}
+use Rattle.sema.specs.Blocks.{blocks_at}
+use Rattle.sema.proofs.Threads.{fewer, blocks-refused, blocks-fine, blocks-ended}
+use native.Mathlib.Omega.{arith}
+use Prim.Native.Nat.{◌-◌}
+use mathlib.Core.Path.{sym, ◌∙◌}
+use Rattle.sema.proofs.function.analyze_remaining.Goals as goal
+
+pub returns-in-Empty : goal.returns-in-Empty
+returns-in-Empty c =
+    blocks-ended (tokens_of c.args.tokens.now) (globals_in c.args.rows.now c.args.n) c.args.ret c.args.table.now
+    (blocks_at c.args.items.now c.args.arguments.now c.args.blocks.now c.args.first (remaining c.args.order.now c.args.work))
+    c.loop-b.table c.args.items.now c.args.arguments.now c.args.blocks.now c.args.first c.args.order.now c.loop-b.left
+    c.loop-b.invariant.0 c.requires.2 c.loop-b.invariant.2 (sym c.pop.ensures ∙ c.in-Empty.is)
+
+pub returns-in-Refused : goal.returns-in-Refused
+returns-in-Refused c =
+    blocks-refused (tokens_of c.args.tokens.now) (globals_in c.args.rows.now c.args.n) c.args.ret c.args.table.now
+    (blocks_at c.args.items.now c.args.arguments.now c.args.blocks.now c.args.first (remaining c.args.order.now c.args.work))
+    c.loop-b.table c.args.items.now c.args.arguments.now c.args.blocks.now c.args.first c.args.order.now c.loop-b.left
+    c.loop-b.invariant.0 c.requires.2 c.loop-b.invariant.2 (sym c.pop.ensures ∙ c.in-Block.is) c.analyze_recorded.ensures c.in-Refused.is
+
+pub loop-b-smaller : goal.loop-b-smaller
+loop-b-smaller c =
+    let popped-is = sym c.pop.ensures ∙ c.in-Block.is in
+    (fewer (tokens_of c.args.tokens.now) (globals_in c.args.rows.now c.args.n) c.args.ret c.args.table.now
+    (blocks_at c.args.items.now c.args.arguments.now c.args.blocks.now c.args.first (remaining c.args.order.now c.args.work))
+    c.loop-b.table c.args.items.now c.args.arguments.now c.args.blocks.now c.args.first c.args.order.now c.loop-b.left
+    c.loop-b.invariant.0 c.requires.2 c.loop-b.invariant.2 popped-is).1
+
+pub loop-b-preserved : goal.loop-b-preserved
+loop-b-preserved c =
+    let popped-is = sym c.pop.ensures ∙ c.in-Block.is in
+    let less = fewer (tokens_of c.args.tokens.now) (globals_in c.args.rows.now c.args.n) c.args.ret c.args.table.now
+    (blocks_at c.args.items.now c.args.arguments.now c.args.blocks.now c.args.first (remaining c.args.order.now c.args.work))
+    c.loop-b.table c.args.items.now c.args.arguments.now c.args.blocks.now c.args.first c.args.order.now c.loop-b.left
+    c.loop-b.invariant.0 c.requires.2 c.loop-b.invariant.2 popped-is in (
+      omega (arith, less.0, c.loop-b.invariant.0),
+      c.analyze_recorded.auto.1.1.1.1.0 ∙ c.loop-b.invariant.1,
+      blocks-fine (tokens_of c.args.tokens.now) (globals_in c.args.rows.now c.args.n) c.args.ret c.args.table.now
+          (blocks_at c.args.items.now c.args.arguments.now c.args.blocks.now c.args.first (remaining c.args.order.now
+          c.args.work))
+          c.loop-b.table c.args.items.now c.args.arguments.now c.args.blocks.now c.args.first c.args.order.now c.loop-b.left
+          c.loop-b.invariant.0 c.requires.2 c.loop-b.invariant.2 popped-is c.analyze_recorded.ensures c.in-Fine.is,
+    )

@@ -1,0 +1,5 @@
+-- One digit less at each call.
+use Rattle.utils.proofs.+put_digits.Given as goal
+
+abbrev pub decreases-put_digits : goal.decreases-put_digits
+decreases-put_digits l = l.most
