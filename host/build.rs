@@ -1,21 +1,22 @@
 //! Has the archive of the proved functions, target/staticlib/libpitchsleet.a, linked. Where it is missing, or made from other
 //! contents than crates/ has, tools/archive makes it anew. That proves the crates: it takes minutes the first time.
-use std::fs::{File, OpenOptions};
+use std::fs::{self, File, OpenOptions};
 use std::io::{BufRead, BufReader, Write};
 use std::path::{Path, PathBuf};
 use std::process::{Command, Stdio};
 
 const ARCHIVE: &str = "target/staticlib/libpitchsleet.a";
 const TOOL: &str = "tools/archive";
-const SOURCES: [&str; 2] = ["crates", "crates.txt"];
+const CRATES: &str = "crates";
+const LIST: &str = "crates.txt";
 
 /// How much of what was said is shown where there is no archive, in lines.
 const SHOWN: usize = 20;
 
 fn main() {
     let root = root();
-    for watched in [ARCHIVE, TOOL].into_iter().chain(SOURCES) {
-        println!("cargo::rerun-if-changed={}", root.join(watched).display());
+    for watched in watched(&root) {
+        println!("cargo::rerun-if-changed={}", watched.display());
     }
     match make_archive(&root) {
         Ok(()) => {
@@ -32,6 +33,14 @@ fn root() -> PathBuf {
     let host = std::env::var_os("CARGO_MANIFEST_DIR").expect("cargo sets it");
     let host = PathBuf::from(host);
     host.parent().expect("host/ is in the repository").to_path_buf()
+}
+
+/// The archive, and what it is made by and from. A crate's out/ is no source: rt writes there at every check.
+fn watched(root: &Path) -> Vec<PathBuf> {
+    let entries = |folder: &Path| fs::read_dir(folder).into_iter().flatten().flatten().map(|entry| entry.path());
+    let of_crates = entries(&root.join(CRATES)).flat_map(|folder| entries(&folder));
+    let sources = of_crates.filter(|path| !path.ends_with("out"));
+    [ARCHIVE, TOOL, LIST].map(|name| root.join(name)).into_iter().chain(sources).collect()
 }
 
 /// Where there is no archive, what was said last of why.
@@ -75,7 +84,7 @@ impl Progress {
     }
 }
 
-/// `rt: utils proved (14 s)`, and what tools/archive says itself.
+/// `crate utils: modules loaded=0 checked=33`, which ends each crate, and what rt and tools/archive say themselves.
 fn is_progress(line: &str) -> bool {
-    ["rt: ", "pitchsleet: "].iter().any(|front| line.starts_with(front))
+    ["crate ", "rt: ", "pitchsleet: "].iter().any(|front| line.starts_with(front))
 }

@@ -1,5 +1,7 @@
 //! When the crates are proved again: tools/archive, and host/build.rs and ./pitchsleet, which leave it to that. In a small
 //! repository, with an `rt` that only writes down that it was called.
+mod outside;
+
 use std::ffi::OsString;
 use std::fs::{self, File};
 use std::io::{self, Write};
@@ -8,17 +10,24 @@ use std::path::{Path, PathBuf};
 use std::process::{Command, Output};
 use std::time::{Duration, SystemTime};
 
+use outside::Outside;
+
 const ARCHIVE: &str = "target/staticlib/libpitchsleet.a";
 const STAMP: &str = "target/staticlib/libpitchsleet.a.stamp";
+const CRATE: &str = "crates/pitchsleet";
 const SOURCE: &str = "crates/utils/src/lib.rt";
 
-/// An `rt` that writes down each call, and makes an archive that depends on what it is made from.
-const MAKES: &str = r#"echo "$*" >> calls
-mkdir -p target/staticlib
-cat crates/*/src/* > target/staticlib/libpitchsleet.a"#;
+/// An `rt` that writes down each call, and in which crate's folder it came.
+const IS_CALLED: &str = r#"echo "${PWD##*/}: rt $*" >> ../../calls"#;
+
+/// One that makes an archive that depends on what it is made from, and keeps something of each crate below, as rt does.
+const MAKES: &str = r#"echo "${PWD##*/}: rt $*" >> ../../calls
+mkdir -p out ../utils/out
+echo "$$" >> ../utils/out/kept
+cat ../*/src/* > out/libpitchsleet.a"#;
 
 /// And one that proves nothing.
-const REFUSES: &str = r#"echo "$*" >> calls
+const REFUSES: &str = r#"echo "${PWD##*/}: rt $*" >> ../../calls
 echo logic=not-proved
 exit 1"#;
 
@@ -28,27 +37,26 @@ mkdir -p ../target/host/release
 printf '#!/bin/sh\necho "$*"\n' > ../target/host/release/pitchsleet
 chmod +x ../target/host/release/pitchsleet"#;
 
-/// A repository with two crates.
+/// A repository with three crates.
 struct Repository {
-    root: PathBuf,
+    root: Outside,
 }
 
 impl Repository {
     fn new(name: &str) -> Self {
-        let root = Path::new(env!("CARGO_TARGET_TMPDIR")).join("archive").join(name);
-        let _ = fs::remove_dir_all(&root);
-        let repository = Self { root };
+        let repository = Self { root: Outside::new(&format!("archive-{name}")) };
         repository.copy("tools/archive");
         repository.write(SOURCE, "fn one() {}\n");
         repository.write("crates/lexer/src/lib.rt", "fn two() {}\n");
-        repository.write("crates.txt", "utils:\nlexer: utils\n");
+        repository.write(&format!("{CRATE}/src/lib.rt"), "fn three() {}\n");
+        repository.write("crates.txt", "utils:\nlexer: utils\npitchsleet staticlib: lexer utils\n");
         repository.program("rt", MAKES);
         repository.grow_old();
         repository
     }
 
     fn path(&self, name: &str) -> PathBuf {
-        self.root.join(name)
+        self.root.path().join(name)
     }
 
     /// A file of this repository, as it is in the real one.
@@ -81,7 +89,7 @@ impl Repository {
 
     /// Sets every time an hour back, so that what is written from now on is newer than all.
     fn grow_old(&self) {
-        for path in below(&self.root) {
+        for path in below(self.root.path()) {
             let about = fs::metadata(&path).and_then(|about| about.modified()).expect("a time");
             set_time(&path, about - Duration::from_secs(3600));
         }
@@ -119,7 +127,7 @@ impl Repository {
     /// How often rt was called.
     fn calls(&self) -> usize {
         let calls = fs::read_to_string(self.path("calls")).unwrap_or_default();
-        assert!(calls.lines().all(|call| call == "staticlib pitchsleet"), "{calls}");
+        assert!(calls.lines().all(|call| call == "pitchsleet: rt lib"), "{calls}");
         calls.lines().count()
     }
 }
@@ -181,7 +189,7 @@ fn other_contents_are_proved() {
     assert!(repository.proves(), "another name");
     fs::remove_file(repository.path("crates/utils/src/less.rt")).expect("removed");
     assert!(repository.proves(), "a file less");
-    repository.write("crates.txt", "lexer: utils\nutils:\n");
+    repository.write("crates.txt", "lexer: utils\nutils:\npitchsleet staticlib: lexer utils\n");
     assert!(repository.proves(), "another order of the crates");
     assert!(!repository.proves());
 
@@ -192,14 +200,60 @@ fn other_contents_are_proved() {
     assert!(!repository.proves());
 }
 
-/// The gate calls rt itself, and so may a person.
+/// What rt keeps in each crate's out/ is no source, also where it is new or newer.
 #[test]
-fn an_archive_that_rt_made() {
+fn what_rt_keeps() {
+    let repository = Repository::new("kept");
+    assert!(repository.proves());
+    for name in ["crates/utils/out/kept", "crates/utils/out/deeper/kept", "crates/lexer/out/new"] {
+        repository.write(name, "kept");
+        assert!(!repository.proves(), "{name}");
+    }
+    fs::remove_file(repository.path(STAMP)).expect("removed");
+    repository.grow_old();
+    repository.touch(ARCHIVE);
+    repository.write("crates/utils/out/kept", "kept later");
+    assert!(!repository.proves(), "the archive is newer than all but that");
+    // A function may be called `out`, and its proof stands in a folder of that name.
+    repository.write("crates/utils/proofs/out/Answers.antt", "");
+    assert!(repository.proves(), "a file more");
+    repository.write("crates/utils/proofs/out/Answers.antt", "-- another");
+    assert!(repository.proves(), "another text");
+    assert!(!repository.proves());
+}
+
+/// The gate makes it in any case.
+#[test]
+fn an_archive_made_anew() {
+    let repository = Repository::new("anew");
+    for calls in 1..=2 {
+        let output = repository.run("tools/archive", &["--anew"]);
+        assert!(output.status.success(), "{}", said(&output));
+        assert_eq!(repository.calls(), calls);
+        assert!(!repository.proves());
+    }
+    repository.program("rt", REFUSES);
+    assert_eq!(repository.run("tools/archive", &["--anew"]).status.code(), Some(2), "and takes no earlier one");
+    let output = repository.run("tools/archive", &["--again"]);
+    assert_eq!(
+        (output.status.code(), said(&output).as_str()),
+        (Some(2), "pitchsleet: usage: tools/archive [--anew]\n")
+    );
+}
+
+/// A person may call rt, and copy what it makes.
+#[test]
+fn an_archive_that_was_copied() {
     let repository = Repository::new("by-hand");
     let rt = || {
         let rt = repository.path("bin/rt");
-        let made = Command::new(rt).args(["staticlib", "pitchsleet"]).current_dir(&repository.root).status();
+        let made = Command::new(rt).arg("lib").current_dir(repository.path(CRATE)).status();
         assert!(made.expect("rt runs").success());
+        let folder = repository.path(ARCHIVE).parent().expect("a folder").to_path_buf();
+        fs::create_dir_all(folder).expect("a folder");
+        // Its contents alone, so that its time is that of the copy.
+        let made = fs::read(repository.path(CRATE).join("out/libpitchsleet.a")).expect("an archive");
+        fs::write(repository.path(ARCHIVE), made).expect("a copy");
     };
     rt();
     assert!(!repository.proves(), "it is newer than all, and has no stamp");
@@ -232,7 +286,7 @@ fn an_archive_that_rt_made() {
 #[test]
 fn a_source_that_changes_while_it_is_proved() {
     let repository = Repository::new("meanwhile");
-    repository.program("rt", &format!("{MAKES}\necho '// more' >> {SOURCE}"));
+    repository.program("rt", &format!("{MAKES}\necho '// more' >> ../../{SOURCE}"));
     assert!(repository.proves());
     repository.program("rt", MAKES);
     assert!(repository.proves());
@@ -250,7 +304,7 @@ fn what_is_not_proved() {
         assert!(output.stdout.is_empty());
         assert_eq!(repository.calls(), calls, "it is tried again");
     }
-    repository.program("rt", "echo \"$*\" >> calls");
+    repository.program("rt", IS_CALLED);
     assert_eq!(repository.run("tools/archive", &[]).status.code(), Some(2), "rt has made nothing");
     repository.program("rt", MAKES);
     assert!(repository.proves());
@@ -264,8 +318,8 @@ fn what_is_not_proved() {
 }
 
 /// What tools/archive calls beside rt.
-const ITS_TOOLS: [&str; 11] =
-    ["sh", "dirname", "find", "head", "sha256sum", "cut", "sort", "mkdir", "touch", "mv", "rm"];
+const ITS_TOOLS: [&str; 12] =
+    ["sh", "dirname", "find", "head", "sha256sum", "cut", "sort", "mkdir", "touch", "cp", "mv", "rm"];
 
 /// A PATH with these tools of the machine, and no other.
 fn path_of(repository: &Repository, tools: &[&str]) -> PathBuf {
@@ -368,7 +422,10 @@ fn the_build_script_where_nothing_is_said() {
 fn the_build_script_shows_progress() {
     let repository = Repository::new("build-progress");
     repository.add_host();
-    repository.program("rt", &format!("echo 'fn utils::put: proved'\necho 'rt: utils proved (14 s)'\n{MAKES}"));
+    repository.program(
+        "rt",
+        &format!("echo 'fn utils::put: proved'\necho 'crate utils: modules loaded=0 checked=33'\n{MAKES}"),
+    );
     let command = format!("{} check --offline --quiet --lib", env!("CARGO"));
     let output = Command::new("script")
         .args(["--quiet", "--return", "--command", &command, "/dev/null"])
@@ -383,7 +440,7 @@ fn the_build_script_shows_progress() {
     let shown = String::from_utf8_lossy(&output.stdout);
     assert!(output.status.success(), "{shown}");
     assert!(shown.contains("pitchsleet: first run: the crates are proved"), "{shown}");
-    assert!(shown.contains("rt: utils proved (14 s)"), "{shown}");
+    assert!(shown.contains("crate utils: modules loaded=0"), "{shown}");
     assert!(!shown.contains("fn utils::put"), "a line a crate: {shown}");
 }
 
