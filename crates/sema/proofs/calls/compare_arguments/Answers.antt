@@ -9,8 +9,6 @@ use Rattle.sema.proofs.calls.compare_arguments.Goals as goal
 pub returns : goal.returns
 unfolding types_of same_all
 returns c =
-
-
     rw (← c.loop-left.invariant.2, variables_none c.args.arguments.now c.loop-left.at c.loop-left.left (omega arith))
 
 pub loop-left-init : goal.loop-left-init
