@@ -23,7 +23,7 @@ returns-then-not-keeps c =
     c.args.names.now c.args.functions.now c.args.items.now c.args.arguments.now c.args.blocks.now
     c.args.predecessors.now
     c.refuse.result c.refuse.ensures (sym c.keeps.ensures ∙ c.if-not-keeps.true) _ in
-    record { value = w.0; verdict_held = w.1; counted = w.2 }
+    record { value = w.0; verdict_held = w.1.0; counted = w.1.1 }
 
 pub place_alone-at-requires : goal.place_alone-at-requires
 place_alone-at-requires c =
@@ -62,7 +62,7 @@ returns-in-Refused c =
     c.args.names.now c.args.functions.now c.args.items.now c.args.arguments.now c.args.blocks.now
     c.args.predecessors.now
     kept _ (sym c.in-Refused.is ∙ c.parse_alone.ensures.value) _ in
-    record { value = w.0; verdict_held = w.1; counted = w.2 }
+    record { value = w.0; verdict_held = w.1.0; counted = w.1.1 }
 
 pub returns-in-Refused-type_rows : goal.returns-in-Refused-type_rows
 returns-in-Refused-type_rows c =
@@ -86,7 +86,7 @@ returns-in-Refused-type_rows c =
     c.place_alone-at.ensures
     c.type_rows.result c.type_rows.new.items c.type_rows.new.arguments c.type_rows.ensures _
     c.in-Refused-type_rows.is _ in
-    record { value = w.0; verdict_held = w.1; counted = w.2 }
+    record { value = w.0; verdict_held = w.1.0; counted = w.1.1 }
 
 pub returns-in-Fine : goal.returns-in-Fine
 returns-in-Fine c =
@@ -109,4 +109,4 @@ returns-in-Fine c =
     c.keeps.new.local c.place_alone-at.new.local c.place_alone-at.new.functions c.place_alone-at.result room
     c.place_alone-at.ensures
     c.type_rows.result c.type_rows.new.items c.type_rows.new.arguments c.type_rows.ensures c.in-Fine.is in
-    record { value = w.0; verdict_held = w.1; counted = w.2 }
+    record { value = w.0; verdict_held = w.1.0; counted = w.1.1 }

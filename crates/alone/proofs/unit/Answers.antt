@@ -9,4 +9,4 @@ build-requires c =
 pub returns : goal.returns
 returns c =
     let w = c.build.ensures in
-    record { value = w.0; verdict_held = w.1; counted = w.2 }
+    record { value = w.0; verdict_held = w.1.0; counted = w.1.1 }

@@ -12,4 +12,4 @@ returns c =
         rw (c.elaborate_items.ensures, c.elaborate_calls.ensures) (elaborated _ _ _ _ _ _),
       ),
     ) in
-    record { after = w.0; arguments_after = w.1; elaborated = w.2 }
+    record { after = w.0; arguments_after = w.1.0; elaborated = w.1.1 }

@@ -26,7 +26,7 @@ returns-in-Refused c =
     c.args.arguments.now c.args.blocks.now c.args.predecessors.now
     (parse_refuses (tokens_of c.args.tokens.now) c.args.names.now c.args.functions.now c.args.items.now
     c.args.arguments.now c.args.blocks.now c.args.predecessors.now _ (sym c.in-Refused.is ∙ c.parse.ensures.value)) _ in
-    record { value = w.0; unit_held = w.1; counted = w.2 }
+    record { value = w.0; unit_held = w.1.0; counted = w.1.1 }
 
 pub returns-in-Refused-type_rows : goal.returns-in-Refused-type_rows
 returns-in-Refused-type_rows c =
@@ -36,11 +36,11 @@ returns-in-Refused-type_rows c =
     c.args.arguments.now c.args.blocks.now c.args.predecessors.now c.requires.1 c.requires.2 c.parse.ensures.all_fit
     c.in-Done.n (sym c.in-Done.is ∙ c.parse.ensures.value) _ _ _ _ _ c.parse.ensures.held _ _ _ c.type_rows.ensures _
     c.in-Refused-type_rows.is) _ in
-    record { value = w.0; unit_held = w.1; counted = w.2 }
+    record { value = w.0; unit_held = w.1.0; counted = w.1.1 }
 
 pub returns-in-Fine : goal.returns-in-Fine
 returns-in-Fine c =
     let w = fine-whole (tokens_of c.args.tokens.now) c.args.names.now c.args.functions.now c.args.items.now c.args.arguments.now
     c.args.blocks.now c.args.predecessors.now c.requires.1 c.requires.2 c.parse.ensures.all_fit c.in-Done.n
     (sym c.in-Done.is ∙ c.parse.ensures.value) _ _ _ _ _ c.parse.ensures.held _ _ _ c.type_rows.ensures c.in-Fine.is in
-    record { value = w.0; unit_held = w.1; counted = w.2 }
+    record { value = w.0; unit_held = w.1.0; counted = w.1.1 }

@@ -11,7 +11,11 @@ use Rattle.functions.proofs.build.build_with.Goals as goal
 
 pub parse_body-requires : goal.parse_body-requires
 parse_body-requires c =
-    (c.requires.0.within, ((c.requires.0.items-few, c.requires.0.arguments-few), (c.requires.3.items-long, c.requires.3.arguments-long, c.requires.2)))
+    record {
+      within = c.requires.0.within;
+      first_bound = (c.requires.0.items-few, c.requires.0.arguments-few);
+      items_size_in_bounds = (c.requires.3.items-long, c.requires.3.arguments-long, c.requires.2);
+    }
 
 pub link-requires : goal.link-requires
 link-requires c =
