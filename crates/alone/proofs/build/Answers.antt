@@ -14,7 +14,6 @@ use Rattle.alone.proofs.build.Goals as goal
 
 pub keeps-requires : goal.keeps-requires
 keeps-requires c =
-
     let t = table_in_range c.args.old.now c.args.rows.now c.args.number c.requires.0 in
     (omega (arith, t.there, t.in_range.count), c.requires.5)
 
@@ -24,21 +23,19 @@ returns-then-not-keeps c =
     c.args.names.now c.args.functions.now c.args.items.now c.args.arguments.now c.args.blocks.now
     c.args.predecessors.now
     c.refuse.result c.refuse.ensures (sym c.keeps.ensures ∙ c.if-not-keeps.true) _ in
-    record { value = w.0; verdict_held = w.1; counted = w.2 }
+    record { value = w.0; verdict_held = w.1.0; counted = w.1.1 }
 
 pub place_alone-at-requires : goal.place_alone-at-requires
 place_alone-at-requires c =
-
     let t = table_in_range c.args.old.now c.args.rows.now c.args.number c.requires.0 in (
       t.there,
       t.in_range.count,
-      omega (arith, c.requires.3, c.parse_alone.kept.1.1.0),
-      omega (arith, c.requires.5, c.keeps.kept.1.1.1.1.1.1.0),
+      omega (arith, c.requires.3, c.parse_alone.auto.functions),
+      omega (arith, c.requires.5, c.keeps.auto.local),
     )
 
 pub type_rows-requires : goal.type_rows-requires
 type_rows-requires c =
-
     let kept = sym c.keeps.ensures ∙ c.if-not-keeps.false in
     let parsed =
     parsed_is (tokens_of c.args.tokens.now) c.args.names.now c.in-Done.n
@@ -48,7 +45,7 @@ type_rows-requires c =
     c.parse_alone.new.predecessors)
     (sym c.in-Done.is ∙ c.parse_alone.ensures.value) c.parse_alone.ensures.function_held in
     let room : 2881 ≤ length c.keeps.new.local =
-    omega (arith, c.requires.5, c.keeps.kept.1.1.1.1.1.1.0) in
+    omega (arith, c.requires.5, c.keeps.auto.local) in
     typing_asks c.args.old.now c.args.rows.now c.args.number c.args.new.now (tokens_of c.args.tokens.now)
     c.args.names.now c.args.functions.now c.args.items.now c.args.arguments.now c.args.blocks.now
     c.args.predecessors.now
@@ -56,17 +53,16 @@ type_rows-requires c =
     c.parse_alone.new.functions c.parse_alone.new.items c.parse_alone.new.arguments c.parse_alone.new.blocks
     c.parse_alone.new.predecessors parsed
     c.keeps.new.local c.place_alone-at.new.local c.place_alone-at.new.functions c.place_alone-at.result room
-    c.place_alone-at.ensures (omega (arith, room, c.place_alone-at.kept.1.1.1.1.1.1.1.0))
+    c.place_alone-at.ensures (omega (arith, room, c.place_alone-at.auto.local))
 
 pub returns-in-Refused : goal.returns-in-Refused
 returns-in-Refused c =
-
     let kept = sym c.keeps.ensures ∙ c.if-not-keeps.false in
     let w = parse_refused c.args.old.now c.args.rows.now c.args.number c.args.new.now (tokens_of c.args.tokens.now)
     c.args.names.now c.args.functions.now c.args.items.now c.args.arguments.now c.args.blocks.now
     c.args.predecessors.now
     kept _ (sym c.in-Refused.is ∙ c.parse_alone.ensures.value) _ in
-    record { value = w.0; verdict_held = w.1; counted = w.2 }
+    record { value = w.0; verdict_held = w.1.0; counted = w.1.1 }
 
 pub returns-in-Refused-type_rows : goal.returns-in-Refused-type_rows
 returns-in-Refused-type_rows c =
@@ -79,7 +75,7 @@ returns-in-Refused-type_rows c =
     c.parse_alone.new.predecessors)
     (sym c.in-Done.is ∙ c.parse_alone.ensures.value) c.parse_alone.ensures.function_held in
     let room : 2881 ≤ length c.keeps.new.local =
-    omega (arith, c.requires.5, c.keeps.kept.1.1.1.1.1.1.0) in
+    omega (arith, c.requires.5, c.keeps.auto.local) in
     let w = types-refused c.args.old.now c.args.rows.now c.args.number c.args.new.now (tokens_of c.args.tokens.now)
     c.args.names.now c.args.functions.now c.args.items.now c.args.arguments.now c.args.blocks.now
     c.args.predecessors.now
@@ -90,7 +86,7 @@ returns-in-Refused-type_rows c =
     c.place_alone-at.ensures
     c.type_rows.result c.type_rows.new.items c.type_rows.new.arguments c.type_rows.ensures _
     c.in-Refused-type_rows.is _ in
-    record { value = w.0; verdict_held = w.1; counted = w.2 }
+    record { value = w.0; verdict_held = w.1.0; counted = w.1.1 }
 
 pub returns-in-Fine : goal.returns-in-Fine
 returns-in-Fine c =
@@ -103,7 +99,7 @@ returns-in-Fine c =
     c.parse_alone.new.predecessors)
     (sym c.in-Done.is ∙ c.parse_alone.ensures.value) c.parse_alone.ensures.function_held in
     let room : 2881 ≤ length c.keeps.new.local =
-    omega (arith, c.requires.5, c.keeps.kept.1.1.1.1.1.1.0) in
+    omega (arith, c.requires.5, c.keeps.auto.local) in
     let w = types-fine c.args.old.now c.args.rows.now c.args.number c.args.new.now (tokens_of c.args.tokens.now)
     c.args.names.now c.args.functions.now c.args.items.now c.args.arguments.now c.args.blocks.now
     c.args.predecessors.now
@@ -113,4 +109,4 @@ returns-in-Fine c =
     c.keeps.new.local c.place_alone-at.new.local c.place_alone-at.new.functions c.place_alone-at.result room
     c.place_alone-at.ensures
     c.type_rows.result c.type_rows.new.items c.type_rows.new.arguments c.type_rows.ensures c.in-Fine.is in
-    record { value = w.0; verdict_held = w.1; counted = w.2 }
+    record { value = w.0; verdict_held = w.1.0; counted = w.1.1 }

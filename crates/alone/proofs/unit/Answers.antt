@@ -4,10 +4,9 @@ use Rattle.alone.proofs.unit.Goals as goal
 
 pub build-requires : goal.build-requires
 build-requires c =
-
     (c.requires.0, c.requires.1, c.requires.2, c.requires.3, c.requires.4, omega arith)
 
 pub returns : goal.returns
 returns c =
     let w = c.build.ensures in
-    record { value = w.0; verdict_held = w.1; counted = w.2 }
+    record { value = w.0; verdict_held = w.1.0; counted = w.1.1 }

@@ -13,7 +13,6 @@ use Rattle.checker.proofs.check_lexed.Goals as goal
 
 pub unit-requires : goal.unit-requires
 unit-requires c =
-
     (
       subst (λ (x : List ℕ). Within (tokens_of x) 0) (sym (used_tokens c.requires.0)) (within c.requires.0),
       c.requires.1.functions-long,
@@ -22,7 +21,6 @@ unit-requires c =
 
 pub refuse-requires : goal.refuse-requires
 refuse-requires c =
-
     (
       omega (arith, tokens-few c.requires.0, c.requires.1.tokens-long),
       omega (arith, names-few c.requires.0, c.requires.1.names-long),
@@ -32,13 +30,11 @@ refuse-requires c =
 
 pub counted-requires : goal.counted-requires
 counted-requires c =
-
-    let k = subst Counted c.in-Done.is c.unit.ensures.unit_held.1 in
+    let k = subst Counted c.in-Done.is c.unit.ensures.counted in
     (omega (arith, k.0), omega (arith, k.1), omega (arith, k.2), omega (arith, k.3), omega (arith, k.4))
 
 pub returns-in-Refused : goal.returns-in-Refused
 returns-in-Refused c =
-
     ends-refused c.requires.0 c.args.message.now _ _ _ (used_tokens c.requires.0) (used_names c.requires.0) c.in-Refused.e _ _
     (sym c.in-Refused.is ∙ c.unit.ensures.value) c.refuse.ensures.0 c.refuse.ensures.1
 
@@ -46,14 +42,12 @@ pub returns-in-Done : goal.returns-in-Done
 returns-in-Done c =
     rw c.counted.ensures
     (ends-accepted c.requires.0 c.args.message.now _ _ _ (used_tokens c.requires.0) (used_names c.requires.0) c.in-Done.n _
-    (sym c.in-Done.is ∙ c.unit.ensures.value) c.unit.ensures.unit_held.0)
+    (sym c.in-Done.is ∙ c.unit.ensures.value) c.unit.ensures.unit_held)
 
 pub slice_bounds-unit-end : goal.slice_bounds-unit-end
 slice_bounds-unit-end c =
-
     omega (arith, tokens-few c.requires.0, c.requires.1.tokens-long)
 
 pub slice_bounds-unit-end-2 : goal.slice_bounds-unit-end-2
 slice_bounds-unit-end-2 c =
-
     omega (arith, names-few c.requires.0, c.requires.1.names-long)

@@ -8,7 +8,6 @@ use Rattle.checker.proofs.finish.Goals as goal
 
 pub returns : goal.returns
 returns c =
-
     record {
       message = c.finish_message.ensures;
       tokens = c.clear_from.ensures;

@@ -10,7 +10,6 @@ use Rattle.checker.proofs.refuse.Goals as goal
 
 pub put_message-requires : goal.put_message-requires
 put_message-requires c =
-
     let lent = from_start (c.args.r.names * 2) c.args.names.now in
     (c.requires.2, subst (ShortNames c.args.text.now) (sym lent) c.requires.3)
 
@@ -23,15 +22,12 @@ returns c =
 
 pub slice_bounds-put_message-end : goal.slice_bounds-put_message-end
 slice_bounds-put_message-end c =
-
     omega (arith, c.requires.0)
 
 pub slice_bounds-put_message-end-2 : goal.slice_bounds-put_message-end-2
 slice_bounds-put_message-end-2 c =
-
     omega (arith, c.requires.1)
 
 pub slice_bounds-token_at-end : goal.slice_bounds-token_at-end
 slice_bounds-token_at-end c =
-
     omega (arith, c.requires.0)

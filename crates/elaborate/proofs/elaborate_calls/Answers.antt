@@ -10,7 +10,7 @@ loop-left-preserved c =
     let m = calls_more c.args.table.now c.args.items.now c.loop-left.arguments c.loop-left.at c.loop-left.left
     c.loop-left-test.true in (
       omega arith,
-      c.type_call.auto.1.1.0 ∙ c.loop-left.invariant.1,
+      c.type_call.auto.arguments ∙ c.loop-left.invariant.1,
       rw (c.type_call.ensures, c.record_at-r.ensures) (sym m ∙ c.loop-left.invariant.2),
     )
 

@@ -15,7 +15,7 @@ loop-left-preserved c =
     let m = items_more c.args.table.now (callee_of c.args.rows.now c.args.n) c.loop-left.items c.loop-left.at c.loop-left.left
     c.loop-left-test.true in (
       omega arith,
-      c.put_record.auto.0 ∙ c.loop-left.invariant.1,
+      c.put_record.auto.items ∙ c.loop-left.invariant.1,
       rw (c.put_record.ensures, c.typed_record.ensures, c.record_at-r.ensures) (sym m ∙ c.loop-left.invariant.2),
     )
 

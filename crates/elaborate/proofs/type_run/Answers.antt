@@ -9,7 +9,7 @@ pub loop-left-preserved : goal.loop-left-preserved
 loop-left-preserved c =
     let m = run_more c.args.table.now c.loop-left.arguments c.loop-left.at c.loop-left.left c.loop-left-test.true in (
       omega arith,
-      c.put_cell.auto.0 ∙ c.loop-left.invariant.1,
+      c.put_cell.auto.cells ∙ c.loop-left.invariant.1,
       rw (c.put_cell.ensures, c.cell_at-ty.ensures, c.cell_at.ensures) (sym m ∙ c.loop-left.invariant.2),
     )
 

@@ -7,30 +7,25 @@ use Rattle.exports.proofs.read_out.Goals as goal
 
 pub read_into-answer-requires : goal.read_into-answer-requires
 read_into-answer-requires c =
-
     (omega arith, omega (arith, c.requires.0), omega (arith, c.requires.1), c.requires.3)
 
 pub put_front-requires : goal.put_front-requires
 put_front-requires c =
-
-    omega (arith, c.read_into-answer.kept.1.1.0, c.requires.0, c.requires.2)
+    omega (arith, c.read_into-answer.auto.tokens, c.requires.0, c.requires.2)
 
 pub put_front-requires-2 : goal.put_front-requires-2
 put_front-requires-2 c =
-
-    omega (arith, c.put_front.kept.0, c.read_into-answer.kept.1.1.1.0, c.requires.1, c.requires.2)
+    omega (arith, c.put_front.auto.out, c.read_into-answer.auto.names, c.requires.1, c.requires.2)
 
 pub clear_part-requires : goal.clear_part-requires
 clear_part-requires c =
-
-    (omega (arith, c.put_front-2.kept.0, c.put_front.kept.0, c.requires.2), omega arith)
+    (omega (arith, c.put_front-2.auto.out, c.put_front.auto.out, c.requires.2), omega arith)
 
 pub returns : goal.returns
 unfolding read_of
 returns c =
-
-    let long = c.put_front-2.kept.0 ∙ c.put_front.kept.0 in
+    let long = c.put_front-2.auto.out ∙ c.put_front.auto.out in
     whole c.args.text.now _ _ c.args.out.now _ _ _ c.args.message.now _ _ c.read_into-answer.result
-    c.read_into-answer.ensures (c.read_into-answer.kept.1.1.0 ∙ c.requires.0) (c.read_into-answer.kept.1.1.1.0 ∙ c.requires.1) c.requires.2
-    c.read_into-answer.kept.1.1.1.1.0 c.put_front.ensures c.put_front-2.ensures
+    c.read_into-answer.ensures (c.read_into-answer.auto.tokens ∙ c.requires.0) (c.read_into-answer.auto.names ∙ c.requires.1) c.requires.2
+    c.read_into-answer.auto.message c.put_front.ensures c.put_front-2.ensures
     (rw long at c.clear_part.ensures) c.finish_message.ensures

@@ -12,7 +12,7 @@ pub loop-functions-init : goal.loop-functions-init
 loop-functions-init c =
     begin (tokens_of c.args.tokens.now) c.args.names.now _
     (record {
-      c.requires.0 = c.requires.0;
+      within = c.requires.0;
       items-few = omega arith;
       arguments-few = omega arith;
       blocks-few = omega arith;
@@ -29,7 +29,7 @@ bounds-functions-0 c =
 pub returns-then-t-eq-END_OF_FILE : goal.returns-then-t-eq-END_OF_FILE
 returns-then-t-eq-END_OF_FILE c =
     let w = at-end (tokens_of c.args.tokens.now) c.args.names.now _ c.loop-functions.invariant c.token_at-t.ensures c.if-t-eq-END_OF_FILE.true in
-    record { value = w.0; held = w.1; all_fit = w.2 }
+    record { value = w.0; held = w.1.0; all_fit = w.1.1 }
 
 pub parse_function-requires : goal.parse_function-requires
 parse_function-requires c =
@@ -50,7 +50,7 @@ pub returns-in-Refused : goal.returns-in-Refused
 returns-in-Refused c =
     let w = refused-read (tokens_of c.args.tokens.now) c.args.names.now _ c.loop-functions.invariant c.token_at-t.ensures c.if-t-eq-END_OF_FILE.false _ refl
     (sym c.in-Refused.is ∙ c.parse_function.ensures.value) _ in
-    record { value = w.0; held = w.1; all_fit = w.2 }
+    record { value = w.0; held = w.1.0; all_fit = w.1.1 }
 
 pub loop-functions-smaller : goal.loop-functions-smaller
 loop-functions-smaller c =

@@ -36,7 +36,7 @@ put_row-requires c =
       fits.6,
       fits.7,
       fits.8,
-      omega (arith, c.requires.3, c.parse_header.auto.1.1.1.1.0),
+      omega (arith, c.requires.3, c.parse_header.auto.rows),
     )
 
 pub types_after-requires : goal.types_after-requires

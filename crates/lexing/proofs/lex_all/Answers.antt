@@ -15,7 +15,6 @@ use Rattle.lexing.proofs.lex_all.Goals as goal
 
 pub loop-next-init : goal.loop-next-init
 loop-next-init c =
-
     (
       start c.args.text.now c.args.line c.args.tokens.now c.args.names.now (omega (arith, c.requires))
           (omega (arith, c.requires)) (omega (arith, c.requires)) (omega (arith, c.requires)),
@@ -30,12 +29,10 @@ next_token-requires c =
 
 pub loop-next-preserved-in-Skipped : goal.loop-next-preserved-in-Skipped
 loop-next-preserved-in-Skipped c =
-
     (search skipped, prints_kept ((added_by c.args.text.now (parts_of (take (c.loop-next.known * 2) c.loop-next.names)) (piece_at c.args.text.now c.loop-next.at.place c.loop-next.at.line))) _ c.next_token.ensures.names_after c.loop-next.invariant.1, c.loop-next.invariant.2)
 
 pub keep_print-requires : goal.keep_print-requires
 keep_print-requires c =
-
     let more =
     token-more c.loop-next.invariant.0 c.next_token.ensures.value c.next_token.ensures.names_after c.in-Token.is c.push_token.ensures.0 (ap not c.if-not-push_token.false)
     c.push_token.ensures.1 in
@@ -43,7 +40,6 @@ keep_print-requires c =
 
 pub loop-next-preserved : goal.loop-next-preserved
 loop-next-preserved c =
-
     (
       token-more c.loop-next.invariant.0 c.next_token.ensures.value c.next_token.ensures.names_after c.in-Token.is
           c.push_token.ensures.0 (ap not c.if-not-push_token.false) c.push_token.ensures.1,

@@ -7,9 +7,6 @@ use Rattle.lexing.proofs.next_token.Goals as goal
 
 pub number_name-requires : goal.number_name-requires
 number_name-requires c =
-
-
-
     let past =
     rw (← c.lex_at.ensures, c.in-Name.is) at
     (piece_past c.args.text.now c.args.at.place c.args.at.line c.requires.2) in

@@ -11,7 +11,6 @@ use Rattle.rechecker.proofs.recheck_into.Goals as goal
 
 pub returns-then-not-is_table : goal.returns-then-not-is_table
 returns-then-not-is_table c =
-
     refused_with_lem _ 42 0 _ c.args.message.now _ _ _ _
     (bad_table c.args.old.now c.args.table.now c.args.number c.args.new.now
     (sym c.is_table.ensures ∙ c.if-not-is_table.true))
@@ -19,7 +18,6 @@ returns-then-not-is_table c =
 
 pub read_into-r-requires : goal.read_into-r-requires
 read_into-r-requires c =
-
     (
       omega (
         arith,
@@ -33,16 +31,15 @@ read_into-r-requires c =
 
 pub recheck_lexed-requires : goal.recheck_lexed-requires
 recheck_lexed-requires c =
-
     let lexed = is-lexed _ c.args.new.now c.args.message.now c.read_into-r.result _ _ _ c.read_into-r.ensures
     c.if-r-eq-ACCEPTED.true in (
       sym c.is_table.ensures ∙ c.if-not-is_table.false,
       subst (λ (k : ℕ). Lexed k c.args.new.now c.read_into-r.result c.read_into-r.new.tokens
           c.read_into-r.new.names) c.cell_at-line.ensures lexed,
       record {
-        message-long = omega (arith, c.requires.message-long, c.read_into-r.kept.1.1.1.1.0);
-        tokens-long = omega (arith, c.requires.tokens-long, c.read_into-r.kept.1.1.0);
-        names-long = omega (arith, c.requires.names-long, c.read_into-r.kept.1.1.1.0);
+        message-long = omega (arith, c.requires.message-long, c.read_into-r.auto.message);
+        tokens-long = omega (arith, c.requires.tokens-long, c.read_into-r.auto.tokens);
+        names-long = omega (arith, c.requires.names-long, c.read_into-r.auto.names);
         functions-long = c.requires.functions-long;
         long = c.requires.long;
       },
@@ -50,9 +47,8 @@ recheck_lexed-requires c =
 
 pub returns-then-r-eq-ACCEPTED : goal.returns-then-r-eq-ACCEPTED
 returns-then-r-eq-ACCEPTED c =
-
     as_long-before (recheck_of c.args.old.now c.args.table.now c.args.number c.args.new.now) c.args.message.now _ _ _ _ _ _
-    c.read_into-r.kept.1.1.1.1.0 c.recheck_lexed.ensures
+    c.read_into-r.auto.message c.recheck_lexed.ensures
 
 pub returns : goal.returns
 returns c =

@@ -13,7 +13,6 @@ use Rattle.rechecker.proofs.recheck_lexed.Goals as goal
 
 pub recheck_whole-requires : goal.recheck_whole-requires
 recheck_whole-requires c =
-
     (
       c.requires.0,
       c.requires.1,
@@ -24,12 +23,10 @@ recheck_whole-requires c =
 
 pub returns-then-is_whole : goal.returns-then-is_whole
 returns-then-is_whole c =
-
     c.recheck_whole.ensures
 
 pub returns : goal.returns
 returns c =
-
     let ends = not-whole c.args.old.now c.args.table.now c.args.number c.args.new.now c.args.message.now
     c.args.message.now c.args.tokens.now c.args.names.now c.args.r c.requires.0 c.requires.1 _ _ (used_tokens c.requires.1)
     (used_names c.requires.1) (sym c.is_whole.ensures ∙ c.if-is_whole.false) in
@@ -39,5 +36,4 @@ returns c =
 
 pub slice_bounds-is_whole-end : goal.slice_bounds-is_whole-end
 slice_bounds-is_whole-end c =
-
     omega (arith, tokens-few c.requires.1, c.requires.2.tokens-long)

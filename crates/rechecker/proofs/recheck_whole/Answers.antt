@@ -13,7 +13,6 @@ use Rattle.rechecker.proofs.recheck_whole.Goals as goal
 
 pub unit-requires : goal.unit-requires
 unit-requires c =
-
     (
       c.requires.0,
       named_now c.requires.1,
@@ -24,7 +23,6 @@ unit-requires c =
 
 pub refuse-requires : goal.refuse-requires
 refuse-requires c =
-
     (
       omega (arith, tokens-few c.requires.1, c.requires.3.tokens-long),
       omega (arith, names-few c.requires.1, c.requires.3.names-long),
@@ -34,13 +32,11 @@ refuse-requires c =
 
 pub counted-requires : goal.counted-requires
 counted-requires c =
-
-    let k = subst Counted c.in-Done.is c.unit.ensures.verdict_held.1 in
+    let k = subst Counted c.in-Done.is c.unit.ensures.counted in
     (omega (arith, k.0), omega (arith, k.1), omega (arith, k.2), omega (arith, k.3), omega (arith, k.4))
 
 pub returns-in-Refused : goal.returns-in-Refused
 returns-in-Refused c =
-
     ends-refused c.args.old.now c.args.table.now c.args.number c.args.new.now c.args.message.now _ c.args.tokens.now
     c.args.names.now c.args.r c.requires.0 c.requires.1 _ _ (used_tokens c.requires.1) (used_names c.requires.1) c.requires.2
     c.in-Refused.e _ _ (sym c.in-Refused.is ∙ c.unit.ensures.value) c.refuse.ensures.0
@@ -51,14 +47,12 @@ returns-in-Done c =
     rw c.counted.ensures
     (ends-accepted c.args.old.now c.args.table.now c.args.number c.args.new.now c.args.message.now _ c.args.tokens.now
     c.args.names.now c.args.r c.requires.0 c.requires.1 _ _ (used_tokens c.requires.1) (used_names c.requires.1) c.requires.2
-    c.in-Done.n _ (sym c.in-Done.is ∙ c.unit.ensures.value) c.unit.ensures.verdict_held.0)
+    c.in-Done.n _ (sym c.in-Done.is ∙ c.unit.ensures.value) c.unit.ensures.verdict_held)
 
 pub slice_bounds-unit-end : goal.slice_bounds-unit-end
 slice_bounds-unit-end c =
-
     omega (arith, tokens-few c.requires.1, c.requires.3.tokens-long)
 
 pub slice_bounds-unit-end-2 : goal.slice_bounds-unit-end-2
 slice_bounds-unit-end-2 c =
-
     omega (arith, names-few c.requires.1, c.requires.3.names-long)

@@ -10,14 +10,14 @@ pub type_rows-requires : goal.type_rows-requires
 type_rows-requires c =
     let m =
     few (tokens_of c.args.tokens.now) c.args.names.now c.args.functions.now c.args.items.now c.args.arguments.now
-    c.args.blocks.now c.args.predecessors.now c.requires.1 c.requires.2 c.parse.ensures.held.1 c.in-Done.n
-    (sym c.in-Done.is ∙ c.parse.ensures.value) _ _ _ _ _ c.parse.ensures.held.0 in (
+    c.args.blocks.now c.args.predecessors.now c.requires.1 c.requires.2 c.parse.ensures.all_fit c.in-Done.n
+    (sym c.in-Done.is ∙ c.parse.ensures.value) _ _ _ _ _ c.parse.ensures.held in (
       m,
       omega (arith, m),
-      omega (arith, c.requires.1, c.parse.auto.1.1.0),
+      omega (arith, c.requires.1, c.parse.auto.functions),
       rows_fit_lem (tokens_of c.args.tokens.now) c.args.names.now c.args.functions.now c.args.items.now c.args.arguments.now
-          c.args.blocks.now c.args.predecessors.now c.requires.1 c.requires.2 c.parse.ensures.held.1 c.in-Done.n
-          (sym c.in-Done.is ∙ c.parse.ensures.value) _ _ _ _ _ c.parse.ensures.held.0,
+          c.args.blocks.now c.args.predecessors.now c.requires.1 c.requires.2 c.parse.ensures.all_fit c.in-Done.n
+          (sym c.in-Done.is ∙ c.parse.ensures.value) _ _ _ _ _ c.parse.ensures.held,
     )
 
 pub returns-in-Refused : goal.returns-in-Refused
@@ -26,21 +26,21 @@ returns-in-Refused c =
     c.args.arguments.now c.args.blocks.now c.args.predecessors.now
     (parse_refuses (tokens_of c.args.tokens.now) c.args.names.now c.args.functions.now c.args.items.now
     c.args.arguments.now c.args.blocks.now c.args.predecessors.now _ (sym c.in-Refused.is ∙ c.parse.ensures.value)) _ in
-    record { value = w.0; unit_held = w.1; counted = w.2 }
+    record { value = w.0; unit_held = w.1.0; counted = w.1.1 }
 
 pub returns-in-Refused-type_rows : goal.returns-in-Refused-type_rows
 returns-in-Refused-type_rows c =
     let w = refused-whole (tokens_of c.args.tokens.now) c.args.names.now c.args.functions.now c.args.items.now
     c.args.arguments.now c.args.blocks.now c.args.predecessors.now
     (types_refuse (tokens_of c.args.tokens.now) c.args.names.now c.args.functions.now c.args.items.now
-    c.args.arguments.now c.args.blocks.now c.args.predecessors.now c.requires.1 c.requires.2 c.parse.ensures.held.1
-    c.in-Done.n (sym c.in-Done.is ∙ c.parse.ensures.value) _ _ _ _ _ c.parse.ensures.held.0 _ _ _ c.type_rows.ensures _
+    c.args.arguments.now c.args.blocks.now c.args.predecessors.now c.requires.1 c.requires.2 c.parse.ensures.all_fit
+    c.in-Done.n (sym c.in-Done.is ∙ c.parse.ensures.value) _ _ _ _ _ c.parse.ensures.held _ _ _ c.type_rows.ensures _
     c.in-Refused-type_rows.is) _ in
-    record { value = w.0; unit_held = w.1; counted = w.2 }
+    record { value = w.0; unit_held = w.1.0; counted = w.1.1 }
 
 pub returns-in-Fine : goal.returns-in-Fine
 returns-in-Fine c =
     let w = fine-whole (tokens_of c.args.tokens.now) c.args.names.now c.args.functions.now c.args.items.now c.args.arguments.now
-    c.args.blocks.now c.args.predecessors.now c.requires.1 c.requires.2 c.parse.ensures.held.1 c.in-Done.n
-    (sym c.in-Done.is ∙ c.parse.ensures.value) _ _ _ _ _ c.parse.ensures.held.0 _ _ _ c.type_rows.ensures c.in-Fine.is in
-    record { value = w.0; unit_held = w.1; counted = w.2 }
+    c.args.blocks.now c.args.predecessors.now c.requires.1 c.requires.2 c.parse.ensures.all_fit c.in-Done.n
+    (sym c.in-Done.is ∙ c.parse.ensures.value) _ _ _ _ _ c.parse.ensures.held _ _ _ c.type_rows.ensures c.in-Fine.is in
+    record { value = w.0; unit_held = w.1.0; counted = w.1.1 }

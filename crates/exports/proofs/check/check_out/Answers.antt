@@ -8,37 +8,34 @@ use Rattle.exports.proofs.check.check_out.Goals as goal
 
 pub check_into-answer-requires : goal.check_into-answer-requires
 check_into-answer-requires c =
-
     sizes_reached c.args.message.now _ _ _ _ _ _ _ c.requires.0 c.requires.2
 
 pub put_all-requires : goal.put_all-requires
 put_all-requires c =
-
     (
       record {
-        tokens = c.check_into-answer.kept.1.0 ∙ c.requires.0.tokens;
-        names = c.check_into-answer.kept.1.1.0 ∙ c.requires.0.names;
-        functions = c.check_into-answer.kept.1.1.1.0 ∙ c.requires.0.functions;
-        items = c.check_into-answer.kept.1.1.1.1.0 ∙ c.requires.0.items;
-        arguments = c.check_into-answer.kept.1.1.1.1.1.0 ∙ c.requires.0.arguments;
-        blocks = c.check_into-answer.kept.1.1.1.1.1.1.0 ∙ c.requires.0.blocks;
-        predecessors = c.check_into-answer.kept.1.1.1.1.1.1.1.0 ∙ c.requires.0.predecessors;
+        tokens = c.check_into-answer.auto.tokens ∙ c.requires.0.tokens;
+        names = c.check_into-answer.auto.names ∙ c.requires.0.names;
+        functions = c.check_into-answer.auto.functions ∙ c.requires.0.functions;
+        items = c.check_into-answer.auto.items ∙ c.requires.0.items;
+        arguments = c.check_into-answer.auto.arguments ∙ c.requires.0.arguments;
+        blocks = c.check_into-answer.auto.blocks ∙ c.requires.0.blocks;
+        predecessors = c.check_into-answer.auto.predecessors ∙ c.requires.0.predecessors;
       },
       c.requires.1,
     )
 
 pub returns : goal.returns
 returns c =
-
     out_of (check_of c.args.text.now) (silent c.args.text.now) _ _ _ _ _ _ _
     (record {
-      tokens = c.check_into-answer.kept.1.0 ∙ c.requires.0.tokens;
-      names = c.check_into-answer.kept.1.1.0 ∙ c.requires.0.names;
-      functions = c.check_into-answer.kept.1.1.1.0 ∙ c.requires.0.functions;
-      items = c.check_into-answer.kept.1.1.1.1.0 ∙ c.requires.0.items;
-      arguments = c.check_into-answer.kept.1.1.1.1.1.0 ∙ c.requires.0.arguments;
-      blocks = c.check_into-answer.kept.1.1.1.1.1.1.0 ∙ c.requires.0.blocks;
-      predecessors = c.check_into-answer.kept.1.1.1.1.1.1.1.0 ∙ c.requires.0.predecessors;
+      tokens = c.check_into-answer.auto.tokens ∙ c.requires.0.tokens;
+      names = c.check_into-answer.auto.names ∙ c.requires.0.names;
+      functions = c.check_into-answer.auto.functions ∙ c.requires.0.functions;
+      items = c.check_into-answer.auto.items ∙ c.requires.0.items;
+      arguments = c.check_into-answer.auto.arguments ∙ c.requires.0.arguments;
+      blocks = c.check_into-answer.auto.blocks ∙ c.requires.0.blocks;
+      predecessors = c.check_into-answer.auto.predecessors ∙ c.requires.0.predecessors;
     })
     c.check_into-answer.result c.args.message.now _ _ c.args.out.now _ c.check_into-answer.ensures
-    c.check_into-answer.kept.1.1.1.1.1.1.1.1.0 c.put_all.ensures c.finish_message.ensures
+    c.check_into-answer.auto.message c.put_all.ensures c.finish_message.ensures

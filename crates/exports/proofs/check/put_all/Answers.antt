@@ -6,5 +6,4 @@ use Rattle.exports.proofs.check.put_all.Goals as goal
 
 pub put_front-requires : goal.put_front-requires
 put_front-requires c =
-
     omega (arith, c.requires.0.tokens, c.requires.1)

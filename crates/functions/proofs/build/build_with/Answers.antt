@@ -11,13 +11,17 @@ use Rattle.functions.proofs.build.build_with.Goals as goal
 
 pub parse_body-requires : goal.parse_body-requires
 parse_body-requires c =
-    (c.requires.0.within, ((c.requires.0.items-few, c.requires.0.arguments-few), (c.requires.3.items-long, c.requires.3.arguments-long, c.requires.2)))
+    record {
+      within = c.requires.0.within;
+      first_bound = (c.requires.0.items-few, c.requires.0.arguments-few);
+      items_size_in_bounds = (c.requires.3.items-long, c.requires.3.arguments-long, c.requires.2);
+    }
 
 pub link-requires : goal.link-requires
 link-requires c =
     ready (tokens_of c.args.tokens.now) c.args.void c.args.name c.args.at c.args.n c.args.items.now _ c.args.arguments.now _ _ _
     c.in-Done.closed (sym c.in-Done.is ∙ c.parse_body.ensures.value) c.parse_body.ensures.held c.requires.0 c.requires.1
-    c.args.blocks.now c.args.predecessors.now c.requires.3 (omega (arith, c.requires.2, c.parse_body.auto.1.1.1.1.1.1.1.0))
+    c.args.blocks.now c.args.predecessors.now c.requires.3 (omega (arith, c.requires.2, c.parse_body.auto.labels))
 
 pub returns-in-Refused : goal.returns-in-Refused
 returns-in-Refused c =
@@ -34,12 +38,12 @@ returns-in-Refused-link c =
       value = rw (link_refused (tokens_of c.args.tokens.now) c.args.void c.args.name c.args.at c.args.n c.args.items.now _
     c.args.arguments.now _ _ _
     c.in-Done.closed (sym c.in-Done.is ∙ c.parse_body.ensures.value) c.parse_body.ensures.held c.requires.0 c.requires.1
-    c.args.blocks.now c.args.predecessors.now c.requires.3 (omega (arith, c.requires.2, c.parse_body.auto.1.1.1.1.1.1.1.0))
+    c.args.blocks.now c.args.predecessors.now c.requires.3 (omega (arith, c.requires.2, c.parse_body.auto.labels))
     c.in-Refused-link.e (sym c.in-Refused-link.is ∙ c.link.ensures.value)) refl;
       build_held = rw (link_refused (tokens_of c.args.tokens.now) c.args.void c.args.name c.args.at c.args.n c.args.items.now _
     c.args.arguments.now _ _ _
     c.in-Done.closed (sym c.in-Done.is ∙ c.parse_body.ensures.value) c.parse_body.ensures.held c.requires.0 c.requires.1
-    c.args.blocks.now c.args.predecessors.now c.requires.3 (omega (arith, c.requires.2, c.parse_body.auto.1.1.1.1.1.1.1.0))
+    c.args.blocks.now c.args.predecessors.now c.requires.3 (omega (arith, c.requires.2, c.parse_body.auto.labels))
     c.in-Refused-link.e (sym c.in-Refused-link.is ∙ c.link.ensures.value)) tt;
     }
 
@@ -52,13 +56,13 @@ returns-in-Done-link c =
           c.in-Done.closed (sym c.in-Done.is ∙ c.parse_body.ensures.value) c.parse_body.ensures.held c.requires.0
           c.requires.1
           c.args.blocks.now c.args.predecessors.now c.requires.3
-          (omega (arith, c.requires.2, c.parse_body.auto.1.1.1.1.1.1.1.0))
+          (omega (arith, c.requires.2, c.parse_body.auto.labels))
           _ _ (sym c.in-Done-link.is ∙ c.link.ensures.value) _ _ kept;
       build_held = is_held (tokens_of c.args.tokens.now) c.args.void c.args.name c.args.at c.args.n c.args.items.now _ c.args.arguments.now
           _ _ _
           c.in-Done.closed (sym c.in-Done.is ∙ c.parse_body.ensures.value) c.parse_body.ensures.held c.requires.0
           c.requires.1
           c.args.blocks.now c.args.predecessors.now c.requires.3
-          (omega (arith, c.requires.2, c.parse_body.auto.1.1.1.1.1.1.1.0))
+          (omega (arith, c.requires.2, c.parse_body.auto.labels))
           _ _ (sym c.in-Done-link.is ∙ c.link.ensures.value) _ _ kept;
     }

@@ -11,7 +11,7 @@ unfolding header_d opened
 returns-then-n-ge-FUNCTIONS c =
     record {
       value = rw (← c.consume_named.ensures, c.in-At.is, le-leb 64 _ c.if-n-ge-FUNCTIONS.true, c.refuse.ensures) refl;
-      header_held = rw (← c.consume_named.ensures, c.in-At.is, le-leb 64 _ c.if-n-ge-FUNCTIONS.true, c.refuse.ensures) tt;
+      header_held = rw (← c.consume_named.ensures, c.in-At.is, le-leb 64 _ c.if-n-ge-FUNCTIONS.true) tt;
     }
 
 pub returns-else-n-ge-FUNCTIONS : goal.returns-else-n-ge-FUNCTIONS

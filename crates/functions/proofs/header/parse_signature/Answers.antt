@@ -15,7 +15,7 @@ enter-requires c =
     let read = optional_formals (tokens_of c.args.tokens.now) c.args.at in
     let d = run-done read (sym c.in-Done.is ∙ c.parse_optional_formals.ensures.value) in
     let few : c.in-Done.formals ≤ 16 = omega (arith, d.1, formals-few (tokens_of c.args.tokens.now) c.args.at) in
-    (c.requires.0, few, omega (arith, c.parse_optional_formals.auto.1.1.0))
+    (c.requires.0, few, omega (arith, c.parse_optional_formals.auto.rows))
 
 pub returns-in-Refused : goal.returns-in-Refused
 unfolding signature_d then_formals opened

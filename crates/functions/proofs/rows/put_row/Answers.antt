@@ -21,10 +21,6 @@ zeros-behind r cells here used zeros =
 
 pub returns : goal.returns
 returns c =
-
-
-
-
     let ts = tokens_of c.args.tokens.now in
     let xs : List ℕ =
     c.args.token ∷ c.args.h.name.0 ∷ (c.args.b.next - 1) ∷ (token_at ts c.args.token).place

@@ -27,7 +27,7 @@ same_type-requires c =
       omega arith,
       omega arith,
       omega (arith, d.1, formals-few (tokens_of c.args.tokens.now) c.args.at),
-      omega (arith, c.requires.1, c.copy_row.auto.0, c.parse_optional_formals.auto.1.1.0),
+      omega (arith, c.requires.1, c.copy_row.auto.out, c.parse_optional_formals.auto.rows),
     )
 
 pub returns-in-Refused : goal.returns-in-Refused

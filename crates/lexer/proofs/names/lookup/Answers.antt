@@ -11,12 +11,10 @@ use Rattle.lexer.proofs.names.lookup.Goals as goal
 
 pub loop-k-init : goal.loop-k-init
 loop-k-init c =
-
     (omega arith, refl, c.requires.0.within)
 
 pub is_name-requires : goal.is_name-requires
 is_name-requires c =
-
     (search rules, c.requires.0, c.requires.1, search name-within, c.requires.2, c.requires.3)
 
 pub loop-k-preserved : goal.loop-k-preserved
@@ -25,7 +23,6 @@ loop-k-preserved c = (omega arith, search name-later, search names-within)
 pub returns : goal.returns
 unfolding index_of spellings parts_of
 returns c =
-
     let z : length (take (c.args.count * 2) c.args.names.now) ≤ c.loop-k.k * 2 = rw length-take (omega arith) in
     rw (← c.loop-k.invariant.1, drop_of_length-le (take (c.args.count * 2) c.args.names.now) z)
 

@@ -20,7 +20,6 @@ overflow_add-sum c = omega (arith, c.shared_slice_known-1.given c.loop-i.i)
 pub loop-i-preserved : goal.loop-i-preserved
 unfolding print_from
 loop-i-preserved c =
-
     (
       omega arith,
       omega arith,
@@ -30,5 +29,4 @@ loop-i-preserved c =
 pub returns : goal.returns
 unfolding print_from
 returns c =
-
     rw (drop_of_length-le c.args.name.now {i = c.loop-i.i} (omega arith)) at c.loop-i.invariant.2

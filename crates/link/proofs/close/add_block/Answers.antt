@@ -8,13 +8,11 @@ use Rattle.link.proofs.close.add_block.Goals as goal
 
 pub close_block-requires : goal.close_block-requires
 close_block-requires c =
-
     let few = c.requires.6 (omega arith) in
     (omega arith, omega arith, omega arith, omega arith, omega arith, omega arith)
 
 pub overflow_add-result : goal.overflow_add-result
 overflow_add-result c =
-
     let few = c.requires.6 (omega arith) in
     omega arith
 

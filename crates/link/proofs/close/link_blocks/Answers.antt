@@ -1,35 +1,29 @@
 -- The blocks that are left, resolved and stored from here, give the whole (`Cutting`).
 use native.Mathlib.Omega.{arith}
 use Prim.Native.Nat.{◌-◌}
-use Rattle.link.proofs.Cutting.{cut-start, next-room}
+use mathlib.Core.Path.{refl}
+use Rattle.link.proofs.Cutting.{cut-start, next-room, next-refused, next_above, next_last, next-on}
 use Rattle.link.proofs.close.link_blocks.Goals as goal
 
 pub overflow_add-end : goal.overflow_add-end
 overflow_add-end c =
-
     omega (arith, c.requires.few-items)
 
 pub overflow_add-from : goal.overflow_add-from
 overflow_add-from c =
-
     omega (arith, c.requires.few-items, c.requires.before-few)
 
 pub loop-e-init : goal.loop-e-init
 loop-e-init c =
-
     cut-start c.args.items.now c.args.first c.args.count c.args.counts.leading c.args.base c.args.name c.args.blocks.now
     c.requires.before_are c.requires.before-few c.requires.few-blocks
 
 pub block_end-stop-requires : goal.block_end-stop-requires
 block_end-stop-requires c =
-
     (c.loop-e.invariant.high, c.requires.items_there)
 
 pub add_block-requires : goal.add_block-requires
 add_block-requires c =
-
-
-
     (
       omega (arith, c.block_end-stop.ensures.0),
       omega (arith, c.block_end-stop.ensures.1, c.requires.few-items),
@@ -42,5 +36,28 @@ add_block-requires c =
 
 pub loop-e-smaller : goal.loop-e-smaller
 loop-e-smaller c =
-
     omega (arith, c.block_end-stop.ensures.0, c.block_end-stop.ensures.1, c.if-stop-end.false)
+
+pub returns-in-Refused : goal.returns-in-Refused
+returns-in-Refused c =
+    let r =
+    next-refused c.requires c.loop-e.invariant c.block_end-stop.ensures.0 c.refuse-empty.ensures c.add_block.ensures.value
+    c.in-Refused.is in
+    record { value = rw r refl; closed_held = tt }
+
+pub overflow_sub-result : goal.overflow_sub-result
+overflow_sub-result c =
+    next_above c.requires c.loop-e.invariant c.block_end-stop.ensures.0 c.refuse-empty.ensures c.add_block.ensures.value
+    c.in-Done.is
+
+pub returns-then-stop-end : goal.returns-then-stop-end
+returns-then-stop-end c =
+    let w =
+    next_last c.requires c.loop-e.invariant c.block_end-stop.ensures.0 c.refuse-empty.ensures c.add_block.ensures.value
+    c.in-Done.is c.add_block.ensures.blocks_after c.if-stop-end.true in
+    record { value = w.0; closed_held = w.1 }
+
+pub loop-e-preserved : goal.loop-e-preserved
+loop-e-preserved c =
+    next-on c.requires c.loop-e.invariant c.block_end-stop.ensures.0 c.refuse-empty.ensures c.add_block.ensures.value
+    c.in-Done.is c.add_block.ensures.blocks_after (omega (arith, c.block_end-stop.ensures.1, c.if-stop-end.false))

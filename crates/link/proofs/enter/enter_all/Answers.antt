@@ -64,8 +64,7 @@ returns c =
     let done = entered_all c.loop-j.invariant.2 (entries_none all c.loop-j.j (c.args.n - c.loop-j.j) (omega arith)) in
     let none = entered-end c.loop-j.here all c.loop-j.blocks c.loop-j.j (c.args.base + c.loop-j.j) (c.args.n - c.loop-j.j)
     (omega arith) in
-    let w = (done.0, (rw none at c.loop-j.invariant.3, done.1)) in
-    record { value = w.0; blocks_after = w.1; sources_after = w.2 }
+    record { value = done.0; blocks_after = rw none at c.loop-j.invariant.3; sources_after = done.1 }
 
 pub loop-j-smaller : goal.loop-j-smaller
 loop-j-smaller c = omega arith

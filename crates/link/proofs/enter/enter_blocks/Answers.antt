@@ -24,5 +24,8 @@ returns c =
     let each = loaded_row c.args.blocks.now c.args.base c.args.n (replicate 256 (replicate 2 0)) c.load.new.succs (replicate 256 0)
     c.load.new.counts c.load.ensures in
     let same = links_same rows records 0 c.args.n (λ v h. each v (omega arith)) in
-    let w  = rw same at c.enter_all.ensures in
-    record { value = w.0; blocks_after = w.1; sources_after = w.2 }
+    record {
+      value = rw same at c.enter_all.ensures.value;
+      blocks_after = rw same at c.enter_all.ensures.blocks_after;
+      sources_after = rw same at c.enter_all.ensures.sources_after;
+    }

@@ -35,37 +35,23 @@ as_item b at t {b'} {r} p = wider b at (at_token t.kind t.name t.integer) b' r 2
 pub returns-then-number-lt-DUPLICATE_LABEL : goal.returns-then-number-lt-DUPLICATE_LABEL
 unfolding item_of pick
 returns-then-number-lt-DUPLICATE_LABEL c =
-
-
-
     rw (lt-ltb _ _ c.if-number-lt-DUPLICATE_LABEL.true)
     (as_item c.args.buf.now c.args.at c.args.t c.put_at_token.ensures)
 
 pub returns-then-number-eq-DUPLICATE_LABEL : goal.returns-then-number-eq-DUPLICATE_LABEL
 unfolding item_of pick
 returns-then-number-eq-DUPLICATE_LABEL c =
-
-
-
     rw (le-ltb _ _ c.if-number-lt-DUPLICATE_LABEL.false, eq-eqb _ _ c.if-number-eq-DUPLICATE_LABEL.true) c.put_at_name.ensures
 
 pub returns-then-number-eq-MISSING_TARGET : goal.returns-then-number-eq-MISSING_TARGET
 unfolding item_of pick
 returns-then-number-eq-MISSING_TARGET c =
-
-
-
     rw (le-ltb _ _ c.if-number-lt-DUPLICATE_LABEL.false, ne_eqb _ _ c.if-number-eq-DUPLICATE_LABEL.false, eq-eqb _ _ c.if-number-eq-MISSING_TARGET.true)
     (nothing c.args.buf.now c.args.at 69)
 
 pub returns-then-number-lt-OTHER_TYPE : goal.returns-then-number-lt-OTHER_TYPE
 unfolding item_of pick
 returns-then-number-lt-OTHER_TYPE c =
-
-
-
-
-
     rw (
       le-ltb _ _ c.if-number-lt-DUPLICATE_LABEL.false,
       ne_eqb _ _ c.if-number-eq-DUPLICATE_LABEL.false,
@@ -77,17 +63,11 @@ returns-then-number-lt-OTHER_TYPE c =
 pub returns-then-number-lt-EMPTY_BLOCK : goal.returns-then-number-lt-EMPTY_BLOCK
 unfolding pick
 returns-then-number-lt-EMPTY_BLOCK c =
-
-
-
-
     rw (item-from_17 _ _ _ _ _ _ _ c.if-number-lt-OTHER_TYPE.false, lt-ltb _ _ c.if-number-lt-EMPTY_BLOCK.true)
     (as_item c.args.buf.now c.args.at c.args.t c.put_at_token-then-number-lt-EMPTY_BLOCK.ensures)
 
 pub returns : goal.returns
 unfolding pick
 returns c =
-
-
     rw (item-from_17 _ _ _ _ _ _ _ c.if-number-lt-OTHER_TYPE.false, le-ltb _ _ c.if-number-lt-EMPTY_BLOCK.false)
     (nothing c.args.buf.now c.args.at 69)

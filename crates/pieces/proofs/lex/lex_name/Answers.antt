@@ -8,12 +8,9 @@ use Rattle.pieces.proofs.lex.lex_name.Goals as goal
 
 pub name_to-requires : goal.name_to-requires
 name_to-requires c =
-
-
     omega (arith, c.name_end-end.ensures, name_end-from (drop (c.args.at + 1) c.args.text.now) (c.args.at + 1))
 
 pub returns : goal.returns
 unfolding name_at
 returns c =
-
     rw (← c.name_end-end.ensures) c.name_to.ensures

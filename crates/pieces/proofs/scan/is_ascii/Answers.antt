@@ -42,15 +42,11 @@ loop-i-init c = refl
 pub loop-i-preserved : goal.loop-i-preserved
 unfolding is_ascii
 loop-i-preserved c =
-
-
     at_byte (left c.loop-i.most) c.args.text.now c.loop-i.i c.loop-i.invariant (omega arith)
     (rw c.larger-most.ensures (of_larger c.loop-i.most (get_or c.args.text.now c.loop-i.i 0) (is_ascii (drop (c.loop-i.i + 1) c.args.text.now))))
 
 pub returns : goal.returns
 unfolding is_ascii
 returns c =
-
-
     at-end (left c.loop-i.most) c.args.text.now c.loop-i.i c.loop-i.invariant (omega arith)
     (at_most c.loop-i.most)

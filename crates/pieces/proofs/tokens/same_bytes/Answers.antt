@@ -13,8 +13,6 @@ loop-k-init c = (omega arith, refl)
 pub returns-then-a-p : goal.returns-then-a-p
 unfolding pick
 returns-then-a-p c =
-
-
     rw (
       ← c.loop-k.invariant.1,
       same_back c.args.a.now c.args.b.now c.args.i c.args.j c.loop-k.k (omega arith) (omega arith) (omega arith),
@@ -24,8 +22,6 @@ returns-then-a-p c =
 pub loop-k-preserved : goal.loop-k-preserved
 unfolding pick
 loop-k-preserved c =
-
-
     (
       omega arith,
       rw (

@@ -8,38 +8,35 @@ use Rattle.pitchsleet.proofs.rechecks.recheck_cells.Goals as goal
 
 pub recheck_into-answer-requires : goal.recheck_into-answer-requires
 recheck_into-answer-requires c =
-
     sizes_reached c.args.message.now _ _ _ _ _ _ _ c.requires.0 c.requires.2
 
 pub put_all-requires : goal.put_all-requires
 put_all-requires c =
-
     (
       record {
-        tokens = c.recheck_into-answer.kept.1.1.1.1.0 ∙ c.requires.0.tokens;
-        names = c.recheck_into-answer.kept.1.1.1.1.1.0 ∙ c.requires.0.names;
-        functions = c.recheck_into-answer.kept.1.1.1.1.1.1.0 ∙ c.requires.0.functions;
-        items = c.recheck_into-answer.kept.1.1.1.1.1.1.1.0 ∙ c.requires.0.items;
-        arguments = c.recheck_into-answer.kept.1.1.1.1.1.1.1.1.0 ∙ c.requires.0.arguments;
-        blocks = c.recheck_into-answer.kept.1.1.1.1.1.1.1.1.1.0 ∙ c.requires.0.blocks;
-        predecessors = c.recheck_into-answer.kept.1.1.1.1.1.1.1.1.1.1.0 ∙ c.requires.0.predecessors;
+        tokens = c.recheck_into-answer.auto.tokens ∙ c.requires.0.tokens;
+        names = c.recheck_into-answer.auto.names ∙ c.requires.0.names;
+        functions = c.recheck_into-answer.auto.functions ∙ c.requires.0.functions;
+        items = c.recheck_into-answer.auto.items ∙ c.requires.0.items;
+        arguments = c.recheck_into-answer.auto.arguments ∙ c.requires.0.arguments;
+        blocks = c.recheck_into-answer.auto.blocks ∙ c.requires.0.blocks;
+        predecessors = c.recheck_into-answer.auto.predecessors ∙ c.requires.0.predecessors;
       },
       c.requires.1,
     )
 
 pub returns : goal.returns
 returns c =
-
     out_of (recheck_of c.args.old.now c.args.table.now c.args.number c.args.new.now)
     (silent c.args.old.now c.args.table.now c.args.number c.args.new.now) _ _ _ _ _ _ _
     (record {
-      tokens = c.recheck_into-answer.kept.1.1.1.1.0 ∙ c.requires.0.tokens;
-      names = c.recheck_into-answer.kept.1.1.1.1.1.0 ∙ c.requires.0.names;
-      functions = c.recheck_into-answer.kept.1.1.1.1.1.1.0 ∙ c.requires.0.functions;
-      items = c.recheck_into-answer.kept.1.1.1.1.1.1.1.0 ∙ c.requires.0.items;
-      arguments = c.recheck_into-answer.kept.1.1.1.1.1.1.1.1.0 ∙ c.requires.0.arguments;
-      blocks = c.recheck_into-answer.kept.1.1.1.1.1.1.1.1.1.0 ∙ c.requires.0.blocks;
-      predecessors = c.recheck_into-answer.kept.1.1.1.1.1.1.1.1.1.1.0 ∙ c.requires.0.predecessors;
+      tokens = c.recheck_into-answer.auto.tokens ∙ c.requires.0.tokens;
+      names = c.recheck_into-answer.auto.names ∙ c.requires.0.names;
+      functions = c.recheck_into-answer.auto.functions ∙ c.requires.0.functions;
+      items = c.recheck_into-answer.auto.items ∙ c.requires.0.items;
+      arguments = c.recheck_into-answer.auto.arguments ∙ c.requires.0.arguments;
+      blocks = c.recheck_into-answer.auto.blocks ∙ c.requires.0.blocks;
+      predecessors = c.recheck_into-answer.auto.predecessors ∙ c.requires.0.predecessors;
     })
     c.recheck_into-answer.result c.args.message.now _ _ c.args.out.now _ c.recheck_into-answer.ensures
-    c.recheck_into-answer.kept.1.1.1.1.1.1.1.1.1.1.1.0 c.put_all.ensures c.finish_message.ensures
+    c.recheck_into-answer.auto.message c.put_all.ensures c.finish_message.ensures

@@ -24,4 +24,4 @@ returns c =
 
 pub slice_bounds-recheck_cells-end : goal.slice_bounds-recheck_cells-end
 slice_bounds-recheck_cells-end c =
-    omega (arith, (count_fits _ _ c.cell_count-n.ensures).1, c.get_cells.auto.0)
+    omega (arith, (count_fits _ _ c.cell_count-n.ensures).1, c.get_cells.auto.cells)

@@ -9,7 +9,6 @@ use Rattle.recheck.proofs.alone.parse_alone.Goals as goal
 
 pub parse_function-requires : goal.parse_function-requires
 parse_function-requires c =
-
     (
       record {
         within = c.requires.0;
@@ -27,7 +26,6 @@ parse_function-requires c =
 pub returns-then-t-eq-END_OF_FILE : goal.returns-then-t-eq-END_OF_FILE
 unfolding known_from
 returns-then-t-eq-END_OF_FILE c =
-
     let given =
     slices c.args.functions.now c.args.items.now c.args.arguments.now c.args.blocks.now c.args.predecessors.now in
     let w = alone-end (tokens_of c.args.tokens.now) c.args.names.now given _ _ refl
@@ -46,7 +44,6 @@ returns-then-t-eq-GLOBAL c =
 pub returns-in-Refused : goal.returns-in-Refused
 unfolding known_from
 returns-in-Refused c =
-
     let given =
     slices c.args.functions.now c.args.items.now c.args.arguments.now c.args.blocks.now c.args.predecessors.now in
     let w = alone-refused (tokens_of c.args.tokens.now) c.args.names.now given _ _ refl

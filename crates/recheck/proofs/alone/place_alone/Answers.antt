@@ -13,19 +13,16 @@ bounds-functions-8 c =
 
 pub copy_row-requires : goal.copy_row-requires
 copy_row-requires c =
-
     let up =
     grows c.args.old.now c.args.rows.now c.args.new.now c.args.names.now c.args.known c.args.number 0
     (brought c.args.local.now 0) in (
       omega (arith, c.bring-placed.ensures.place, up.1, c.requires.0, c.requires.1),
       omega arith,
-      omega (arith, c.bring-placed.auto.0, c.requires.3),
+      omega (arith, c.bring-placed.auto.out, c.requires.3),
     )
 
 pub returns : goal.returns
 returns c =
-
-
     record {
       row = rw (← c.cell_at.ensures);
       table = rw (← ap (λ (b : Brought). b.cells) c.bring-placed.ensures.table) c.copy_row.ensures;

@@ -19,7 +19,7 @@ pub loop-left-preserved : goal.loop-left-preserved
 loop-left-preserved c =
     (
       omega arith,
-      c.analyze_op.auto.1.1.1.1.0 ∙ c.loop-left.invariant.1,
+      c.analyze_op.auto.table ∙ c.loop-left.invariant.1,
       items-fine (tokens_of c.args.tokens.now) (globals_in c.args.rows.now c.args.n) c.args.ret c.args.table.now
           (items_at c.args.items.now c.args.arguments.now c.args.first c.args.count) c.loop-left.table c.args.items.now
           c.args.arguments.now

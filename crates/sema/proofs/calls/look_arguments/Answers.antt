@@ -12,12 +12,6 @@ use Rattle.sema.proofs.calls.look_arguments.Goals as goal
 pub returns-then-get-eq0 : goal.returns-then-get-eq0
 unfolding present_d then_look pick
 returns-then-get-eq0 c =
-
-
-
-
-
-
     let v = found_at c.args.table.now c.args.arguments.now c.loop-left.at c.argument_at-name.ensures
     c.get.ensures in
     rw (
@@ -31,10 +25,6 @@ returns-then-get-eq0 c =
 pub loop-left-preserved : goal.loop-left-preserved
 unfolding present_d then_look pick
 loop-left-preserved c =
-
-
-
-
     let v = found_at c.args.table.now c.args.arguments.now c.loop-left.at c.argument_at-name.ensures
     c.get.ensures in
 
@@ -44,8 +34,6 @@ loop-left-preserved c =
 pub returns : goal.returns
 unfolding present_d
 returns c =
-
-
     rw (← c.loop-left.invariant.1, variables_none c.args.arguments.now c.loop-left.at c.loop-left.left (omega arith))
 
 pub loop-left-init : goal.loop-left-init

@@ -40,7 +40,7 @@ loop-b-preserved c =
     c.loop-b.table c.args.items.now c.args.arguments.now c.args.blocks.now c.args.first c.args.order.now c.loop-b.left
     c.loop-b.invariant.0 c.requires.2 c.loop-b.invariant.2 popped-is in (
       omega (arith, less.0, c.loop-b.invariant.0),
-      c.analyze_recorded.auto.1.1.1.1.0 ∙ c.loop-b.invariant.1,
+      c.analyze_recorded.auto.table ∙ c.loop-b.invariant.1,
       blocks-fine (tokens_of c.args.tokens.now) (globals_in c.args.rows.now c.args.n) c.args.ret c.args.table.now
           (blocks_at c.args.items.now c.args.arguments.now c.args.blocks.now c.args.first (remaining c.args.order.now
           c.args.work))

@@ -38,10 +38,10 @@ loop-left-preserved c =
     (
       omega (arith, c.loop-left.invariant.0),
       omega (arith, c.loop-left.invariant.1, c.loop-left-test.true),
-      c.analyze.auto.1.1.1.1.0 ∙ c.loop-left.invariant.2,
-      c.elaborate.auto.1.1.1.0 ∙ c.loop-left.invariant.3,
-      c.elaborate.auto.1.1.1.1.1.1.0 ∙ c.loop-left.invariant.4,
-      rw (c.elaborate.ensures.after, c.elaborate.ensures.arguments_after.0)
+      c.analyze.auto.table ∙ c.loop-left.invariant.2,
+      c.elaborate.auto.items ∙ c.loop-left.invariant.3,
+      c.elaborate.auto.arguments ∙ c.loop-left.invariant.4,
+      rw (c.elaborate.ensures.after, c.elaborate.ensures.arguments_after)
           (rows-fine _ _ _ _ _ _ _ _ _ c.loop-left.invariant.5 (omega (arith, c.loop-left-test.true)) c.loop-left.table c.loop-left.invariant.2
           c.analyze.ensures c.in-Fine.is _ _ c.cell-start.ensures c.cell-count.ensures),
     )
