@@ -1,8 +1,9 @@
 // Lists of cases: how far one is replayed, and what came of it.
-ghost use Rattle.std.specs.Prelude.{◌≡◌, ◌<◌, ◌==◌};
+ghost use Rattle.std.specs.Prelude.{◌≡◌, ◌<◌, ◌==◌, IfOk};
 ghost use Rattle.replay.specs.Cases.{begun, one_more, whole_with};
 
 use crate::{Outcome, Tally, number_at, parts, pick};
+use std::io;
 
 // The list at a place, behind so many cases.
 pub fn begin(data: &[u8], from: usize, index: u64) -> Tally
@@ -19,15 +20,13 @@ pub fn begin(data: &[u8], from: usize, index: u64) -> Tally
 }
 
 // Tells of a case that came out otherwise than expected, in a file that does not end in it.
-fn tell(index: u64, part: u32, inside: bool) {
-    if (part == parts::NOTHING) | !inside {
-        return;
+pub fn tell(rt: &impl Print, data: &[u8], list: Tally, case: Outcome) -> io::Result<()> {
+    if (case.part == parts::NOTHING) | (data.len() <= case.next) {
+        return Ok(());
     }
-    io::write_all(1, b"case ");
-    io::print_decimal(1, index);
-    io::write_all(1, b": ");
-    parts::print(part);
-    io::write_all(1, b"\n");
+    print!(rt; "case {}: ", list.index)?;
+    parts::print(rt, case.part)?;
+    println!(rt; "")
 }
 
 // The list with one case more. None is left where the file is malformed.
@@ -36,7 +35,6 @@ pub fn step(data: &[u8], list: Tally, case: Outcome) -> Tally
     ensures value { result ≡ one_more «data».now list case }
     ensures left_lt_left { result.left < list.left }
 {
-    tell(list.index, case.part, case.next < data.len());
     let right = pick(case.part == parts::NOTHING, 1, 0);
     let left = pick(case.next < data.len(), list.left - 1, 0);
     Tally {
@@ -48,30 +46,25 @@ pub fn step(data: &[u8], list: Tally, case: Outcome) -> Tally
     }
 }
 
-fn tell_malformed(whole: bool) {
-    if whole {
-        return;
-    }
-    io::write_all(1, b"the file of cases is malformed\n");
-}
-
-// Whether the mark at the file's end, behind the last list, is the count of all cases. Tells where it is not.
+// Whether the mark at the file's end, behind the last list, is the count of all cases.
 pub fn is_whole(data: &[u8], last: Tally) -> bool
     ensures { result ≡ whole_with «data».now last }
 {
     let end = number_at(data, last.next);
-    let whole = (end.next != data.len()) & (end.value as u64 == last.index);
-    tell_malformed(whole);
-    whole
+    (end.next != data.len()) & (end.value as u64 == last.index)
+}
+
+// Tells of a file that is not whole.
+pub fn tell_malformed(rt: &impl Print) -> io::Result<()> {
+    println!(rt; "the file of cases is malformed")
 }
 
 // Writes what came of a list, and answers whether all its cases came out as expected.
-pub fn print_tally(list: Tally, what: &[u8]) -> bool
-    ensures { result ≡ (list.right == list.count) }
+pub fn print_tally(rt: &impl Print, list: Tally, what: &[u8]) -> io::Result<bool>
+    ensures { IfOk result (λ all. all ≡ (list.right == list.count)) }
 {
-    io::print_decimal(1, list.count as u64);
-    io::write_all(1, what);
-    io::print_decimal(1, list.right as u64);
-    io::write_all(1, b" as expected\n");
-    list.right == list.count
+    print!(rt; "{}", list.count)?;
+    rt.write_all(what)?;
+    println!(rt; "{} as expected", list.right)?;
+    Ok(list.right == list.count)
 }

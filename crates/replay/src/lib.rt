@@ -9,6 +9,7 @@ ghost use Rattle.replay.specs.Numbers.{is_digit, in_comment, to_digit, number_at
 
 pub mod cases;
 pub mod held;
+pub mod input;
 pub mod lists;
 pub mod parts;
 

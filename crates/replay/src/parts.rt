@@ -1,5 +1,7 @@
 // What a case can show otherwise than expected, as a number: nothing; a number of the answer, by its place in it; or a
 // slice.
+use std::io;
+
 pub const NOTHING: u32 = 0;
 
 pub const NUMBER: u32 = 1;
@@ -27,32 +29,28 @@ pub const PREDECESSORS: u32 = 17;
 
 pub const MESSAGE: u32 = 18;
 
-// Writes the name of a part that is no count, and answers whether that went well.
-fn print_one(part: u32) -> bool {
+// The name of a part that is no count.
+fn name_of(part: u32) -> &'static str {
     match part {
-        NUMBER => io::write_all(1, b"number"),
-        LINE => io::write_all(1, b"line"),
-        PLACE => io::write_all(1, b"place"),
-        TOKENS => io::write_all(1, b"tokens"),
-        NAMES => io::write_all(1, b"names"),
-        FUNCTIONS => io::write_all(1, b"functions"),
-        ITEMS => io::write_all(1, b"items"),
-        ARGUMENTS => io::write_all(1, b"arguments"),
-        BLOCKS => io::write_all(1, b"blocks"),
-        PREDECESSORS => io::write_all(1, b"predecessors"),
-        MESSAGE => io::write_all(1, b"message"),
-        _ => io::write_all(1, b"nothing"),
+        NUMBER => "number",
+        LINE => "line",
+        PLACE => "place",
+        TOKENS => "tokens",
+        NAMES => "names",
+        FUNCTIONS => "functions",
+        ITEMS => "items",
+        ARGUMENTS => "arguments",
+        BLOCKS => "blocks",
+        PREDECESSORS => "predecessors",
+        MESSAGE => "message",
+        _ => "nothing",
     }
 }
 
 // Writes the name of a part.
-pub(crate) fn print(part: u32) -> bool {
-    if part < COUNTS {
-        return print_one(part);
+pub(crate) fn print(rt: &impl Print, part: u32) -> io::Result<()> {
+    if (part < COUNTS) | (TOKENS <= part) {
+        return rt.print(name_of(part));
     }
-    if TOKENS <= part {
-        return print_one(part);
-    }
-    io::write_all(1, b"count of ");
-    print_one(part + (TOKENS - COUNTS))
+    print!(rt; "count of {}", name_of(part + (TOKENS - COUNTS)))
 }

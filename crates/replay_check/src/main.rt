@@ -8,7 +8,8 @@ mod lend;
 
 use functions::columns;
 use replay::held::SPARE;
-use replay::{Outcome, Tally, cases, lists};
+use replay::{Outcome, Tally, cases, input, lists};
+use std::io;
 
 // A case with room for its text, for an old one and its header table.
 fn with_texts(
@@ -36,37 +37,40 @@ fn run_case(data: &[u8], from: usize, again: bool) -> Outcome {
 }
 
 // A list of cases, behind so many; `again`, whether they are of recheck.
-fn replay(data: &[u8], from: usize, index: u64, again: bool) -> Tally {
+fn replay(rt: &impl Print, data: &[u8], from: usize, index: u64, again: bool) -> io::Result<Tally> {
     let mut list = cases::begin(data, from, index);
     while 0 < list.left {
         let case = run_case(data, list.next, again);
+        cases::tell(rt, data, list, case)?;
         list = cases::step(data, list, case);
     }
-    list
+    Ok(list)
 }
 
 // The three lists of cases.
-fn run(data: &[u8]) {
-    let texts = replay(data, 0, 0, false);
-    let shorts = replay(data, texts.next, texts.index, false);
-    let rechecks = replay(data, shorts.next, shorts.index, true);
-    if cases::is_whole(data, rechecks) {
-        cases::print_tally(texts, b" texts: ");
-        cases::print_tally(shorts, b" calls with a short slice: ");
-        cases::print_tally(rechecks, b" rechecks: ");
+fn run(rt: &impl Print, data: &[u8]) -> io::Result<()> {
+    let texts = replay(rt, data, 0, 0, false)?;
+    let shorts = replay(rt, data, texts.next, texts.index, false)?;
+    let rechecks = replay(rt, data, shorts.next, shorts.index, true)?;
+    if !cases::is_whole(data, rechecks) {
+        return cases::tell_malformed(rt);
     }
+    cases::print_tally(rt, texts, b" texts: ")?;
+    cases::print_tally(rt, shorts, b" calls with a short slice: ")?;
+    cases::print_tally(rt, rechecks, b" rechecks: ")?;
+    Ok(())
 }
 
 // Reads the file into the room for it. The array is made outside, where nothing else is done with it.
-fn start(data: &mut [u8]) {
-    let got = io::read_full(0, data);
-    run(&data[..got]);
+fn start(rt: &(impl Input + Print), data: &mut [u8]) -> io::Result<()> {
+    let got = input::read_full(&mut rt.reader(), data)?;
+    run(rt, &data[..got])
 }
 
 // Room for the file of cases.
 const FILE: usize = 524288;
 
-fn main() {
+fn main(rt: HostRuntime) -> io::Result<()> {
     let mut data = [0u8; FILE];
-    start(&mut data);
+    start(&rt, &mut data)
 }

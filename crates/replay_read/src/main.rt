@@ -5,7 +5,8 @@
 
 use lexer::sizes;
 use replay::held::{OLD_BYTE, OLD_CELL, SPARE};
-use replay::{Outcome, Tally, cases, held, lists, parts};
+use replay::{Outcome, Tally, cases, held, input, lists, parts};
+use std::io;
 use utils::limits;
 
 // An answer and the slices, held to the file.
@@ -71,30 +72,33 @@ fn run_case(data: &[u8], from: usize) -> Outcome {
 }
 
 // A list of cases, behind so many.
-fn replay(data: &[u8], from: usize, index: u64) -> Tally {
+fn replay(rt: &impl Print, data: &[u8], from: usize, index: u64) -> io::Result<Tally> {
     let mut list = cases::begin(data, from, index);
     while 0 < list.left {
         let case = run_case(data, list.next);
+        cases::tell(rt, data, list, case)?;
         list = cases::step(data, list, case);
     }
-    list
+    Ok(list)
 }
 
 // The two lists of cases.
-fn run(data: &[u8]) {
-    let texts = replay(data, 0, 0);
-    let shorts = replay(data, texts.next, texts.index);
-    if cases::is_whole(data, shorts) {
-        cases::print_tally(texts, b" texts: ");
-        cases::print_tally(shorts, b" calls with a short slice: ");
+fn run(rt: &impl Print, data: &[u8]) -> io::Result<()> {
+    let texts = replay(rt, data, 0, 0)?;
+    let shorts = replay(rt, data, texts.next, texts.index)?;
+    if !cases::is_whole(data, shorts) {
+        return cases::tell_malformed(rt);
     }
+    cases::print_tally(rt, texts, b" texts: ")?;
+    cases::print_tally(rt, shorts, b" calls with a short slice: ")?;
+    Ok(())
 }
 
 // Room for the file of cases.
 const FILE: usize = 131072;
 
-fn main() {
+fn main(rt: HostRuntime) -> io::Result<()> {
     let mut data = [0u8; FILE];
-    let got = io::read_full(0, &mut data);
-    run(&data[..got]);
+    let got = input::read_full(&mut rt.reader(), &mut data)?;
+    run(&rt, &data[..got])
 }

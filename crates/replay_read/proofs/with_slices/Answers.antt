@@ -1,0 +1,14 @@
+-- Each part that is lent is as long as its count says (`lent`).
+use borrow.Author.Rules.{rules}
+use mathlib.Core.Path.{sym}
+use lib.Seq.{length-take-le}
+use Rattle.replay_read.proofs.with_slices.Goals as goal
+
+pub slice_bounds-ask-end : goal.slice_bounds-ask-end
+slice_bounds-ask-end c = sym (length-take-le _ _ (search rules))
+
+pub slice_bounds-ask-end-2 : goal.slice_bounds-ask-end-2
+slice_bounds-ask-end-2 c = sym (length-take-le _ _ (search rules))
+
+pub slice_bounds-ask-end-3 : goal.slice_bounds-ask-end-3
+slice_bounds-ask-end-3 c = sym (length-take-le _ _ (search rules))
