@@ -5,11 +5,8 @@ use Rattle.elaborate.proofs.elaborate.Goals as goal
 
 pub returns : goal.returns
 returns c =
-    let w = (
-      c.elaborate_items.ensures,
-      (
-        c.elaborate_calls.ensures,
-        rw (c.elaborate_items.ensures, c.elaborate_calls.ensures) (elaborated _ _ _ _ _ _),
-      ),
-    ) in
-    record { after = w.0; arguments_after = w.1.0; elaborated = w.1.1 }
+    record {
+      after = c.elaborate_items.ensures;
+      arguments_after = c.elaborate_calls.ensures;
+      elaborated = rw (c.elaborate_items.ensures, c.elaborate_calls.ensures) (elaborated _ _ _ _ _ _);
+    }

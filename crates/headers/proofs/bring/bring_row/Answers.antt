@@ -7,12 +7,12 @@ pub returns-in-At : goal.returns-in-At
 returns-in-At c =
     record {
       result_after = rw (← c.find_name.ensures, c.in-At.is, ← c.put_row.ensures) refl;
-      lower_bound = rw (← c.find_name.ensures, c.in-At.is, ← c.put_row.ensures) ((omega arith, omega arith));
+      lower_bound = (omega arith, omega arith);
     }
 
 pub returns-in-Nothing : goal.returns-in-Nothing
 returns-in-Nothing c =
     record {
       result_after = rw (← c.find_name.ensures, c.in-Nothing.is) refl;
-      lower_bound = rw (← c.find_name.ensures, c.in-Nothing.is) ((omega arith, omega arith));
+      lower_bound = (omega arith, omega arith);
     }

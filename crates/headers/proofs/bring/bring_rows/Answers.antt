@@ -33,9 +33,5 @@ returns c =
       brought-none c.args.old.now c.args.rows.now c.args.new.now c.args.names.now c.args.known c.loop-more.from c.loop-more.more
           (brought c.loop-more.out c.loop-more.at) (omega arith),
     ) refl;
-      lower_bound = rw (
-      ← c.loop-more.invariant.5,
-      brought-none c.args.old.now c.args.rows.now c.args.new.now c.args.names.now c.args.known c.loop-more.from c.loop-more.more
-          (brought c.loop-more.out c.loop-more.at) (omega arith),
-    ) ((omega arith, omega arith));
+      lower_bound = (omega arith, omega arith);
     }

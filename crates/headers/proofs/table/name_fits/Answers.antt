@@ -17,8 +17,7 @@ returns-then-not-is_between c =
       ← c.cell_at-len.ensures,
       le-leb _ _ c.if-place-gt-MOST_BYTES.false,
       ← c.is_between.ensures,
-      not-true c.is_between.result
-          c.if-not-is_between.true,
+      c.if-not-is_between.true,
     )
 
 pub returns-then-old-place : goal.returns-then-old-place
@@ -29,8 +28,7 @@ returns-then-old-place c =
       ← c.cell_at-len.ensures,
       le-leb _ _ c.if-place-gt-MOST_BYTES.false,
       ← c.is_between.ensures,
-      not-false c.is_between.result
-          c.if-not-is_between.false,
+      c.if-not-is_between.false,
       lt-leb _ _ c.if-old-place.true,
     )
 

@@ -30,7 +30,7 @@ returns-in-11 c =
 pub returns-in-12 : goal.returns-in-12
 returns-in-12 c =
     c.analyze_ret_value.ensures
-    ∙ plain_value (tokens_of c.args.tokens.now) c.args.ret c.args.table.now c.args.r c.args.x c.in_default.in_default-own.keys5
+    ∙ plain_value (tokens_of c.args.tokens.now) c.args.ret c.args.table.now c.args.r c.args.x c.in-12.is
 
 pub returns-in_default : goal.returns-in_default
 returns-in_default c =

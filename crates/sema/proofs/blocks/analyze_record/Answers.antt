@@ -2,7 +2,7 @@
 use mathlib.Core.Path.{◌∙◌}
 use Rattle.lexer.specs.Decoded.{tokens_of}
 use Rattle.sema.specs.Globals.{globals_in}
-use Rattle.sema.proofs.Records.{item-branch, item-call, item-call_into}
+use Rattle.sema.proofs.Records.{item-plain, item-branch, item-call, item-call_into}
 use Rattle.sema.proofs.blocks.analyze_record.Goals as goal
 
 pub returns-then-r-eq-CALL_INTO : goal.returns-then-r-eq-CALL_INTO
@@ -21,3 +21,9 @@ returns-else-r-eq-CALL_INTO c =
     c.analyze_call.ensures
     ∙ item-call (tokens_of c.args.tokens.now) (globals_in c.args.rows.now c.args.n) c.args.ret c.args.table.now c.args.r
     c.args.arguments.now c.in-Run.is c.if-r-eq-CALL_INTO.false
+
+pub returns-in-Name : goal.returns-in-Name
+returns-in-Name c =
+    c.analyze_plain.ensures
+    ∙ item-plain (tokens_of c.args.tokens.now) (globals_in c.args.rows.now c.args.n) c.args.ret c.args.table.now c.args.r
+    c.args.arguments.now c.in-Name.is
