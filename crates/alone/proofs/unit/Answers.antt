@@ -8,5 +8,8 @@ build-requires c =
 
 pub returns : goal.returns
 returns c =
-    let w = c.build.ensures in
-    record { value = w.0; verdict_held = w.1.0; counted = w.1.1 }
+    record {
+      value = c.build.ensures.value;
+      verdict_held = c.build.ensures.verdict_held;
+      counted = c.build.ensures.counted;
+    }
