@@ -13,7 +13,6 @@ use Rattle.utils.specs.Bytes.{pick, pad_to}
 use Rattle.pieces.specs.Tokens.{kind_of, carried}
 use Rattle.pieces.specs.Pieces.{cursor}
 use Rattle.pieces.specs.declared.Token.{Token}
-use Rattle.pieces.specs.declared.Name.{Name}
 use Rattle.pieces.specs.declared.Lexed.TheVariants as L
 use Rattle.lexer.specs.Numbered.{named, tokens_cells}
 use Rattle.lexer.specs.Decoded.{Tok, tokens_of, is_name, name_in, integer_in, token_at, with_next}

@@ -5,7 +5,6 @@ use Rattle.utils.specs.Bytes.{pick}
 use Rattle.lexer.specs.Decoded.{Tok, token_at}
 use Rattle.pieces.specs.declared.Identifier.{Identifier}
 use Rattle.pieces.specs.Kinds as T
-use Rattle.parser.specs.Step.{refusal}
 use Rattle.parser.specs.Runs.{type_cell}
 use Rattle.parser.specs.Moved.{Move, Sim, SimE, Each}
 use Rattle.parser.specs.declared.Refusal.{Refusal}

@@ -1,6 +1,5 @@
 -- The header is kept or 41 is answered; what parsing leaves, with the row in its place among the old headers, is what
 -- typing asks; and each return is the verdict: the first refusal, or the function with its types.
-use borrow.Author.Tests.{not-true, not-false}
 use native.Mathlib.Omega.{arith}
 use Prim.Native.Nat.{◌≤◌}
 use mathlib.Core.Path.{sym, ◌∙◌}

@@ -8,18 +8,17 @@ read_into-r-requires c =
     (omega arith, c.requires.tokens-long, c.requires.names-long, c.requires.message-long)
 
 pub check_lexed-requires : goal.check_lexed-requires
-check_lexed-requires c =
-    (
-      is-lexed 1 c.args.text.now c.args.message.now c.read_into-r.result _ _ _
-          c.read_into-r.ensures c.if-r-eq-ACCEPTED.true,
-      record {
-        message-long = omega (arith, c.requires.message-long, c.read_into-r.auto.message);
-        tokens-long = omega (arith, c.requires.tokens-long, c.read_into-r.auto.tokens);
-        names-long = omega (arith, c.requires.names-long, c.read_into-r.auto.names);
-        functions-long = c.requires.functions-long;
-        long = c.requires.long;
-      },
-    )
+check_lexed-requires c = (
+  is-lexed 1 c.args.text.now c.args.message.now c.read_into-r.result _ _ _
+      c.read_into-r.ensures c.if-r-eq-ACCEPTED.true,
+  record {
+    message-long = omega (arith, c.requires.message-long, c.read_into-r.auto.message);
+    tokens-long = omega (arith, c.requires.tokens-long, c.read_into-r.auto.tokens);
+    names-long = omega (arith, c.requires.names-long, c.read_into-r.auto.names);
+    functions-long = c.requires.functions-long;
+    long = c.requires.long;
+  },
+)
 
 pub returns : goal.returns
 returns c =

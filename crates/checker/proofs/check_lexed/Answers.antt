@@ -12,21 +12,19 @@ use Rattle.checker.proofs.Lexed.{tokens-few, names-few, used_tokens, used_names,
 use Rattle.checker.proofs.check_lexed.Goals as goal
 
 pub unit-requires : goal.unit-requires
-unit-requires c =
-    (
-      subst (λ (x : List ℕ). Within (tokens_of x) 0) (sym (used_tokens c.requires.0)) (within c.requires.0),
-      c.requires.1.functions-long,
-      c.requires.1.long,
-    )
+unit-requires c = (
+  subst (λ (x : List ℕ). Within (tokens_of x) 0) (sym (used_tokens c.requires.0)) (within c.requires.0),
+  c.requires.1.functions-long,
+  c.requires.1.long,
+)
 
 pub refuse-requires : goal.refuse-requires
-refuse-requires c =
-    (
-      omega (arith, tokens-few c.requires.0, c.requires.1.tokens-long),
-      omega (arith, names-few c.requires.0, c.requires.1.names-long),
-      c.requires.1.message-long,
-      subst (ShortNames c.args.text.now) (sym c.requires.0.names) (short c.requires.0),
-    )
+refuse-requires c = (
+  omega (arith, tokens-few c.requires.0, c.requires.1.tokens-long),
+  omega (arith, names-few c.requires.0, c.requires.1.names-long),
+  c.requires.1.message-long,
+  subst (ShortNames c.args.text.now) (sym c.requires.0.names) (short c.requires.0),
+)
 
 pub counted-requires : goal.counted-requires
 counted-requires c =

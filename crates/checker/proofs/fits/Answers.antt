@@ -23,8 +23,7 @@ returns-then-m-lt-MESSAGE c =
 
 pub returns : goal.returns
 unfolding sized pick
-returns c =
-    (
-      rw (le-ltb _ _ c.if-t-lt-TOKENS.false, le-ltb _ _ c.if-n-lt-NAMES.false, le-ltb _ _ c.if-m-lt-MESSAGE.false),
-      seen_by c.args.unit _ _ _ c.if-m-lt-MESSAGE.false c.if-t-lt-TOKENS.false c.if-n-lt-NAMES.false,
-    )
+returns c = (
+  rw (le-ltb _ _ c.if-t-lt-TOKENS.false, le-ltb _ _ c.if-n-lt-NAMES.false, le-ltb _ _ c.if-m-lt-MESSAGE.false),
+  seen_by c.args.unit _ _ _ c.if-m-lt-MESSAGE.false c.if-t-lt-TOKENS.false c.if-n-lt-NAMES.false,
+)

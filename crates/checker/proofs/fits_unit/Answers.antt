@@ -22,42 +22,39 @@ returns-then-a-lt-ARGUMENTS c =
 
 pub returns-then-b-lt-BLOCKS : goal.returns-then-b-lt-BLOCKS
 unfolding sized_unit pick
-returns-then-b-lt-BLOCKS c =
-    (
-      rw (
-        le-ltb _ _ c.if-f-lt-TABLE.false,
-        le-ltb _ _ c.if-i-lt-ITEMS.false,
-        le-ltb _ _ c.if-a-lt-ARGUMENTS.false,
-        lt-ltb _ _
-            c.if-b-lt-BLOCKS.true,
-      ),
-      tt,
-    )
+returns-then-b-lt-BLOCKS c = (
+  rw (
+    le-ltb _ _ c.if-f-lt-TABLE.false,
+    le-ltb _ _ c.if-i-lt-ITEMS.false,
+    le-ltb _ _ c.if-a-lt-ARGUMENTS.false,
+    lt-ltb _ _
+        c.if-b-lt-BLOCKS.true,
+  ),
+  tt,
+)
 
 pub returns-then-p-lt-PREDECESSORS : goal.returns-then-p-lt-PREDECESSORS
 unfolding sized_unit pick
-returns-then-p-lt-PREDECESSORS c =
-    (
-      rw (
-        le-ltb _ _ c.if-f-lt-TABLE.false,
-        le-ltb _ _ c.if-i-lt-ITEMS.false,
-        le-ltb _ _ c.if-a-lt-ARGUMENTS.false,
-        le-ltb _ _ c.if-b-lt-BLOCKS.false,
-        lt-ltb _ _ c.if-p-lt-PREDECESSORS.true,
-      ),
-      tt,
-    )
+returns-then-p-lt-PREDECESSORS c = (
+  rw (
+    le-ltb _ _ c.if-f-lt-TABLE.false,
+    le-ltb _ _ c.if-i-lt-ITEMS.false,
+    le-ltb _ _ c.if-a-lt-ARGUMENTS.false,
+    le-ltb _ _ c.if-b-lt-BLOCKS.false,
+    lt-ltb _ _ c.if-p-lt-PREDECESSORS.true,
+  ),
+  tt,
+)
 
 pub returns : goal.returns
 unfolding sized_unit pick
-returns c =
-    (
-      rw (
-        le-ltb _ _ c.if-f-lt-TABLE.false,
-        le-ltb _ _ c.if-i-lt-ITEMS.false,
-        le-ltb _ _ c.if-a-lt-ARGUMENTS.false,
-        le-ltb _ _ c.if-b-lt-BLOCKS.false,
-        le-ltb _ _ c.if-p-lt-PREDECESSORS.false,
-      ),
-      (c.if-f-lt-TABLE.false, c.if-i-lt-ITEMS.false, c.if-a-lt-ARGUMENTS.false, c.if-b-lt-BLOCKS.false, c.if-p-lt-PREDECESSORS.false),
-    )
+returns c = (
+  rw (
+    le-ltb _ _ c.if-f-lt-TABLE.false,
+    le-ltb _ _ c.if-i-lt-ITEMS.false,
+    le-ltb _ _ c.if-a-lt-ARGUMENTS.false,
+    le-ltb _ _ c.if-b-lt-BLOCKS.false,
+    le-ltb _ _ c.if-p-lt-PREDECESSORS.false,
+  ),
+  (c.if-f-lt-TABLE.false, c.if-i-lt-ITEMS.false, c.if-a-lt-ARGUMENTS.false, c.if-b-lt-BLOCKS.false, c.if-p-lt-PREDECESSORS.false),
+)

@@ -6,7 +6,7 @@ use lib.ListN.{length}
 use Rattle.elaborate.proofs.type_run.Given as goal
 
 abbrev pub invariant-loop-left : goal.invariant-loop-left
-invariant-loop-left l =     (l.at + l.left ≡ l.first + l.count) × (length l.arguments ≡ length l.initial.arguments)
+invariant-loop-left l = (l.at + l.left ≡ l.first + l.count) × (length l.arguments ≡ length l.initial.arguments)
     × (typed_run l.table l.arguments l.at l.left ≡ typed_run l.table l.initial.arguments l.first l.count)
 
 abbrev pub decreases-loop-left : goal.decreases-loop-left

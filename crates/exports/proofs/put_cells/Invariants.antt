@@ -7,7 +7,7 @@ use mathlib.Core.Path.{◌≡◌}
 use Rattle.exports.proofs.put_cells.Given as goal
 
 abbrev pub invariant-loop-i : goal.invariant-loop-i
-invariant-loop-i l =     (l.i ≤ length l.cells) × (length l.out ≡ length l.initial.out)
+invariant-loop-i l = (l.i ≤ length l.cells) × (length l.out ≡ length l.initial.out)
     × (sets l.out (l.at + l.i * 4) (le32s (drop l.i l.cells)) ≡ sets l.initial.out l.at (le32s l.cells))
 
 abbrev pub decreases-loop-i : goal.decreases-loop-i

@@ -2,9 +2,7 @@
 -- Each turn fills one of 64 rows, so the loop ends; a 65th function is refused by its header.
 use Rattle.functions.proofs.Program.{begin, at-end, refused-read, read-on}
 use Rattle.lexer.specs.Decoded.{tokens_of}
-use lib.ListN.{length-set}
 use native.Mathlib.Omega.{arith}
-use Prim.Native.Nat.{◌-◌}
 use mathlib.Core.Path.{refl, sym, ◌∙◌}
 use Rattle.functions.proofs.parse.Goals as goal
 
@@ -32,19 +30,18 @@ returns-then-t-eq-END_OF_FILE c =
     record { value = w.0; held = w.1.0; all_fit = w.1.1 }
 
 pub parse_function-requires : goal.parse_function-requires
-parse_function-requires c =
-    (
-      c.loop-functions.invariant.room,
-      c.loop-functions.invariant.few,
-      c.loop-functions.invariant.types-few,
-      omega (arith, c.loop-functions.invariant.functions-kept, c.requires.1),
-      record {
-        items-long = omega (arith, c.loop-functions.invariant.items_kept, c.requires.2.items-long);
-        arguments-long = omega (arith, c.loop-functions.invariant.arguments-kept, c.requires.2.arguments-long);
-        blocks-long = omega (arith, c.loop-functions.invariant.blocks-kept, c.requires.2.blocks-long);
-        predecessors-long = omega (arith, c.loop-functions.invariant.predecessors-kept, c.requires.2.predecessors-long);
-      },
-    )
+parse_function-requires c = (
+  c.loop-functions.invariant.room,
+  c.loop-functions.invariant.few,
+  c.loop-functions.invariant.types-few,
+  omega (arith, c.loop-functions.invariant.functions-kept, c.requires.1),
+  record {
+    items-long = omega (arith, c.loop-functions.invariant.items_kept, c.requires.2.items-long);
+    arguments-long = omega (arith, c.loop-functions.invariant.arguments-kept, c.requires.2.arguments-long);
+    blocks-long = omega (arith, c.loop-functions.invariant.blocks-kept, c.requires.2.blocks-long);
+    predecessors-long = omega (arith, c.loop-functions.invariant.predecessors-kept, c.requires.2.predecessors-long);
+  },
+)
 
 pub returns-in-Refused : goal.returns-in-Refused
 returns-in-Refused c =

@@ -12,14 +12,13 @@ parse_header-requires c =
     (c.requires.1, c.requires.3)
 
 pub build-requires : goal.build-requires
-build-requires c =
-    (
-      inner_room (tokens_of c.args.tokens.now) c.args.names.now c.args.at c.args.types c.args.n c.args.functions.now
-          c.in-At.h (sym c.in-At.is ∙ c.parse_header.ensures.value) c.requires.0,
-      inner-behind (tokens_of c.args.tokens.now) c.args.names.now c.args.at c.args.types c.args.n c.args.functions.now
-          c.in-At.h (sym c.in-At.is ∙ c.parse_header.ensures.value) c.requires.0,
-      c.requires.4,
-    )
+build-requires c = (
+  inner_room (tokens_of c.args.tokens.now) c.args.names.now c.args.at c.args.types c.args.n c.args.functions.now
+      c.in-At.h (sym c.in-At.is ∙ c.parse_header.ensures.value) c.requires.0,
+  inner-behind (tokens_of c.args.tokens.now) c.args.names.now c.args.at c.args.types c.args.n c.args.functions.now
+      c.in-At.h (sym c.in-At.is ∙ c.parse_header.ensures.value) c.requires.0,
+  c.requires.4,
+)
 
 pub put_row-requires : goal.put_row-requires
 put_row-requires c =
@@ -54,20 +53,20 @@ pub returns-in-Refused : goal.returns-in-Refused
 returns-in-Refused c =
     record {
       value = rw (header_refused (tokens_of c.args.tokens.now) c.args.names.now c.args.at c.args.types c.args.n c.args.functions.now
-    c.in-Refused.e (sym c.in-Refused.is ∙ c.parse_header.ensures.value)) refl;
+          c.in-Refused.e (sym c.in-Refused.is ∙ c.parse_header.ensures.value)) refl;
       function_held = rw (header_refused (tokens_of c.args.tokens.now) c.args.names.now c.args.at c.args.types c.args.n c.args.functions.now
-    c.in-Refused.e (sym c.in-Refused.is ∙ c.parse_header.ensures.value)) tt;
+          c.in-Refused.e (sym c.in-Refused.is ∙ c.parse_header.ensures.value)) tt;
     }
 
 pub returns-in-Refused-build : goal.returns-in-Refused-build
 returns-in-Refused-build c =
     record {
       value = rw (body_refused (tokens_of c.args.tokens.now) c.args.names.now c.args.at c.args.types c.args.n c.args.functions.now
-    c.in-At.h (sym c.in-At.is ∙ c.parse_header.ensures.value) c.requires.0 c.in-Refused-build.e
-    (sym c.in-Refused-build.is ∙ c.build.ensures.value)) refl;
+          c.in-At.h (sym c.in-At.is ∙ c.parse_header.ensures.value) c.requires.0 c.in-Refused-build.e
+          (sym c.in-Refused-build.is ∙ c.build.ensures.value)) refl;
       function_held = rw (body_refused (tokens_of c.args.tokens.now) c.args.names.now c.args.at c.args.types c.args.n c.args.functions.now
-    c.in-At.h (sym c.in-At.is ∙ c.parse_header.ensures.value) c.requires.0 c.in-Refused-build.e
-    (sym c.in-Refused-build.is ∙ c.build.ensures.value)) tt;
+          c.in-At.h (sym c.in-At.is ∙ c.parse_header.ensures.value) c.requires.0 c.in-Refused-build.e
+          (sym c.in-Refused-build.is ∙ c.build.ensures.value)) tt;
     }
 
 pub returns-in-Done : goal.returns-in-Done

@@ -2,7 +2,6 @@
 use native.Mathlib.Omega.{arith}
 use Prim.Native.Nat.{ℕ}
 use mathlib.Core.Path.{sym, subst, ◌∙◌}
-use borrow.Author.Tests.{not-true, not-false}
 use Rattle.checker.specs.Promise.{Lexed}
 use Rattle.checker.proofs.Ends.{is-lexed, as_long-before}
 use Rattle.recheck.specs.Recheck.{recheck_of}
@@ -17,17 +16,16 @@ returns-then-not-is_table c =
     (λ z. omega (arith, z)) c.refuse_plain.ensures.0 c.refuse_plain.ensures.1
 
 pub read_into-r-requires : goal.read_into-r-requires
-read_into-r-requires c =
-    (
-      omega (
-        arith,
-        line_small c.args.old.now c.args.table.now c.args.number
-            (sym c.is_table.ensures ∙ c.if-not-is_table.false) _ c.cell_at-line.ensures,
-      ),
-      c.requires.tokens-long,
-      c.requires.names-long,
-      c.requires.message-long,
-    )
+read_into-r-requires c = (
+  omega (
+    arith,
+    line_small c.args.old.now c.args.table.now c.args.number
+        (sym c.is_table.ensures ∙ c.if-not-is_table.false) _ c.cell_at-line.ensures,
+  ),
+  c.requires.tokens-long,
+  c.requires.names-long,
+  c.requires.message-long,
+)
 
 pub recheck_lexed-requires : goal.recheck_lexed-requires
 recheck_lexed-requires c =

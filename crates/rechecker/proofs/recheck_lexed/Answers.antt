@@ -12,14 +12,13 @@ use Rattle.rechecker.proofs.Ends.{not-whole, refused_with_lem}
 use Rattle.rechecker.proofs.recheck_lexed.Goals as goal
 
 pub recheck_whole-requires : goal.recheck_whole-requires
-recheck_whole-requires c =
-    (
-      c.requires.0,
-      c.requires.1,
-      subst (λ (x : List ℕ). is_whole c.args.new.now (tokens_of x) ≡ true) (used_tokens c.requires.1)
-          (sym c.is_whole.ensures ∙ c.if-is_whole.true),
-      c.requires.2,
-    )
+recheck_whole-requires c = (
+  c.requires.0,
+  c.requires.1,
+  subst (λ (x : List ℕ). is_whole c.args.new.now (tokens_of x) ≡ true) (used_tokens c.requires.1)
+      (sym c.is_whole.ensures ∙ c.if-is_whole.true),
+  c.requires.2,
+)
 
 pub returns-then-is_whole : goal.returns-then-is_whole
 returns-then-is_whole c =

@@ -12,23 +12,21 @@ use Rattle.rechecker.proofs.Ends.{ends-accepted, ends-refused, named_now}
 use Rattle.rechecker.proofs.recheck_whole.Goals as goal
 
 pub unit-requires : goal.unit-requires
-unit-requires c =
-    (
-      c.requires.0,
-      named_now c.requires.1,
-      subst (λ (x : List ℕ). Within (tokens_of x) 0) (sym (used_tokens c.requires.1)) (within c.requires.1),
-      c.requires.3.functions-long,
-      c.requires.3.long,
-    )
+unit-requires c = (
+  c.requires.0,
+  named_now c.requires.1,
+  subst (λ (x : List ℕ). Within (tokens_of x) 0) (sym (used_tokens c.requires.1)) (within c.requires.1),
+  c.requires.3.functions-long,
+  c.requires.3.long,
+)
 
 pub refuse-requires : goal.refuse-requires
-refuse-requires c =
-    (
-      omega (arith, tokens-few c.requires.1, c.requires.3.tokens-long),
-      omega (arith, names-few c.requires.1, c.requires.3.names-long),
-      c.requires.3.message-long,
-      subst (ShortNames c.args.new.now) (sym c.requires.1.names) (short c.requires.1),
-    )
+refuse-requires c = (
+  omega (arith, tokens-few c.requires.1, c.requires.3.tokens-long),
+  omega (arith, names-few c.requires.1, c.requires.3.names-long),
+  c.requires.3.message-long,
+  subst (ShortNames c.args.new.now) (sym c.requires.1.names) (short c.requires.1),
+)
 
 pub counted-requires : goal.counted-requires
 counted-requires c =

@@ -27,24 +27,24 @@ pub returns-in-Refused : goal.returns-in-Refused
 returns-in-Refused c =
     record {
       value = rw (body_refused (tokens_of c.args.tokens.now) c.args.void c.args.name c.args.at c.args.n [] [] [] [] [] []
-    c.in-Refused.e (sym c.in-Refused.is ∙ c.parse_body.ensures.value)) refl;
+          c.in-Refused.e (sym c.in-Refused.is ∙ c.parse_body.ensures.value)) refl;
       build_held = rw (body_refused (tokens_of c.args.tokens.now) c.args.void c.args.name c.args.at c.args.n [] [] [] [] [] []
-    c.in-Refused.e (sym c.in-Refused.is ∙ c.parse_body.ensures.value)) tt;
+          c.in-Refused.e (sym c.in-Refused.is ∙ c.parse_body.ensures.value)) tt;
     }
 
 pub returns-in-Refused-link : goal.returns-in-Refused-link
 returns-in-Refused-link c =
     record {
       value = rw (link_refused (tokens_of c.args.tokens.now) c.args.void c.args.name c.args.at c.args.n c.args.items.now _
-    c.args.arguments.now _ _ _
-    c.in-Done.closed (sym c.in-Done.is ∙ c.parse_body.ensures.value) c.parse_body.ensures.held c.requires.0 c.requires.1
-    c.args.blocks.now c.args.predecessors.now c.requires.3 (omega (arith, c.requires.2, c.parse_body.auto.labels))
-    c.in-Refused-link.e (sym c.in-Refused-link.is ∙ c.link.ensures.value)) refl;
+          c.args.arguments.now _ _ _
+          c.in-Done.closed (sym c.in-Done.is ∙ c.parse_body.ensures.value) c.parse_body.ensures.held c.requires.0 c.requires.1
+          c.args.blocks.now c.args.predecessors.now c.requires.3 (omega (arith, c.requires.2, c.parse_body.auto.labels))
+          c.in-Refused-link.e (sym c.in-Refused-link.is ∙ c.link.ensures.value)) refl;
       build_held = rw (link_refused (tokens_of c.args.tokens.now) c.args.void c.args.name c.args.at c.args.n c.args.items.now _
-    c.args.arguments.now _ _ _
-    c.in-Done.closed (sym c.in-Done.is ∙ c.parse_body.ensures.value) c.parse_body.ensures.held c.requires.0 c.requires.1
-    c.args.blocks.now c.args.predecessors.now c.requires.3 (omega (arith, c.requires.2, c.parse_body.auto.labels))
-    c.in-Refused-link.e (sym c.in-Refused-link.is ∙ c.link.ensures.value)) tt;
+          c.args.arguments.now _ _ _
+          c.in-Done.closed (sym c.in-Done.is ∙ c.parse_body.ensures.value) c.parse_body.ensures.held c.requires.0 c.requires.1
+          c.args.blocks.now c.args.predecessors.now c.requires.3 (omega (arith, c.requires.2, c.parse_body.auto.labels))
+          c.in-Refused-link.e (sym c.in-Refused-link.is ∙ c.link.ensures.value)) tt;
     }
 
 pub returns-in-Done-link : goal.returns-in-Done-link

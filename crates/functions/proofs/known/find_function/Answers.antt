@@ -3,7 +3,6 @@
 use Rattle.functions.proofs.Turns.{row_here, row-later, row-none}
 use native.Mathlib.Nat.{sub-zero}
 use native.Mathlib.Omega.{arith}
-use Prim.Native.Nat.{◌-◌}
 use Rattle.functions.proofs.known.find_function.Goals as goal
 
 pub returns-then-rows-i : goal.returns-then-rows-i
@@ -15,11 +14,10 @@ returns-then-rows-i c =
     }
 
 pub loop-i-preserved : goal.loop-i-preserved
-loop-i-preserved c =
-    (
-      omega arith,
-      rw (← c.loop-i.invariant.1, row-later c.args.rows.now c.loop-i.i c.args.n c.args.name.0 c.loop-i-test.true c.if-rows-i.false),
-    )
+loop-i-preserved c = (
+  omega arith,
+  rw (← c.loop-i.invariant.1, row-later c.args.rows.now c.loop-i.i c.args.n c.args.name.0 c.loop-i-test.true c.if-rows-i.false),
+)
 
 pub returns : goal.returns
 returns c =

@@ -5,7 +5,6 @@ use Rattle.functions.proofs.Turns.{types_more, types-none}
 use Rattle.utils.specs.Bytes.{pick, same_bytes}
 use borrow.Author.Tests.{eq-eqb, ne_eqb}
 use native.Mathlib.Omega.{arith}
-use Prim.Native.Nat.{◌-◌}
 use Rattle.functions.proofs.known.same_formals.Goals as goal
 
 pub returns-then-rows-i : goal.returns-then-rows-i
@@ -21,19 +20,18 @@ returns-then-rows-i c =
 
 pub loop-k-preserved : goal.loop-k-preserved
 unfolding same_bytes pick
-loop-k-preserved c =
-    (
-      omega arith,
-      omega arith,
-      omega arith,
-      rw (
-        ← c.loop-k.invariant.3,
-        types_more c.args.rows.now c.loop-k.i c.loop-k.k c.args.count c.loop-k-test.true,
-        types_more
-            c.args.rows.now c.loop-k.j c.loop-k.k c.args.count c.loop-k-test.true,
-        eq-eqb _ _ c.if-rows-i.false,
-      ),
-    )
+loop-k-preserved c = (
+  omega arith,
+  omega arith,
+  omega arith,
+  rw (
+    ← c.loop-k.invariant.3,
+    types_more c.args.rows.now c.loop-k.i c.loop-k.k c.args.count c.loop-k-test.true,
+    types_more
+        c.args.rows.now c.loop-k.j c.loop-k.k c.args.count c.loop-k-test.true,
+    eq-eqb _ _ c.if-rows-i.false,
+  ),
+)
 
 pub returns : goal.returns
 unfolding same_bytes

@@ -7,7 +7,7 @@ use mathlib.Core.Path.{◌≡◌}
 use Rattle.functions.proofs.known.same_formals.Given as goal
 
 abbrev pub invariant-loop-k : goal.invariant-loop-k
-invariant-loop-k l =     (l.k ≤ l.count) × (l.i ≡ 14 + l.a * 45 + l.k * 2) × (l.j ≡ 14 + l.b * 45 + l.k * 2)
+invariant-loop-k l = (l.k ≤ l.count) × (l.i ≡ 14 + l.a * 45 + l.k * 2) × (l.j ≡ 14 + l.b * 45 + l.k * 2)
     × (same_bytes (types_at l.rows l.i (l.count - l.k)) (types_at l.rows l.j (l.count - l.k))
     ≡ same_bytes (types_at l.rows (formals_at l.a) l.count) (types_at l.rows (formals_at l.b) l.count))
 

@@ -5,7 +5,6 @@ use Rattle.functions.proofs.Turns.{known_more, known-none}
 use Rattle.functions.specs.Known.{type_number}
 use Rattle.utils.specs.Bytes.{pick}
 use native.Mathlib.Omega.{arith}
-use Prim.Native.Nat.{◌-◌}
 use Rattle.functions.proofs.known.type_number.Goals as goal
 
 pub returns-then-same_type : goal.returns-then-same_type
@@ -20,16 +19,15 @@ returns-then-same_type c =
 
 pub loop-i-preserved : goal.loop-i-preserved
 unfolding type_number pick
-loop-i-preserved c =
-    (
-      omega arith,
-      rw (
-        ← c.loop-i.invariant.1,
-        known_more c.args.rows.now c.loop-i.i c.args.n c.loop-i-test.true,
-        ← c.same_type.ensures,
-        c.if-same_type.false,
-      ),
-    )
+loop-i-preserved c = (
+  omega arith,
+  rw (
+    ← c.loop-i.invariant.1,
+    known_more c.args.rows.now c.loop-i.i c.args.n c.loop-i-test.true,
+    ← c.same_type.ensures,
+    c.if-same_type.false,
+  ),
+)
 
 pub returns : goal.returns
 unfolding type_number

@@ -12,16 +12,15 @@ pub loop-k-init : goal.loop-k-init
 loop-k-init c = (omega arith, refl, simp add-zero)
 
 pub loop-k-preserved : goal.loop-k-preserved
-loop-k-preserved c =
-    (
-      omega arith,
-      simp length-set (omega arith),
-      rw (
-        ← c.loop-k.invariant.2,
-        cells-more c.args.rows.now c.loop-k.out (row_at c.args.n) (row_at c.args.i) c.loop-k.k 45 c.loop-k-test.true,
-        ← c.cell_at-cell.ensures,
-      ),
-    )
+loop-k-preserved c = (
+  omega arith,
+  simp length-set (omega arith),
+  rw (
+    ← c.loop-k.invariant.2,
+    cells-more c.args.rows.now c.loop-k.out (row_at c.args.n) (row_at c.args.i) c.loop-k.k 45 c.loop-k-test.true,
+    ← c.cell_at-cell.ensures,
+  ),
+)
 
 pub returns : goal.returns
 returns c =

@@ -8,7 +8,7 @@ use Rattle.headers.specs.Brought.{cells_from}
 use Rattle.headers.proofs.bring.copy_row.Given as goal
 
 abbrev pub invariant-loop-k : goal.invariant-loop-k
-invariant-loop-k l =     (l.k ≤ 45) × (length l.out ≡ length l.initial.out)
+invariant-loop-k l = (l.k ≤ 45) × (length l.out ≡ length l.initial.out)
     × (sets l.out (row_at l.n + l.k) (cells_from l.rows (row_at l.i + l.k) (45 - l.k)) ≡ sets l.initial.out (row_at l.n) (cells_from l.rows (row_at l.i)
     45))
 

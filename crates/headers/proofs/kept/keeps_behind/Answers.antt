@@ -1,6 +1,5 @@
 -- The formals and the type are read as the definition reads them; the copied row, held against what is stored behind
 -- it, is the row itself held against the header that was read.
-use borrow.Author.Tests.{not-true, not-false}
 use native.Mathlib.Omega.{arith}
 use Prim.Native.Nat.{◌≤◌}
 use mathlib.Core.Path.{sym, ◌∙◌}

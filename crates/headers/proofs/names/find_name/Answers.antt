@@ -20,16 +20,15 @@ returns-then-is_spelled c =
 
 pub loop-left-preserved : goal.loop-left-preserved
 unfolding pick
-loop-left-preserved c =
-    (
-      omega arith,
-      rw (
-        ← c.loop-left.invariant.1,
-        names_more c.args.new.now c.args.names.now c.loop-left.x c.loop-left.left _ c.loop-left-test.true,
-        ← c.is_spelled.ensures,
-        c.if-is_spelled.false,
-      ),
-    )
+loop-left-preserved c = (
+  omega arith,
+  rw (
+    ← c.loop-left.invariant.1,
+    names_more c.args.new.now c.args.names.now c.loop-left.x c.loop-left.left _ c.loop-left-test.true,
+    ← c.is_spelled.ensures,
+    c.if-is_spelled.false,
+  ),
+)
 
 pub returns : goal.returns
 returns c =

@@ -1,7 +1,6 @@
 -- What is left to test, tested from here, gives the whole answer.
 use mathlib.Core.Path.{refl}
 use native.Mathlib.Omega.{arith}
-use borrow.Author.Tests.{not-true, not-false}
 use Rattle.utils.specs.Bytes.{pick}
 use Rattle.headers.proofs.Turns.{formals-more, formals-none}
 use Rattle.headers.proofs.table.formals_fit.Goals as goal
@@ -22,17 +21,16 @@ returns-then-not-is_between c =
 
 pub loop-left-preserved : goal.loop-left-preserved
 unfolding pick
-loop-left-preserved c =
-    (
-      omega arith,
-      rw (
-        ← c.loop-left.invariant.1,
-        formals-more c.args.rows.now c.args.i c.loop-left.k c.loop-left.left c.loop-left-test.true,
-        ← c.cell_at.ensures,
-        ← c.is_between.ensures,
-        c.if-not-is_between.false,
-      ),
-    )
+loop-left-preserved c = (
+  omega arith,
+  rw (
+    ← c.loop-left.invariant.1,
+    formals-more c.args.rows.now c.args.i c.loop-left.k c.loop-left.left c.loop-left-test.true,
+    ← c.cell_at.ensures,
+    ← c.is_between.ensures,
+    c.if-not-is_between.false,
+  ),
+)
 
 pub returns : goal.returns
 returns c =

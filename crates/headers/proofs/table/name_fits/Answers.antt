@@ -1,5 +1,5 @@
 -- Each return has made the tests that lead to it in `name_fits`, in their order.
-use borrow.Author.Tests.{le-leb, lt-leb, not-true, not-false}
+use borrow.Author.Tests.{le-leb, lt-leb}
 use Rattle.utils.specs.Bytes.{pick}
 use Rattle.headers.specs.Table.{name_fits}
 use Rattle.headers.proofs.table.name_fits.Goals as goal

@@ -1,5 +1,5 @@
 -- Each return has made the tests that lead to it in `row_fits`, in their order.
-use borrow.Author.Tests.{le-leb, lt-leb, not-true, not-false}
+use borrow.Author.Tests.{le-leb, lt-leb}
 use Rattle.utils.specs.Bytes.{pick}
 use Rattle.headers.specs.Table.{row_fits}
 use Rattle.headers.proofs.table.row_fits.Goals as goal

@@ -1,7 +1,6 @@
 -- What is left to test, tested from here, gives the whole answer.
 use mathlib.Core.Path.{refl}
 use native.Mathlib.Omega.{arith}
-use borrow.Author.Tests.{not-true, not-false}
 use Rattle.utils.specs.Bytes.{pick}
 use Rattle.headers.proofs.Turns.{rows_more, rows_none}
 use Rattle.headers.proofs.table.rows_fit.Goals as goal
@@ -21,16 +20,15 @@ returns-then-not-row_fits c =
 
 pub loop-left-preserved : goal.loop-left-preserved
 unfolding pick
-loop-left-preserved c =
-    (
-      omega arith,
-      rw (
-        ← c.loop-left.invariant.1,
-        rows_more c.args.old.now c.args.rows.now c.loop-left.i c.loop-left.left c.loop-left-test.true,
-        ← c.row_fits.ensures,
-        c.if-not-row_fits.false,
-      ),
-    )
+loop-left-preserved c = (
+  omega arith,
+  rw (
+    ← c.loop-left.invariant.1,
+    rows_more c.args.old.now c.args.rows.now c.loop-left.i c.loop-left.left c.loop-left-test.true,
+    ← c.row_fits.ensures,
+    c.if-not-row_fits.false,
+  ),
+)
 
 pub returns : goal.returns
 returns c =

@@ -1,5 +1,5 @@
 -- Each return has made the tests that lead to it in `type_fits`, in their order.
-use borrow.Author.Tests.{lt-ltb, le-ltb, not-true, not-false}
+use borrow.Author.Tests.{lt-ltb, le-ltb}
 use Rattle.utils.specs.Bytes.{pick}
 use Rattle.headers.specs.Table.{type_fits}
 use Rattle.headers.proofs.table.type_fits.Goals as goal

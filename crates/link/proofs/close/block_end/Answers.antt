@@ -1,6 +1,5 @@
 -- Behind the operations so far, those from here on are the rest of the run.
 use native.Mathlib.Omega.{arith}
-use Prim.Native.Nat.{◌-◌}
 use mathlib.Core.Path.{refl}
 use Rattle.link.proofs.Scanning.{run_on, run_ends, run-all}
 use Rattle.link.proofs.close.block_end.Goals as goal

@@ -7,8 +7,7 @@ returns-in-Refused c =
     (rw (← c.record_at-r.ensures, ← c.resolve.ensures, c.in-Refused.is), search rules)
 
 pub returns-in-Done : goal.returns-in-Done
-returns-in-Done c =
-    (
-      rw (← c.record_at-r.ensures, ← c.resolve.ensures, c.in-Done.is),
-      c.put_block.ensures,
-    )
+returns-in-Done c = (
+  rw (← c.record_at-r.ensures, ← c.resolve.ensures, c.in-Done.is),
+  c.put_block.ensures,
+)

@@ -1,6 +1,5 @@
 -- The blocks that are left, resolved and stored from here, give the whole (`Cutting`).
 use native.Mathlib.Omega.{arith}
-use Prim.Native.Nat.{◌-◌}
 use mathlib.Core.Path.{refl}
 use Rattle.link.proofs.Cutting.{cut-start, next-room, next-refused, next_above, next_last, next-on}
 use Rattle.link.proofs.close.link_blocks.Goals as goal
@@ -23,16 +22,15 @@ block_end-stop-requires c =
     (c.loop-e.invariant.high, c.requires.items_there)
 
 pub add_block-requires : goal.add_block-requires
-add_block-requires c =
-    (
-      omega (arith, c.block_end-stop.ensures.0),
-      omega (arith, c.block_end-stop.ensures.1, c.requires.few-items),
-      omega (arith, c.block_end-stop.ensures.1, c.requires.items_there),
-      c.requires.few-labels,
-      c.requires.labels_there,
-      omega (arith, c.loop-e.invariant.left.long, c.requires.blocks_there),
-      next-room c.requires c.loop-e.invariant c.block_end-stop.ensures.0,
-    )
+add_block-requires c = (
+  omega (arith, c.block_end-stop.ensures.0),
+  omega (arith, c.block_end-stop.ensures.1, c.requires.few-items),
+  omega (arith, c.block_end-stop.ensures.1, c.requires.items_there),
+  c.requires.few-labels,
+  c.requires.labels_there,
+  omega (arith, c.loop-e.invariant.left.long, c.requires.blocks_there),
+  next-room c.requires c.loop-e.invariant c.block_end-stop.ensures.0,
+)
 
 pub loop-e-smaller : goal.loop-e-smaller
 loop-e-smaller c =

@@ -1,5 +1,5 @@
 -- What each turn of a loop keeps.
-use Prim.Native.Nat.{ℕ, ◌+◌, ◌-◌}
+use Prim.Native.Nat.{ℕ, ◌+◌}
 use mathlib.Core.Path.{◌≡◌}
 use Rattle.graph.specs.Records.{row_of}
 use Rattle.link.specs.Edges.{predecessors}
@@ -8,7 +8,7 @@ use Rattle.link.proofs.Entering.{Entered}
 use Rattle.link.proofs.enter.enter_edges.Given as goal
 
 abbrev pub invariant-loop-rest : goal.invariant-loop-rest
-invariant-loop-rest l =     (k : ℕ) × (k + l.rest ≡ l.n)
+invariant-loop-rest l = (k : ℕ) × (k + l.rest ≡ l.n)
     × Entered (predecessors l.j.0 0 (links_from (row_of l.succs l.counts) 0 l.n))
     (predecessors l.j.0 k (links_from (row_of l.succs l.counts) k l.rest)) l.used l.here l.initial.sources l.sources
 

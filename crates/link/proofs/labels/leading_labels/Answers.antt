@@ -1,6 +1,5 @@
 -- Behind i leading labels, those from here on are the rest of them.
 use native.Mathlib.Omega.{arith}
-use Prim.Native.Nat.{◌-◌}
 use native.Mathlib.Nat.{add-zero, sub-zero}
 use Rattle.link.proofs.Scanning.{leading-on, leading-ends, leading-all}
 use Rattle.link.proofs.labels.leading_labels.Goals as goal

@@ -12,16 +12,15 @@ loop-i-init c =
     (omega arith, refl, rw m)
 
 pub loop-i-preserved : goal.loop-i-preserved
-loop-i-preserved c =
-    (
-      omega arith,
-      simp length-set (omega arith),
-      rw (
-        ← c.loop-i.invariant.2,
-        ← cells-more c.args.bytes.now c.loop-i.cells c.args.n c.loop-i.i c.loop-i-test.true,
-        ← c.get_cell.ensures,
-      ),
-    )
+loop-i-preserved c = (
+  omega arith,
+  simp length-set (omega arith),
+  rw (
+    ← c.loop-i.invariant.2,
+    ← cells-more c.args.bytes.now c.loop-i.cells c.args.n c.loop-i.i c.loop-i-test.true,
+    ← c.get_cell.ensures,
+  ),
+)
 
 pub returns : goal.returns
 returns c =

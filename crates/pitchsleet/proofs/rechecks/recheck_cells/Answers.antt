@@ -11,19 +11,18 @@ recheck_into-answer-requires c =
     sizes_reached c.args.message.now _ _ _ _ _ _ _ c.requires.0 c.requires.2
 
 pub put_all-requires : goal.put_all-requires
-put_all-requires c =
-    (
-      record {
-        tokens = c.recheck_into-answer.auto.tokens ∙ c.requires.0.tokens;
-        names = c.recheck_into-answer.auto.names ∙ c.requires.0.names;
-        functions = c.recheck_into-answer.auto.functions ∙ c.requires.0.functions;
-        items = c.recheck_into-answer.auto.items ∙ c.requires.0.items;
-        arguments = c.recheck_into-answer.auto.arguments ∙ c.requires.0.arguments;
-        blocks = c.recheck_into-answer.auto.blocks ∙ c.requires.0.blocks;
-        predecessors = c.recheck_into-answer.auto.predecessors ∙ c.requires.0.predecessors;
-      },
-      c.requires.1,
-    )
+put_all-requires c = (
+  record {
+    tokens = c.recheck_into-answer.auto.tokens ∙ c.requires.0.tokens;
+    names = c.recheck_into-answer.auto.names ∙ c.requires.0.names;
+    functions = c.recheck_into-answer.auto.functions ∙ c.requires.0.functions;
+    items = c.recheck_into-answer.auto.items ∙ c.requires.0.items;
+    arguments = c.recheck_into-answer.auto.arguments ∙ c.requires.0.arguments;
+    blocks = c.recheck_into-answer.auto.blocks ∙ c.requires.0.blocks;
+    predecessors = c.recheck_into-answer.auto.predecessors ∙ c.requires.0.predecessors;
+  },
+  c.requires.1,
+)
 
 pub returns : goal.returns
 returns c =

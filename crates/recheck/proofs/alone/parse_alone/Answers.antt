@@ -8,20 +8,19 @@ use Rattle.recheck.proofs.Parsed.{alone-refused, alone-end, alone-global, alone-
 use Rattle.recheck.proofs.alone.parse_alone.Goals as goal
 
 pub parse_function-requires : goal.parse_function-requires
-parse_function-requires c =
-    (
-      record {
-        within = c.requires.0;
-        items-few = omega arith;
-        arguments-few = omega arith;
-        blocks-few = omega arith;
-        predecessors-few = omega arith;
-      },
-      omega arith,
-      omega arith,
-      c.requires.1,
-      c.requires.2,
-    )
+parse_function-requires c = (
+  record {
+    within = c.requires.0;
+    items-few = omega arith;
+    arguments-few = omega arith;
+    blocks-few = omega arith;
+    predecessors-few = omega arith;
+  },
+  omega arith,
+  omega arith,
+  c.requires.1,
+  c.requires.2,
+)
 
 pub returns-then-t-eq-END_OF_FILE : goal.returns-then-t-eq-END_OF_FILE
 unfolding known_from

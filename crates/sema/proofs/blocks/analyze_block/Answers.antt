@@ -16,15 +16,14 @@ returns-in-Refused c =
     c.loop-left.at c.loop-left.left c.loop-left.invariant.2 c.loop-left-test.true c.analyze_op.ensures c.in-Refused.is
 
 pub loop-left-preserved : goal.loop-left-preserved
-loop-left-preserved c =
-    (
-      omega arith,
-      c.analyze_op.auto.table ∙ c.loop-left.invariant.1,
-      items-fine (tokens_of c.args.tokens.now) (globals_in c.args.rows.now c.args.n) c.args.ret c.args.table.now
-          (items_at c.args.items.now c.args.arguments.now c.args.first c.args.count) c.loop-left.table c.args.items.now
-          c.args.arguments.now
-          c.loop-left.at c.loop-left.left c.loop-left.invariant.2 c.loop-left-test.true c.analyze_op.ensures c.in-Fine.is,
-    )
+loop-left-preserved c = (
+  omega arith,
+  c.analyze_op.auto.table ∙ c.loop-left.invariant.1,
+  items-fine (tokens_of c.args.tokens.now) (globals_in c.args.rows.now c.args.n) c.args.ret c.args.table.now
+      (items_at c.args.items.now c.args.arguments.now c.args.first c.args.count) c.loop-left.table c.args.items.now
+      c.args.arguments.now
+      c.loop-left.at c.loop-left.left c.loop-left.invariant.2 c.loop-left-test.true c.analyze_op.ensures c.in-Fine.is,
+)
 
 pub returns : goal.returns
 returns c =

@@ -4,7 +4,7 @@ use Rattle.sema.proofs.Steps.{same-refused, same-fine}
 use Rattle.sema.proofs.Turns.{variables_more, variables_none, found_at, types_more}
 use Rattle.sema.specs.Typing.{types_of, same_all}
 use native.Mathlib.Omega.{arith}
-use mathlib.Core.Path.{◌≡◌, refl, ◌∙◌}
+use mathlib.Core.Path.{refl, ◌∙◌}
 use Rattle.sema.proofs.calls.compare_arguments.Goals as goal
 
 pub returns : goal.returns

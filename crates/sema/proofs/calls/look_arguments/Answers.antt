@@ -27,7 +27,6 @@ unfolding present_d then_look pick
 loop-left-preserved c =
     let v = found_at c.args.table.now c.args.arguments.now c.loop-left.at c.argument_at-name.ensures
     c.get.ensures in
-
     let m = variables_more c.args.arguments.now c.loop-left.at c.loop-left.left c.loop-left-test.true in
     (omega arith, rw (← c.loop-left.invariant.1, m, v, ne_eqb _ _ c.if-get-eq0.false))
 

@@ -6,7 +6,6 @@ use Rattle.sema.specs.Globals.{globals_in}
 use Rattle.sema.specs.Blocks.{blocks_at}
 use Rattle.sema.proofs.Threads.{fewer, blocks-refused, blocks-fine, blocks-ended}
 use native.Mathlib.Omega.{arith}
-use Prim.Native.Nat.{◌-◌}
 use mathlib.Core.Path.{sym, ◌∙◌}
 use Rattle.sema.proofs.function.analyze_remaining.Goals as goal
 

@@ -9,7 +9,7 @@ use lib.ListN.{length}
 use Rattle.sema.proofs.function.analyze_remaining.Given as goal
 
 abbrev pub invariant-loop-b : goal.invariant-loop-b
-invariant-loop-b l =     (l.left.blocks ≤ 256) × (length l.table ≡ length l.initial.table)
+invariant-loop-b l = (l.left.blocks ≤ 256) × (length l.table ≡ length l.initial.table)
     × (type_blocks_d (tokens_of l.tokens) (globals_in l.rows l.n) l.ret l.table (blocks_at l.items l.arguments l.blocks l.first
     (remaining l.order l.left))
     ≡ type_blocks_d (tokens_of l.tokens) (globals_in l.rows l.n) l.ret l.initial.table (blocks_at l.items l.arguments l.blocks l.first

@@ -13,14 +13,13 @@ returns-in-Refused c =
     c.loop-left.left c.loop-left.invariant.2 c.loop-left-test.true c.insert.ensures c.in-Refused.is
 
 pub loop-left-preserved : goal.loop-left-preserved
-loop-left-preserved c =
-    (
-      omega arith,
-      c.insert.auto.table ∙ c.loop-left.invariant.1,
-      formals-fine c.args.token c.args.table.now (formals_from c.args.rows.now c.args.first c.args.count) c.loop-left.table
-          c.args.rows.now c.loop-left.at
-          c.loop-left.left c.loop-left.invariant.2 c.loop-left-test.true c.insert.ensures c.in-Fine.is,
-    )
+loop-left-preserved c = (
+  omega arith,
+  c.insert.auto.table ∙ c.loop-left.invariant.1,
+  formals-fine c.args.token c.args.table.now (formals_from c.args.rows.now c.args.first c.args.count) c.loop-left.table
+      c.args.rows.now c.loop-left.at
+      c.loop-left.left c.loop-left.invariant.2 c.loop-left-test.true c.insert.ensures c.in-Fine.is,
+)
 
 pub returns : goal.returns
 returns c =

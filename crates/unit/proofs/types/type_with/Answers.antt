@@ -19,32 +19,30 @@ returns-in-Refused c =
     }
 
 pub elaborate-requires : goal.elaborate-requires
-elaborate-requires c =
-    (
-      c.requires.0,
-      c.requires.2,
-      c.requires.3.types-few,
-      omega (
-        arith,
-        c.requires.3.items-fit c.loop-left.row c.loop-left.invariant.0 (omega (arith, c.loop-left.invariant.1, c.loop-left-test.true)),
-        c.cell-start.ensures,
-        c.cell-count.ensures,
-        c.loop-left.invariant.3,
-      ),
-    )
+elaborate-requires c = (
+  c.requires.0,
+  c.requires.2,
+  c.requires.3.types-few,
+  omega (
+    arith,
+    c.requires.3.items-fit c.loop-left.row c.loop-left.invariant.0 (omega (arith, c.loop-left.invariant.1, c.loop-left-test.true)),
+    c.cell-start.ensures,
+    c.cell-count.ensures,
+    c.loop-left.invariant.3,
+  ),
+)
 
 pub loop-left-preserved : goal.loop-left-preserved
-loop-left-preserved c =
-    (
-      omega (arith, c.loop-left.invariant.0),
-      omega (arith, c.loop-left.invariant.1, c.loop-left-test.true),
-      c.analyze.auto.table ∙ c.loop-left.invariant.2,
-      c.elaborate.auto.items ∙ c.loop-left.invariant.3,
-      c.elaborate.auto.arguments ∙ c.loop-left.invariant.4,
-      rw (c.elaborate.ensures.after, c.elaborate.ensures.arguments_after)
-          (rows-fine _ _ _ _ _ _ _ _ _ c.loop-left.invariant.5 (omega (arith, c.loop-left-test.true)) c.loop-left.table c.loop-left.invariant.2
-          c.analyze.ensures c.in-Fine.is _ _ c.cell-start.ensures c.cell-count.ensures),
-    )
+loop-left-preserved c = (
+  omega (arith, c.loop-left.invariant.0),
+  omega (arith, c.loop-left.invariant.1, c.loop-left-test.true),
+  c.analyze.auto.table ∙ c.loop-left.invariant.2,
+  c.elaborate.auto.items ∙ c.loop-left.invariant.3,
+  c.elaborate.auto.arguments ∙ c.loop-left.invariant.4,
+  rw (c.elaborate.ensures.after, c.elaborate.ensures.arguments_after)
+      (rows-fine _ _ _ _ _ _ _ _ _ c.loop-left.invariant.5 (omega (arith, c.loop-left-test.true)) c.loop-left.table c.loop-left.invariant.2
+      c.analyze.ensures c.in-Fine.is _ _ c.cell-start.ensures c.cell-count.ensures),
+)
 
 pub returns : goal.returns
 returns c =
