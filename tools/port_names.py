@@ -106,7 +106,9 @@ def settled():
     for new, olds in sorted(taken.items()):
         if len(olds) < 2:
             continue
-        first = next((o for o in sorted(olds) if o in defs), None) or next((o for o in sorted(olds) if CAMEL.match(o)), None) or sorted(olds)[0]
+        # A definition's own name wins, then another name of specs/, then what had no dash.
+        ranks = sorted(olds, key=lambda o: (not (o in defs and CAMEL.match(o)), o not in defs, not CAMEL.match(o), o))
+        first = ranks[0]
         for old in olds - {first}:
             to[old] = new + "_lem"
             assert new + "_lem" not in taken, new

@@ -19,7 +19,7 @@ use Rattle.parser.specs.declared.Variable.{Variable}
 use Rattle.parser.specs.declared.Operation.{Operation}
 use Rattle.body.specs.Records.{record_of, items_cells, arguments_cells, arguments_count}
 use Rattle.body.specs.Room.{filled}
-use Rattle.body.specs.Turns.{added, closing, before_next_lem, last_next_lem, Taken}
+use Rattle.body.specs.Turns.{added, closing, before_next, last_next, Taken}
 use Rattle.body.specs.declared.Going.{Going}
 
 pub items_append : (used : ℕ) (xs ys : List Item)
@@ -55,8 +55,8 @@ added-front false last i more = refl
 
 pub closed_cons : (void : Bool) (before last : ℕ) (i : Item) (is : List Item)
     → closed_from void before last (i ∷ is)
-    ≡ closing void before last i ++ closed_from void (before_next_lem i) (last_next_lem last i) is
-unfolding closed_from closing before_next_lem last_next_lem
+    ≡ closing void before last i ++ closed_from void (before_next i) (last_next last i) is
+unfolding closed_from closing before_next last_next
 closed_cons void before last (label w l) is =
     added-front (lacks_ret void before) last (label w l) (closed_from void 1 last is)
 closed_cons void before last (plain o) is = refl
@@ -116,8 +116,8 @@ late o = behind-late (terminates o)
 
 closing-filled : (void : Bool) (before last : ℕ) (i : Item) (is : List Item)
     → filled (fresh before) (shapes_of (closing void before last i ++ is))
-    ≡ started before i + filled (fresh (before_next_lem i)) (shapes_of is)
-unfolding closing started before_next_lem filled shapes_of
+    ≡ started before i + filled (fresh (before_next i)) (shapes_of is)
+unfolding closing started before_next filled shapes_of
 closing-filled void before last (label w l) is =
     rw (append_assoc (added (lacks_ret void before) last) (label w l ∷ []) is)
     (added-filled (lacks_ret void before) before last (label w l ∷ is) (lacks_operation void before)
@@ -141,7 +141,7 @@ module _ {void : Bool} {i : Item} {s s' : Going} {items₀ items arguments₀ ar
     (t : Taken void i s s' items₀ items arguments₀ arguments) (is : List Item) where
   closed_on : closed_from void s.before s.last (i ∷ is)
       ≡ closing void s.before s.last i ++ closed_from void s'.before s'.last is
-  closed_on = rw (t.before_next, t.last_next) (closed_cons void s.before s.last i is)
+  closed_on = rw (t.before_next_lem, t.last_next_lem) (closed_cons void s.before s.last i is)
 
   pub items-on : sets items (s'.items * 8) (items_cells s'.arguments (closed_from void s'.before s'.last is))
       ≡ sets items₀ (s.items * 8) (items_cells s.arguments (closed_from void s.before s.last (i ∷ is)))
@@ -183,8 +183,8 @@ module _ {void : Bool} {i : Item} {s s' : Going} {items₀ items arguments₀ ar
       (shapes_of (closed_from void s'.before s'.last is))
       ≡ filled (fresh s.before) (shapes_of (closed_from void s.before s.last (i ∷ is)))
   blocks-on =
-      rw (closed_on, t.before_next, t.last_next)
-      (sym (closing-filled void s.before s.last i (closed_from void (before_next_lem i) (last_next_lem s.last i) is)))
+      rw (closed_on, t.before_next_lem, t.last_next_lem)
+      (sym (closing-filled void s.before s.last i (closed_from void (before_next i) (last_next s.last i) is)))
 
 module _ (i : Item) (is : List Item) (n n' : ℕ) (next : n' ≡ n + length (labels_of (i ∷ []))) where
   pub labels-on : (labels labels' : List ℕ) → labels' ≡ sets labels n (labels_of (i ∷ []))
@@ -215,8 +215,8 @@ ending_few false last before n sum at next more h a b p = omega arith
 pub items-few-on : (void : Bool) (last : ℕ) (i : Item) (before n sum at next more : ℕ)
     → sum + n * 4 ≤ at * 3 + more → (before ≡ 2 → sum + n * 4 + 2 ≤ at * 3 + more) → at + 2 ≤ next
     → (sum + (n + length (closing void before last i)) * 4 ≤ next * 3 + more)
-    × (before_next_lem i ≡ 2 → sum + (n + length (closing void before last i)) * 4 + 2 ≤ next * 3 + more)
-unfolding closing before_next_lem
+    × (before_next i ≡ 2 → sum + (n + length (closing void before last i)) * 4 + 2 ≤ next * 3 + more)
+unfolding closing before_next
 items-few-on void last (label w l) before n sum at next more a b p = (
   added-few (lacks_ret void before) last (label w l) before n sum at next more (lacks_operation void before) a b p,
   λ z. absurd (omega arith),
@@ -234,8 +234,8 @@ started_few false before n sum at next h a b p = omega arith
 -- a block for every four tokens, two of them spared behind an operation
 pub blocks-few-on : (i : Item) (before n sum at next : ℕ) → sum + n * 4 ≤ at + 2 → (before ≤ 1 → sum + n * 4 ≤ at)
     → at + 2 ≤ next
-    → (sum + (n + started before i) * 4 ≤ next + 2) × (before_next_lem i ≤ 1 → sum + (n + started before i) * 4 ≤ next)
-unfolding started before_next_lem
+    → (sum + (n + started before i) * 4 ≤ next + 2) × (before_next i ≤ 1 → sum + (n + started before i) * 4 ≤ next)
+unfolding started before_next
 blocks-few-on (label w l) before n sum at next a b p = (omega arith, λ z. omega arith)
 blocks-few-on (plain o) before n sum at next a b p = (
   started_few (fresh before) before n sum at next (leb-true before 1) a b p,

@@ -24,7 +24,7 @@ use Rattle.parser.specs.declared.Called.TheVariants as L
 use Rattle.body.specs.Records.{none, operation_record, record_of, items_cells}
 use Rattle.body.specs.Room.{Within}
 use Rattle.body.specs.Turns.{item_read, Put, ItemHeld, call_record, call_read, CallHeld, late_refusal}
-use Rattle.body.specs.Turns.{behind_kind, closing, before_next_lem, last_next_lem, item_then, ItemTaken}
+use Rattle.body.specs.Turns.{behind_kind, closing, before_next, last_next, item_then, ItemTaken}
 use Rattle.body.specs.declared.ItemRecord.{ItemRecord}
 use Rattle.body.specs.declared.ItemRead.TheVariants as I
 use Rattle.body.specs.declared.Going.{Going}
@@ -144,14 +144,14 @@ record_token used (call_into w v g xs) = refl
 
 -- what the state needs of an item that is no label
 record Operated (void : Bool) (used before last : ℕ) (i : Item) : Type 0 where
-  kind : behind_kind (record_of used i).kind ≡ before_next_lem i
-  same : before_next_lem i ≡ behind i
+  kind : behind_kind (record_of used i).kind ≡ before_next i
+  same : before_next i ≡ behind i
   none : labels_of (i ∷ []) ≡ []
   one : closing void before last i ≡ i ∷ []
-  token : (record_of used i).token ≡ last_next_lem last i
+  token : (record_of used i).token ≡ last_next last i
 
 operated : (void : Bool) (used before last : ℕ) (i : Item) → Operates i → Operated void used before last i
-unfolding record_of behind_kind before_next_lem behind labels_of closing last_next_lem pick
+unfolding record_of behind_kind before_next behind labels_of closing last_next pick
 operated void used before last (label w l) h = absurd h
 operated void used before last (plain o) h =
     record { kind = operation-behind o; same = refl; none = refl; one = refl; token = operation_token_lem o }
@@ -212,8 +212,8 @@ item-taken ts void s s' i items₀ items arguments₀ arguments w q late n used 
           record {
             items-next = rw o.one n;
             arguments-next = used;
-            before_next = before ∙ o.kind;
-            last_next = last ∙ o.token;
+            before_next_lem = before ∙ o.kind;
+            last_next_lem = last ∙ o.token;
             items_are = rw o.one p.items_are;
             arguments_are = p.arguments_are;
           };

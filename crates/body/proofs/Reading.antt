@@ -167,11 +167,11 @@ module _ {ts : List Tok} {void : Bool} {at first used : ℕ} {whole : Body} {ite
                 labels-count-on i is s.labels s'.labels g.labels_next ∙ rw go at v.labels-count;
             blocks-count = omega (arith, blocks-on t is, rw go at v.blocks-count);
             items-few = rw t.items-next few.0;
-            items_spared = λ z. rw t.items-next (few.1 (sym t.before_next ∙ z));
+            items_spared = λ z. rw t.items-next (few.1 (sym t.before_next_lem ∙ z));
             arguments-few = omega (arith, v.arguments-few, t.arguments-next, g.passed.arguments-few);
             labels-few = g.labels-few;
             blocks-few = begun.0;
-            blocks_spared = λ z. begun.1 (rw t.before_next at z);
+            blocks_spared = λ z. begun.1 (rw t.before_next_lem at z);
           },
         )
 

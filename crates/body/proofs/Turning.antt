@@ -24,7 +24,7 @@ use Rattle.parser.specs.declared.Named.TheVariants as N
 use Rattle.body.specs.Records.{none, item_record, record_of, record_cells, items_cells, arguments_count}
 use Rattle.body.specs.declared.Last.TheVariants as L
 use Rattle.body.specs.Room.{Within}
-use Rattle.body.specs.Turns.{added, closing, before_next_lem, last_next_lem, item_then, Ready, ItemTurned}
+use Rattle.body.specs.Turns.{added, closing, before_next, last_next, item_then, Ready, ItemTurned}
 use Rattle.body.specs.Turns.{behind_label, label_put, LabelTaken, LabelTurned, Ended, Turned}
 use Rattle.body.specs.declared.Closed.{Closed}
 use Rattle.body.specs.declared.Going.{Going}
@@ -73,7 +73,7 @@ module _ (ts : List Tok) (void : Bool) (s : Going) {l : Identifier} {next : ℕ}
     at_label : (items₀ : List ℕ)
         → LabelTaken ts void s (behind_label void s next) items₀ (label_put void s l items₀) labels₀
         (set labels₀ s.labels l.0)
-    unfolding closing items_cells record_of variables_cells before_next_lem last_next_lem
+    unfolding closing items_cells record_of variables_cells before_next last_next
     at_label items₀ =
         let w = g.within in
         let t = lacks_ret void s.before in
@@ -96,8 +96,8 @@ module _ (ts : List Tok) (void : Bool) (s : Going) {l : Identifier} {next : ℕ}
               record {
                 items-next = omega (arith, length-append xs (label s.at l ∷ []));
                 arguments-next = sym (add-zero s.arguments);
-                before_next = refl;
-                last_next = refl;
+                before_next_lem = refl;
+                last_next_lem = refl;
                 items_are =
                     rw (
                       added_cells_lem t s.last s.arguments,
@@ -158,7 +158,7 @@ module _ (ts : List Tok) (void : Bool) (s : Going) (items₀ items labels₀ : L
   pub label_turned : (r : Turn) (arguments labels : List ℕ) → eqb (token_at ts s.at).kind 3 ≡ true
       → LabelTurned ts void s items₀ items labels₀ labels r
       → Turned ts void s items₀ items arguments arguments labels₀ labels r
-  unfolding body_d opened labels_of before_next_lem variables_cells
+  unfolding body_d opened labels_of before_next variables_cells
   label_turned (T.On s') arguments labels k h =
       let t = h.taken in
       let so_far : take s'.labels labels ≡ take s.labels labels₀ ++ (h.name.0 ∷ []) =
@@ -166,7 +166,7 @@ module _ (ts : List Tok) (void : Bool) (s : Going) (items₀ items labels₀ : L
       (take-suc-set labels₀ s.labels h.name.0 (omega (arith, h.labels_next, h.labels-few))) in
       record {
         read = label s.at h.name;
-        goes = λ room. rw (goes_on, k, h.goes, so_far, t.before_next);
+        goes = λ room. rw (goes_on, k, h.goes, so_far, t.before_next_lem);
         labels_next = h.labels_next;
         labels-few = h.labels-few;
         labels_are = h.labels_are;
@@ -175,8 +175,8 @@ module _ (ts : List Tok) (void : Bool) (s : Going) (items₀ items labels₀ : L
             record {
               items-next = t.items-next;
               arguments-next = t.arguments-next;
-              before_next = t.before_next;
-              last_next = t.last_next;
+              before_next_lem = t.before_next_lem;
+              last_next_lem = t.last_next_lem;
               items_are = t.items_are;
               arguments_are = refl;
             };
@@ -196,7 +196,7 @@ module _ (ts : List Tok) (void : Bool) (s : Going) (items₀ items labels₀ : L
         goes = λ room.
             rw (goes_on, k)
             (h.goes (λ i at1. body_then i (body_d ts room (take s.labels labels₀) (behind i) at1))
-            ∙ rw (h.labels_next, t.before_next, h.before_same));
+            ∙ rw (h.labels_next, t.before_next_lem, h.before_same));
         labels_next = rw (h.no_label, add-zero) h.labels_next;
         labels-few = rw h.labels_next few;
         labels_are = rw h.no_label;

@@ -83,17 +83,17 @@ closing void before last (call w g xs) = call w g xs ∷ []
 closing void before last (call_into w v g xs) = call_into w v g xs ∷ []
 
 -- what stands before the next item, and the token of the last operation
-unfoldable pub before_next_lem : Item → ℕ
-before_next_lem (label w l) = after_label
-before_next_lem (plain o) = behind (plain o)
-before_next_lem (call w g xs) = after_operation
-before_next_lem (call_into w v g xs) = after_operation
+unfoldable pub before_next : Item → ℕ
+before_next (label w l) = after_label
+before_next (plain o) = behind (plain o)
+before_next (call w g xs) = after_operation
+before_next (call_into w v g xs) = after_operation
 
-unfoldable pub last_next_lem : ℕ → Item → ℕ
-last_next_lem last (label w l) = last
-last_next_lem last (plain o) = operation_token o
-last_next_lem last (call w g xs) = w
-last_next_lem last (call_into w v g xs) = w
+unfoldable pub last_next : ℕ → Item → ℕ
+last_next last (label w l) = last
+last_next last (plain o) = operation_token o
+last_next last (call w g xs) = w
+last_next last (call_into w v g xs) = w
 
 -- what a turn may rely on: the room that the tokens behind it leave
 pub record Ready (ts : List Tok) (s : Going) : Type 0 where
@@ -114,8 +114,8 @@ pub record Passed (ts : List Tok) (at next : ℕ) (i : Item) : Type 0 where
 pub record Taken (void : Bool) (i : Item) (s s' : Going) (items₀ items arguments₀ arguments : List ℕ) : Type 0 where
   pub items-next : s'.items ≡ s.items + length (closing void s.before s.last i)
   pub arguments-next : s'.arguments ≡ s.arguments + length (arguments_in i)
-  pub before_next : s'.before ≡ before_next_lem i
-  pub last_next : s'.last ≡ last_next_lem s.last i
+  pub before_next_lem : s'.before ≡ before_next i
+  pub last_next_lem : s'.last ≡ last_next s.last i
   pub items_are : items ≡ sets items₀ (s.items * 8) (items_cells s.arguments (closing void s.before s.last i))
   pub arguments_are : arguments ≡ sets arguments₀ (s.arguments * 2) (variables_cells (arguments_in i))
 
@@ -129,7 +129,7 @@ pub record ItemTaken (ts : List Tok) (void : Bool) (s s' : Going)
     (items₀ items arguments₀ arguments : List ℕ) : Type 0 where
   pub read : Item
   pub goes : (k : Item → ℕ → Body) → item_then ts s.before s.at k ≡ k read s'.at
-  pub before_same : before_next_lem read ≡ behind read
+  pub before_same : before_next read ≡ behind read
   pub no_label : labels_of (read ∷ []) ≡ []
   pub labels_next : s'.labels ≡ s.labels
   pub passed : Passed ts s.at s'.at read

@@ -509,7 +509,7 @@ module _ (text : List ℕ) (ts : List Tok) (names rows rest : List ℕ)
         type = rw (row_type ts names f first base rows i r h) q.1;
         blocks = rw (cell (block_count_at i) 11 (omega arith)) q.0.1;
         formals = rw (row_count ts names f first base rows i r h) g.few;
-        formal_types = λ k l.
+        formal_types_lem = λ k l.
             let e : formal_type_at i k ≡ formals_at i + k * 2 + 1 = omega arith in
             rw e
             (formal_types_in vs rows (formals_at i) r (row-formals ts names f first base rows i r h) g.types k

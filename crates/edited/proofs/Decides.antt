@@ -40,7 +40,7 @@ module _ {pre f post new : List ℕ} {first : ℕ} (p : Replaced pre f post new 
   spells = spells_of p
 
   abbrev alone : List Tok
-  alone = tokens_in p.new_tokens
+  alone = tokens_in p.new_tokens_lem
 
   abbrev all : List Function
   all = before ++ (r ∷ behind)
@@ -57,7 +57,7 @@ module _ {pre f post new : List ℕ} {first : ℕ} (p : Replaced pre f post new 
 
     -- refused alone
     pub refused-fresh : (x : Refusal) → alone_among alone spells all ≡ refuses x → (x.number ≡ 40 → ⊥)
-        → RefusedAs (tokens_in ts) alone (inside_move rd) (length p.new_tokens - 1) x
+        → RefusedAs (tokens_in ts) alone (inside_move rd) (length p.new_tokens_lem - 1) x
     unfolding edited alone_in
     refused-fresh x e n =
         subst

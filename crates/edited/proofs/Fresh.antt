@@ -52,7 +52,7 @@ module _ {old : List ℕ} {k : ℕ} {new : List ℕ} (c : Cutting old k new) (z 
 
   -- what the new function is alone
   abbrev pub alone : List Tok
-  alone = tokens_in c.lexing.new_tokens
+  alone = tokens_in c.lexing.new_tokens_lem
 
   abbrev pub verdict : Verdict
   verdict = alone_among alone (spells_of c.lexing) all
@@ -74,7 +74,7 @@ module _ {old : List ℕ} {k : ℕ} {new : List ℕ} (c : Cutting old k new) (z 
   alone-refused x e = ap (λ (r : Checking). r.answer.number) (alone-is x e)
 
   module _ (x : Refusal) (e : verdict ≡ refuses x) (one : x.number ≡ 40 → ⊥) where
-    moved : RefusedAs (tokens_in z.tokens) alone (inside_move z.readings) (length c.lexing.new_tokens - 1) x
+    moved : RefusedAs (tokens_in z.tokens) alone (inside_move z.readings) (length c.lexing.new_tokens_lem - 1) x
     moved =
         refused-fresh c.lexing z.readings z.lexed c.front c.before c.function c.behind c.typed
         c.stood c.closed c.keeps x e one

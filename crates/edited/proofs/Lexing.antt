@@ -137,8 +137,8 @@ module _ {pre f post new : List ℕ} {line first : ℕ} {e : Edit pre f post new
   pub edited_sound : Sound (pre ++ (new ++ post)) line ts ns
   edited_sound = read_sound line (pre ++ (new ++ post)) ts ns lexed
 
-  pub own_sound : Sound new first e.new_tokens e.new-names
-  own_sound = read_sound first new e.new_tokens e.new-names e.new-lexes
+  pub own_sound : Sound new first e.new_tokens_lem e.new-names
+  own_sound = read_sound first new e.new_tokens_lem e.new-names e.new-lexes
 
   -- how many names each table has
   pub old_few : length (spellings (pre ++ (f ++ post)) e.old_names) ≡ length e.old_names
@@ -248,31 +248,31 @@ module _ {pre f post new : List ℕ} {line first : ℕ} {e : Edit pre f post new
 
   -- The new text's tokens. -----------------------------------------------------------------------------------------
 
-  pub own-some : 0 < length e.new_tokens - 1
+  pub own-some : 0 < length e.new_tokens_lem - 1
   own-some = omega (arith, e.new-closes.before-end)
 
-  pub inside-tokens : Sim (inside_move r) (length e.new_tokens - 1) (tokens_in ts) (tokens_in e.new_tokens)
-  inside-tokens = sim_plain ts e.new_tokens (r.new-moved 0 0)
+  pub inside-tokens : Sim (inside_move r) (length e.new_tokens_lem - 1) (tokens_in ts) (tokens_in e.new_tokens_lem)
+  inside-tokens = sim_plain ts e.new_tokens_lem (r.new-moved 0 0)
 
-  pub own-ends : (token_at (tokens_in e.new_tokens) (length e.new_tokens - 1)).kind ≡ T.end_of_file
+  pub own-ends : (token_at (tokens_in e.new_tokens_lem) (length e.new_tokens_lem - 1)).kind ≡ T.end_of_file
   own-ends =
-      kind_at e.new_tokens (length e.new_tokens - 1) (omega (arith, own-some))
+      kind_at e.new_tokens_lem (length e.new_tokens_lem - 1) (omega (arith, own-some))
       ∙ ap (λ (t : Token). kind_of t.value) (end-last own_sound)
 
-  pub own-unended : (i : ℕ) → i < length e.new_tokens - 1 → (token_at (tokens_in e.new_tokens) i).kind ≡ T.end_of_file
+  pub own-unended : (i : ℕ) → i < length e.new_tokens_lem - 1 → (token_at (tokens_in e.new_tokens_lem) i).kind ≡ T.end_of_file
       → ⊥
   own-unended i h q =
-      let k = kind_at e.new_tokens i (omega arith) in
+      let k = kind_at e.new_tokens_lem i (omega arith) in
       omega (arith, end-only-last own_sound i (omega arith))
 
   -- The new text begins with a global, and before the replaced function stands a closing brace, or nothing.
-  module _ (opens : kind_of (get_or e.new_tokens 0 no_token).value ≡ T.global)
+  module _ (opens : kind_of (get_or e.new_tokens_lem 0 no_token).value ≡ T.global)
       (brace : (i : ℕ) → i + 1 ≡ e.opening → kind_of (get_or e.old_tokens i no_token).value ≡ T.right_brace) where
     pub begins-here : (token_at (tokens_in ts) e.opening).kind ≡ T.global
     begins-here =
         ap (λ (i : ℕ). (token_at (tokens_in ts) i).kind) (sym (add-zero e.opening))
         ∙ ap (λ (t : TokenAt). t.kind) (inside-tokens.same 0 own-some)
-        ∙ kind_at e.new_tokens 0 (omega (arith, own-some)) ∙ opens
+        ∙ kind_at e.new_tokens_lem 0 (omega (arith, own-some)) ∙ opens
 
     -- THE THEOREMS: what parsing and typing ask of the old text's tokens and the edited text's,
     unfoldable pub edited : Edited (tokens_in e.old_tokens) (tokens_in ts)
@@ -290,7 +290,7 @@ module _ {pre f post new : List ℕ} {line first : ℕ} {e : Edit pre f post new
           behind_old = sim_plain e.old_tokens r.rest (r.rest_old 0 0);
           behind-new = sim_plain ts r.rest (r.rest-new 0 0);
           ends_old = kind-past e.old_tokens (e.closing + 1 + length r.rest) (omega (arith, r.counted_old));
-          ends-new = kind-past ts (e.opening + (length e.new_tokens - 1) + length r.rest)
+          ends-new = kind-past ts (e.opening + (length e.new_tokens_lem - 1) + length r.rest)
               (omega (arith, r.counted));
           ends-rest = kind-past r.rest (length r.rest) (omega arith);
           Spelt = SpeltIn (spellings (pre ++ (f ++ post)) e.old_names) (spellings (pre ++ (new ++ post)) ns);
@@ -340,12 +340,12 @@ module _ {pre f post new : List ℕ} {line first : ℕ} {e : Edit pre f post new
         )
 
     -- and of the new text's own tokens; names are as long in each reading.
-    unfoldable pub alone_in : Alone edited (tokens_in e.new_tokens)
+    unfoldable pub alone_in : Alone edited (tokens_in e.new_tokens_lem)
     unfolding edited
     alone_in =
         record {
           inside = inside_move r;
-          size = length e.new_tokens - 1;
+          size = length e.new_tokens_lem - 1;
           begins = refl;
           closes = refl;
           tokens = inside-tokens;

@@ -25,7 +25,7 @@ use Rattle.checker.proofs.TypedNumbers.{function-fine}
 use Rattle.headers.specs.Spelled.{globals_spelled, callees_spelled}
 use Rattle.recheck.specs.Recheck.{refuses, typed_as, alone_d, function_alone, recheck_of}
 use Rattle.edited.specs.Demand3.{table_of, line_of, rechecked_as}
-use Rattle.edited.specs.OfText.{new_tokens_lem, OneFunction}
+use Rattle.edited.specs.OfText.{new_tokens, OneFunction}
 use Rattle.edited.proofs.Low.{fine-low, LowF, LowV, typed-low, answer-low}
 use Rattle.edited.proofs.Closing.{function_spans}
 use Rattle.edited.proofs.Accepted.{accepted-text}
@@ -74,7 +74,7 @@ unfolding recheck_of pick
 text_decides old k new accepted one lexes h =
     let a = accepted-text old accepted in
     let r : Reading = read_from (line_of old k) new in
-    let ts : List Tok = new_tokens_lem old k new in
+    let ts : List Tok = new_tokens old k new in
     let globals : ℕ → Global = globals_spelled old (table_of old) new r.names in
     let w = within (lexed_itself (line_of old k) new lexes) in
     rw (is_table_lem old a 2881 (omega arith) k (there old k a one), lexes, h.whole, h.kept)

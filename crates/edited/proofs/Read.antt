@@ -104,7 +104,7 @@ module _ {old : List ℕ} {k : ℕ} {new : List ℕ} (c : Cutting old k new) (z 
   -- recheck's answer
   abbrev pub answer : Checking
   answer =
-      verdict_as new (lexedReading (Outcome.done c.lexing.new_tokens c.lexing.new-names)) (alone c z)
+      verdict_as new (lexedReading (Outcome.done c.lexing.new_tokens_lem c.lexing.new-names)) (alone c z)
       (λ y. callee_spelt (spells_of c.lexing y) (all c z)) type (accepts g table)
 
   pub answer-is : rechecked_as old k new ≡ answer
@@ -132,12 +132,12 @@ module _ {old : List ℕ} {k : ℕ} {new : List ℕ} (c : Cutting old k new) (z 
       }
 
   alone-reads : reading_of new answer 0
-      ≡ read (name_of new new-names) 0 (tokens_cells c.lexing.new_tokens) (retyped type g) alone_written
+      ≡ read (name_of new new-names) 0 (tokens_cells c.lexing.new_tokens_lem) (retyped type g) alone_written
   unfolding reading_of counts_from
   alone-reads =
       ap (λ (own : Own). seen_own (firsts_of (name_of new new-names) 0 own) own)
       (own-cells alone_stands
-      ∙ ap (λ (t : List ℕ). own_written (tokens_cells c.lexing.new_tokens) (retyped type g)
+      ∙ ap (λ (t : List ℕ). own_written (tokens_cells c.lexing.new_tokens_lem) (retyped type g)
       (written_with (alone c z) new-names (λ y. callee_spelt (spells_of c.lexing y) (all c z)) t none (retyped type g)))
       (sym left))
 
@@ -184,12 +184,12 @@ module _ {old : List ℕ} {k : ℕ} {new : List ℕ} (c : Cutting old k new) (z 
 
   -- The new function. -------------------------------------------------------------------------------------------------
 
-  new_side : Side text accepted-new x.f c.lexing.new_tokens (retyped type g) alone_written (name_of new new-names)
+  new_side : Side text accepted-new x.f c.lexing.new_tokens_lem (retyped type g) alone_written (name_of new new-names)
   unfolding edited alone_in
   new_side =
       record {
         move = inside_move z.readings;
-        size = length c.lexing.new_tokens - 1;
+        size = length c.lexing.new_tokens_lem - 1;
         tokens = inside-tokens z.readings z.lexed;
         function = x.same;
         written_as = writing.new-function;
@@ -218,7 +218,7 @@ module _ {old : List ℕ} {k : ℕ} {new : List ℕ} (c : Cutting old k new) (z 
       let by : ℕ = (inside_move z.readings).by in
       let at : x.f.token ≡ by + 0 = x.same.token ∙ ap (λ (i : ℕ). by + i) first in
       let opens : (token_at (alone c z) 0).place ≡ 0 =
-      ap (λ (t : TokenAt). t.place) (token_at_lem c.lexing.new_tokens 0 (omega (arith, c.lexing.new-inner)))
+      ap (λ (t : TokenAt). t.place) (token_at_lem c.lexing.new_tokens_lem 0 (omega (arith, c.lexing.new-inner)))
       ∙ c.lexing.new-opens_at in
       (its_row text accepted-new 2881 s).place
       ∙ ap (λ (l : List ℕ). (token_at (tokens_of l) x.f.token).place) (tokens_are text accepted-new)

@@ -185,7 +185,7 @@ module _ (old : List ℕ) (toks : List Token) (ns : List Part) (lexed : lexed_fr
               let a = first-long old from to from-to to_inside in
               let b = part-long old from to from-to to_inside in
               omega (arith, to_is, a, b, from-to);
-          new_tokens = new-toks;
+          new_tokens_lem = new-toks;
           new-names = new-ns;
           new-lexes = new-lexed;
           new-closing = length new-toks - 2;

@@ -3,7 +3,7 @@ use Rattle.std.specs.Prelude.{ℕ, ◌+◌, ◌-◌, ◌≡◌, List, [], ◌∷
 use Rattle.utils.specs.Bytes.{pad_to}
 use Rattle.lexer.specs.Decoded.{Tok, tokens_of, token_at, name_of}
 use Rattle.parser.specs.Runs.{type_cell}
-use Rattle.functions.specs.Known.{signature, formal_types_lem}
+use Rattle.functions.specs.Known.{signature, formal_types}
 use Rattle.functions.specs.Functions.{Function}
 use Rattle.functions.specs.Columns.{row_at, name_at, type_at, place_at, line_at, close_at}
 use Rattle.functions.specs.Rows.{signed_at}
@@ -31,7 +31,7 @@ pub record RowOf (text : List ℕ) (ts : List Tok) (names table : List ℕ) (i :
   pub line : get_or table (line_at i) 0 ≡ (token_at ts f.token).line.0
   pub type : get_or table (type_at i) 0 ≡ f.head.type
   pub signed : signed_at table i ≡ signature f.head.ret f.head.formals
-  pub called : row_global table i ≡ global (type_cell f.head.ret) (formal_types_lem f.head.formals)
+  pub called : row_global table i ≡ global (type_cell f.head.ret) (formal_types f.head.formals)
   pub name : row_name text table i ≡ name_of text names f.head.name.0
 
 -- the rows from row i on

@@ -48,5 +48,5 @@ module _ {pre f post new : List ℕ} {line first : ℕ} {e : Edit pre f post new
 
   abbrev pub new_back_move : Move
   new_back_move =
-      move_of (e.opening + (length e.new_tokens - 1)) (get_or e.new_tokens e.new-closing no_token).line.0
+      move_of (e.opening + (length e.new_tokens_lem - 1)) (get_or e.new_tokens_lem e.new-closing no_token).line.0
       (length pre + length new) (spellings (pre ++ (new ++ post)) ns) r.rest-words r.rest-apart

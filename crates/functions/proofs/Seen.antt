@@ -11,7 +11,7 @@ use Rattle.utils.proofs.Runs.{sets_append}
 use Rattle.lexer.specs.Decoded.{Tok}
 use Rattle.parser.specs.Runs.{variables_cells}
 use Rattle.parser.specs.declared.Variable.{Variable}
-use Rattle.functions.specs.Known.{Known, formal_types_lem}
+use Rattle.functions.specs.Known.{Known, formal_types}
 use Rattle.functions.specs.Functions.{Function, known_of}
 use Rattle.functions.specs.Columns.{row_at, formals_at}
 use Rattle.functions.specs.Rows.{head_cells, row_cells, types_at, known_at, known_from}
@@ -67,7 +67,7 @@ module _ (ts : List Tok) (names : List ℕ) (f : Function) (first base n : ℕ) 
       sets_append (head_cells ts names f first base) (variables_cells vs) rows (row_at n)
       ∙ ap (λ (k : ℕ). sets (sets rows (row_at n) (head_cells ts names f first base)) k (variables_cells vs)) e
 
-  types : types_at rows' (formals_at n) (length vs) ≡ formal_types_lem vs
+  types : types_at rows' (formals_at n) (length vs) ≡ formal_types vs
   unfolding vs
   types =
       let l : length (sets rows (row_at n) (head_cells ts names f first base)) ≡ length rows =

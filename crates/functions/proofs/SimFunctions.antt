@@ -30,7 +30,7 @@ use Rattle.body.proofs.SimItems.{count_s, closed_items_s}
 use Rattle.link.proofs.SimBlocks.{body_blocks_s, resolve_s}
 use Rattle.functions.specs.declared.Entered.{Entered}
 use Rattle.functions.specs.declared.Entered.TheVariants as E
-use Rattle.functions.specs.Known.{Known, formal_types_lem, signature, type_number, types_after, expected_type}
+use Rattle.functions.specs.Known.{Known, formal_types, signature, type_number, types_after, expected_type}
 use Rattle.functions.specs.Functions.{Header, HeaderAt, BuiltAt, FunctionAt, then_header, then_formals, then_entered}
 use Rattle.functions.specs.Functions.{then_built, optional_formals, optional_type, entered_d, signature_d, header_d}
 use Rattle.functions.specs.Functions.{blocks_in, resolved_items, built_d, is_void, function_d, known_of}
@@ -42,8 +42,8 @@ use Rattle.functions.specs.Moved.{SimFunctionAt, SimProgram}
 -- Function types. -----------------------------------------------------------------------------------------------------
 
 -- renamed formals have the same types
-pub formal_types_s : {m : Move} {vs vs' : List Variable} → Each (SimV m) vs vs' → formal_types_lem vs ≡ formal_types_lem vs'
-unfolding formal_types_lem
+pub formal_types_s : {m : Move} {vs vs' : List Variable} → Each (SimV m) vs vs' → formal_types vs ≡ formal_types vs'
+unfolding formal_types
 formal_types_s Each.none = refl
 formal_types_s (Each.more (SimV.of q t) r) = rw (formal_types_s r) refl
 

@@ -10,7 +10,7 @@ use Rattle.utils.specs.Bytes.{pick, pad_to}
 use Rattle.lexer.specs.Decoded.{Tok}
 use Rattle.parser.specs.Runs.{type_cell, variables_cells}
 use Rattle.parser.specs.declared.Variable.{Variable}
-use Rattle.functions.specs.Known.{formal_types_lem}
+use Rattle.functions.specs.Known.{formal_types}
 use Rattle.functions.specs.Functions.{Function, blocks_in}
 use Rattle.functions.specs.Columns.{row_at, name_at, ret_at, type_at, count_at, formals_at}
 use Rattle.functions.specs.Rows.{head_cells, row_cells, at_most16, types_at}
@@ -29,8 +29,8 @@ rest_there k j cells l h = sym (drop-drop j k cells) ∙ ap (drop j) h
 
 -- the types of formals
 pub types_back : (vs : List Variable) (cells : List ℕ) (at : ℕ) (rest : List ℕ)
-    → drop at cells ≡ variables_cells vs ++ rest → types_at cells at (length vs) ≡ formal_types_lem vs
-unfolding types_at variables_cells formal_types_lem
+    → drop at cells ≡ variables_cells vs ++ rest → types_at cells at (length vs) ≡ formal_types vs
+unfolding types_at variables_cells formal_types
 types_back [] cells at rest h = refl
 types_back (v ∷ vs) cells at rest h =
     rw (cell_there at 1 cells (variables_cells (v ∷ vs) ++ rest) h)
@@ -81,7 +81,7 @@ module _ (ts : List Tok) (names : List ℕ) (f : Function) (first base : ℕ) (r
     unfolding pick
     row_at_most = rw (row_count, le-leb (length f.head.formals) 16 few)
 
-    pub row-types : types_at rows (formals_at i) (at_most16 (get_or rows (count_at i) 0)) ≡ formal_types_lem f.head.formals
+    pub row-types : types_at rows (formals_at i) (at_most16 (get_or rows (count_at i) 0)) ≡ formal_types f.head.formals
     row-types = rw row_at_most (types_back f.head.formals rows (formals_at i) rest row-formals)
 
 -- All rows. ---------------------------------------------------------------------------------------------------------

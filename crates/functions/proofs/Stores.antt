@@ -12,7 +12,7 @@ use Rattle.utils.proofs.Runs.{sets_append}
 use Rattle.utils.specs.Bytes.{pick}
 use Rattle.parser.specs.Runs.{variables_cells, type_cell}
 use Rattle.parser.specs.declared.Variable.{Variable}
-use Rattle.functions.specs.Known.{formal_types_lem}
+use Rattle.functions.specs.Known.{formal_types}
 use Rattle.functions.specs.Columns.{row_at, ret_at, formals_at}
 use Rattle.functions.specs.Rows.{at_most16, types_at, known_at, known_from}
 
@@ -58,8 +58,8 @@ known-below (suc n) vs l at i h =
 
 -- the types of formals that were stored
 pub types_there : (vs : List Variable) (l : List ℕ) (at : ℕ) → at + length vs * 2 ≤ length l
-    → types_at (sets l at (variables_cells vs)) at (length vs) ≡ formal_types_lem vs
-unfolding types_at variables_cells formal_types_lem
+    → types_at (sets l at (variables_cells vs)) at (length vs) ≡ formal_types vs
+unfolding types_at variables_cells formal_types
 types_there [] l at h = refl
 types_there (v ∷ vs) l at h =
     let l1 = set l at v.id.0 in

@@ -11,12 +11,12 @@ use Rattle.parser.specs.declared.Ty.{Ty}
 use Rattle.parser.specs.declared.Variable.{Variable}
 
 -- a function type: the result, how many formals, and their types
-unfoldable pub formal_types_lem : List Variable → List ℕ
-formal_types_lem [] = []
-formal_types_lem (v ∷ vs) = type_cell v.ty ∷ formal_types_lem vs
+unfoldable pub formal_types : List Variable → List ℕ
+formal_types [] = []
+formal_types (v ∷ vs) = type_cell v.ty ∷ formal_types vs
 
 abbrev pub signature : Ty → List Variable → List ℕ
-signature ret formals = type_cell ret ∷ length formals ∷ formal_types_lem formals
+signature ret formals = type_cell ret ∷ length formals ∷ formal_types formals
 
 -- a function's name, its function type's number, and that type
 pub record Known : Type 0 where

@@ -12,7 +12,7 @@ use Rattle.body.specs.Shapes.{shapes_of}
 use Rattle.link.specs.Blocks.{blocks_from, blocks_after}
 use Rattle.link.specs.Edges.{place_of, then_place, resolve_labels, resolve_from, places, successors, entering}
 use Rattle.link.specs.Edges.{predecessors, is_dead}
-use Rattle.functions.specs.Known.{formal_types_lem, type_number, types_after, expected_type}
+use Rattle.functions.specs.Known.{formal_types, type_number, types_after, expected_type}
 use Rattle.functions.specs.Functions.{then_header, then_formals, then_entered, optional_formals, optional_type}
 use Rattle.functions.specs.Functions.{entered_d, signature_d, header_d, then_built, built_d}
 use Rattle.functions.specs.Functions.{then_function, function_d, functions_d}
@@ -25,6 +25,6 @@ unfolding
     value_d definition_d instruction_d formal_d formals_from_d formals_d arguments_d call_d has labelled_d
     then_item called_item parsed_item item_d behind closes body_d lacks_ret closed_from shapes_of blocks_from blocks_after
     place_of then_place resolve_labels resolve_from places successors entering predecessors is_dead
-    formal_types_lem type_number types_after expected_type then_header then_formals then_entered optional_formals optional_type
+    formal_types type_number types_after expected_type then_header then_formals then_entered optional_formals optional_type
     entered_d signature_d header_d then_built built_d then_function function_d functions_d
 opened = 0

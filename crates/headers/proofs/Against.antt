@@ -11,7 +11,7 @@ use Rattle.lexer.proofs.Records.{tokens-count}
 use Rattle.parser.specs.Runs.{variables_cells, type_cell}
 use Rattle.parser.specs.declared.Ty.{Ty}
 use Rattle.parser.specs.declared.Variable.{Variable}
-use Rattle.functions.specs.Known.{signature, formal_types_lem}
+use Rattle.functions.specs.Known.{signature, formal_types}
 use Rattle.functions.specs.Columns.{row_at, ret_at, count_at, formals_at}
 use Rattle.functions.specs.Rows.{at_most16, types_at, signed_at}
 use Rattle.functions.proofs.Stores.{get_or-sets-below, types_there}
@@ -55,7 +55,7 @@ module _ (out rows out₁ out₂ : List ℕ) (i : ℕ) (vs : List Variable) (roo
         ∙ get_or-sets-at cells out (row_at 0) j (omega arith) (omega arith)
         ∙ cells_at_lem 45 rows (row_at i) j h)
 
-    formals_there : length vs ≤ 16 → types_at out₂ (formals_at 1) (length vs) ≡ formal_types_lem vs
+    formals_there : length vs ≤ 16 → types_at out₂ (formals_at 1) (length vs) ≡ formal_types vs
     formals_there few =
         let l : length out₁ ≡ length out = rw copied (length-sets out (row_at 0) (cells_from rows (row_at i) 45)) in
         rw behind (types_there vs out₁ (formals_at 1) (omega arith))

@@ -19,7 +19,7 @@ pub record RowInRange (text rows : List ℕ) (i : ℕ) : Type 0 where
   pub type : get_or rows (type_at i) 0 < most_functions
   pub blocks : Between 1 most_blocks (get_or rows (block_count_at i) 0)
   pub formals : get_or rows (count_at i) 0 ≤ most_formals
-  pub formal_types : (k : ℕ) → k < get_or rows (count_at i) 0
+  pub formal_types_lem : (k : ℕ) → k < get_or rows (count_at i) 0
       → Between Types.int Types.bool (get_or rows (formal_type_at i k) 0)
 
 pub record TableInRange (text rows : List ℕ) : Type 0 where

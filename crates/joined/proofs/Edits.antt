@@ -77,10 +77,10 @@ pub record Known (pre f post new : List ℕ) (line first : ℕ) (e : Edit pre f 
   pub behind : ℕ
   pub counted : length front ≡ e.opening
   pub old : Lexes (pre ++ (f ++ post)) line e.old_tokens e.old_names
-  pub alone-new : Lexes new first e.new_tokens e.new-names
+  pub alone-new : Lexes new first e.new_tokens_lem e.new-names
   pub braced_new : Braced new first
   pub behind-is : behind ≡ (get_or e.old_tokens e.closing no_token).line.0
-  pub here-is : braced_new.here ≡ (get_or e.new_tokens e.new-closing no_token).line.0
+  pub here-is : braced_new.here ≡ (get_or e.new_tokens_lem e.new-closing no_token).line.0
   pub through : List Item
   pub counted_through : length through ≡ e.closing + 1
   pub old_front : Run (pre ++ (f ++ post)) 0 line front (length pre) first
@@ -96,8 +96,8 @@ known {pre} {f} {post} {new} {line} {first} e = from old (cut_at old e.opening e
     old : Lexes (pre ++ (f ++ post)) line e.old_tokens e.old_names
     old = lexes-of (pre ++ (f ++ post)) line e.old_tokens e.old_names e.old_lexes
 
-    new-read : Lexes new first e.new_tokens e.new-names
-    new-read = lexes-of new first e.new_tokens e.new-names e.new-lexes
+    new-read : Lexes new first e.new_tokens_lem e.new-names
+    new-read = lexes-of new first e.new_tokens_lem e.new-names e.new-lexes
 
     in_old : (get_or e.old_tokens e.closing no_token).place < length (pre ++ (f ++ post))
     in_old =
@@ -180,11 +180,11 @@ module _ {pre f post new : List ℕ} {line first : ℕ} {e : Edit pre f post new
         (spellings new e.new-names)
         (renamed-apart (spellings (pre ++ (new ++ post)) ns) (spellings new e.new-names) new-distinct))
         (length k.alone-new.toks) (tokens_of (pad_to w (tokens_cells ts)))
-        (tokens_of (pad_to w' (tokens_cells e.new_tokens)))
+        (tokens_of (pad_to w' (tokens_cells e.new_tokens_lem)))
     new_related w w' =
         part_related v new (length pre) 0 (slice-part pre new post) k.front k.alone-new.items
         (run_inside k.alone-new.run (omega arith)) (spellings new e.new-names) new-distinct k.alone-new.toks
-        k.alone-new.stand here w w' e.new_tokens _ k.alone-new.tokens new-brace
+        k.alone-new.stand here w w' e.new_tokens_lem _ k.alone-new.tokens new-brace
 
 -- THE REST, behind the replaced function: in the old text and in an accepted edited text its tokens are the same tokens
 -- of post alone, with its own names, moved and renamed to the one place and to the other.

@@ -58,7 +58,7 @@ edit_of {pre} {f} {post} {new} {line} {first} r =
         ends_at = r.closes_at;
         brace = (token-says old r.closing r.inner).1 r.closes-kind;
       };
-      new_tokens = r.new_tokens;
+      new_tokens_lem = r.new_tokens_lem;
       new-names = r.new-names;
       new-lexes = r.new-lexes;
       new-rest = drop 1 new;
@@ -74,8 +74,8 @@ edit_of {pre} {f} {post} {new} {line} {first} r =
     old : Lexes (pre ++ (f ++ post)) line r.old_tokens r.old_names
     old = lexes-of (pre ++ (f ++ post)) line r.old_tokens r.old_names r.old_lexes
 
-    alone : Lexes new first r.new_tokens r.new-names
-    alone = lexes-of new first r.new_tokens r.new-names r.new-lexes
+    alone : Lexes new first r.new_tokens_lem r.new-names
+    alone = lexes-of new first r.new_tokens_lem r.new-names r.new-lexes
 
     some : 0 < length f
     some =
@@ -108,7 +108,7 @@ module _ {pre f post new : List ℕ} {line first : ℕ} {e : Edit pre f post new
     (k : Known pre f post new line first e) {ts : List Token} {ns : List Part}
     (v : Lexes (pre ++ (new ++ post)) line ts ns) where
   -- how many tokens there are in each part
-  new-count : length k.alone-new.toks ≡ length e.new_tokens - 1
+  new-count : length k.alone-new.toks ≡ length e.new_tokens_lem - 1
   new-count =
       omega (
         arith,
@@ -120,7 +120,7 @@ module _ {pre f post new : List ℕ} {line first : ℕ} {e : Edit pre f post new
   rest-count : length (rest-alone k).toks + 1 ≡ length ((rest-alone k).toks ++ end_of post (tail k).last)
   rest-count = sym (length-append (rest-alone k).toks (end_of post (tail k).last))
 
-  upto_count : length (upto k v) ≡ e.opening + (length e.new_tokens - 1)
+  upto_count : length (upto k v) ≡ e.opening + (length e.new_tokens_lem - 1)
   upto_count =
       omega (
         arith,
@@ -131,7 +131,7 @@ module _ {pre f post new : List ℕ} {line first : ℕ} {e : Edit pre f post new
         k.counted,
       )
 
-  all-count : length ts ≡ e.opening + (length e.new_tokens - 1) + length
+  all-count : length ts ≡ e.opening + (length e.new_tokens_lem - 1) + length
       ((rest-alone k).toks ++ end_of post (tail k).last)
   all-count =
       let M = move_items (length pre + length new) (0 + k.braced_new.here) (tail k).items in

@@ -42,7 +42,7 @@ pub record Readings (pre f post new : List ℕ) (line first : ℕ) (e : Edit pre
   pub new-moved : (w w' : ℕ)
       → Sim (move_of e.opening 0 (length pre) (spellings (pre ++ (new ++ post)) ns)
       (spellings new e.new-names) new_apart)
-      (length e.new_tokens - 1) (held w ts) (held w' e.new_tokens)
+      (length e.new_tokens_lem - 1) (held w ts) (held w' e.new_tokens_lem)
   pub new-spelled : (x : ℕ) → x < length e.new-names
       → SameWord (spellings (pre ++ (new ++ post)) ns) (spellings new e.new-names) x
   -- then the rest's, with the end token: the tokens of post alone from line 0, with its own names, which are names of
@@ -50,7 +50,7 @@ pub record Readings (pre f post new : List ℕ) (line first : ℕ) (e : Edit pre
   pub rest : List Token
   pub rest-words : List (List ℕ)
   pub rest-few : length rest-words ≤ length e.old_names
-  pub counted : length ts ≡ e.opening + (length e.new_tokens - 1) + length rest
+  pub counted : length ts ≡ e.opening + (length e.new_tokens_lem - 1) + length rest
   pub counted_old : length e.old_tokens ≡ e.closing + 1 + length rest
   pub old_apart : Apart (spellings (pre ++ (f ++ post)) e.old_names) rest-words
   pub rest_old : (w w' : ℕ)
@@ -61,7 +61,7 @@ pub record Readings (pre f post new : List ℕ) (line first : ℕ) (e : Edit pre
       → SameWord (spellings (pre ++ (f ++ post)) e.old_names) rest-words x
   pub rest-apart : Apart (spellings (pre ++ (new ++ post)) ns) rest-words
   pub rest-new : (w w' : ℕ)
-      → Sim (move_of (e.opening + (length e.new_tokens - 1)) (get_or e.new_tokens e.new-closing no_token).line.0
+      → Sim (move_of (e.opening + (length e.new_tokens_lem - 1)) (get_or e.new_tokens_lem e.new-closing no_token).line.0
       (length pre + length new) (spellings (pre ++ (new ++ post)) ns) rest-words rest-apart)
       (length rest) (held w ts) (held w' rest)
   pub rest-spelled : (x : ℕ) → x < length rest-words → SameWord (spellings (pre ++ (new ++ post)) ns) rest-words x

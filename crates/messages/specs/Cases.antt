@@ -28,16 +28,16 @@ sign_right : ℕ → OptionValue → Bool
 sign_right b O.None = false
 sign_right b (O.Some v) = same_bytes (shown (kind_of v) (record { 0 = 0 }) 0) (b ∷ [])
 
-signs_right_lem : List ℕ → Bool
-signs_right_lem [] = true
-signs_right_lem (b ∷ bs) =
-    let more = signs_right_lem bs in
+signs_right : List ℕ → Bool
+signs_right [] = true
+signs_right (b ∷ bs) =
+    let more = signs_right bs in
     pick (sign_right b (symbol b)) more false
 
 words_right_lem : words_right lexed.words ≡ true
 unfolding opened words_right
 words_right_lem = refl
 
-signs_right : signs_right_lem (bytes "=(){}:;,") ≡ true
-unfolding opened sign_right signs_right_lem
-signs_right = refl
+signs_right_lem : signs_right (bytes "=(){}:;,") ≡ true
+unfolding opened sign_right signs_right
+signs_right_lem = refl

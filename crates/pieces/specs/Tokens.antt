@@ -1,6 +1,6 @@
 -- Token values with the Rust's names, the kind that a token's cell holds for each, the 25 words and the eight tokens of
 -- one byte.
-use Rattle.std.specs.Prelude.{ℕ, List, [], ◌∷◌, Bool, true, false, eqb}
+use Rattle.std.specs.Prelude.{ℕ, List, [], ◌∷◌, eqb}
 use Prim.Native.String.{String}
 use Rattle.utils.specs.Bytes.{pick, bytes, same_bytes}
 use Rattle.pieces.specs.declared.TokenValue.{TokenValue}

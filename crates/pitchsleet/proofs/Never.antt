@@ -118,9 +118,9 @@ module _ (text cells table : List ℕ)
         type = rw type r.type;
         blocks = rw blocks r.blocks;
         formals = rw formals r.formals;
-        formal_types = λ k h.
+        formal_types_lem = λ k h.
             let k-few : k < get_or cells (count_at i) 0 = rw formals at h in
-            let t = r.formal_types k k-few in
+            let t = r.formal_types_lem k k-few in
             rw (same (formal_type_at i k) (omega (arith, k-few, r.formals)) (omega (arith, t.1))) t;
       }
 

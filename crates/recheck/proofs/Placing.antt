@@ -16,7 +16,7 @@ use Rattle.lexer.specs.declared.Found.{Found}
 use Rattle.lexer.specs.declared.Found.TheVariants as F
 use Rattle.lexer.proofs.Same.{same_bytes-true}
 use Rattle.parser.specs.Runs.{type_cell, variables_cells}
-use Rattle.functions.specs.Known.{signature, formal_types_lem}
+use Rattle.functions.specs.Known.{signature, formal_types}
 use Rattle.functions.specs.Functions.{Function, function}
 use Rattle.functions.specs.Columns.{row_at, name_at, type_at}
 use Rattle.functions.specs.Rows.{signed_at, head_cells, row_cells}
@@ -219,7 +219,7 @@ module _ (old rows new names : List ℕ) (known number : ℕ) (t : Tabled old ro
       name-same : get_or out (name_at r.place) 0 ≡ get_or mid (name_at r.place) 0
       name-same = row_name_lem ts names g 0 0 out r.place behind new_row ∙ sym stands.name
 
-      old_global : row_global mid r.place ≡ global (type_cell f.head.ret) (formal_types_lem f.head.formals)
+      old_global : row_global mid r.place ≡ global (type_cell f.head.ret) (formal_types f.head.formals)
       old_global =
           global-same mid rows (W.At r.place) (W.At number) stands.cells
           ∙ ap (λ (l : List ℕ). global (get_or l 0 0) (drop 2 l)) signed

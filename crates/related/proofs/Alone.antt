@@ -27,7 +27,7 @@ use Rattle.parser.specs.declared.Named.TheVariants as N
 use Rattle.parser.specs.declared.TypeRead.{TypeRead}
 use Rattle.parser.specs.declared.TypeRead.TheVariants as R
 use Rattle.parser.proofs.Sim.{global_s}
-use Rattle.functions.specs.Known.{Known, type_number, expected_type, signature, formal_types_lem}
+use Rattle.functions.specs.Known.{Known, type_number, expected_type, signature, formal_types}
 use Rattle.functions.specs.Functions.{Function, FunctionAt, function, no_function, Program, program_stop}
 use Rattle.functions.specs.Functions.{optional_formals, optional_type, header_d, function_d, functions_d, then_header}
 use Rattle.functions.specs.Functions.{then_function}
@@ -144,7 +144,7 @@ module _ {old new : List Tok} (e : Edited old new) where
   expected-same {x = x} {x'} type (Each.more {x = k} {x' = k'} q r) p =
       rw (e.apart k.name k'.name x x' q.name p, q.type, expected-same type r p) refl
 
-  signature-same : (vs vs' : List Variable) {ret ret' : Ty} → formal_types_lem vs ≡ formal_types_lem vs' → ret ≡ ret'
+  signature-same : (vs vs' : List Variable) {ret ret' : Ty} → formal_types vs ≡ formal_types vs' → ret ≡ ret'
       → signature ret vs ≡ signature ret' vs'
   signature-same vs vs' p q =
       let n : length vs ≡ length vs' =
@@ -153,7 +153,7 @@ module _ {old new : List Tok} (e : Edited old new) where
 
   enters_new : {ks ks' : List Known} {types types' type : ℕ} {g g' : Identifier} {vs vs' : List Variable}
       {ret ret' : Ty}
-      → Each (SameKnown e) ks ks' → types' ≡ types → e.Spelt g.0 g'.0 → formal_types_lem vs' ≡ formal_types_lem vs
+      → Each (SameKnown e) ks ks' → types' ≡ types → e.Spelt g.0 g'.0 → formal_types vs' ≡ formal_types vs
       → ret' ≡ ret
       → Enters ks types type g vs ret → Enters ks' types' type g' vs' ret'
   enters_new {ks} {ks'} {types} {types'} {type} {vs = vs} {vs'} {ret = ret} k t s f r q =

@@ -18,7 +18,7 @@ use Rattle.parser.specs.declared.Consumed.TheVariants as C
 use Rattle.parser.proofs.Sim.{eqb_s}
 use Rattle.body.proofs.SimBody.{number_of}
 use Rattle.body.proofs.SimItems.{count_s}
-use Rattle.functions.specs.Known.{Known, types_after, formal_types_lem}
+use Rattle.functions.specs.Known.{Known, types_after, formal_types}
 use Rattle.functions.specs.Functions.{Function, function, no_function, Program, program_then, known_of}
 use Rattle.functions.specs.Functions.{functions_d, program_d}
 use Rattle.functions.specs.Moved.{SimKnown, SimFunction, SimProgram}
@@ -248,8 +248,8 @@ module _ {old new : List Tok} (e : Edited old new) where
         news = Each.more (shared_new q w) more.news;
       }
 
-pub types-length : (vs : List Variable) → length (formal_types_lem vs) ≡ length vs
-unfolding formal_types_lem
+pub types-length : (vs : List Variable) → length (formal_types vs) ≡ length vs
+unfolding formal_types
 types-length [] = refl
 types-length (v ∷ vs) = ap suc (types-length vs)
 

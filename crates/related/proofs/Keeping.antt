@@ -13,7 +13,7 @@ use Rattle.parser.specs.Runs.{type_cell}
 use Rattle.parser.specs.declared.Ty.{Ty}
 use Rattle.parser.specs.declared.Ty.TheVariants as Y
 use Rattle.parser.specs.declared.Variable.{Variable}
-use Rattle.functions.specs.Known.{signature, formal_types_lem}
+use Rattle.functions.specs.Known.{signature, formal_types}
 use Rattle.functions.specs.Functions.{Function, then_formals}
 use Rattle.headers.specs.Kept.{keeps_behind, keeps}
 use Rattle.related.specs.Alone.{Kept, Keeps}
@@ -54,7 +54,7 @@ module _ (spells : ℕ → ℕ → Bool) (replaced : Function) (named : List ℕ
       let b = both_true _ _ e in
       let same : signature replaced.head.ret replaced.head.formals ≡ signature ret vs =
       sym s ∙ same_bytes-true signed (signature ret vs) b.1 in
-      let types : formal_types_lem vs ≡ formal_types_lem replaced.head.formals = cc in
+      let types : formal_types vs ≡ formal_types replaced.head.formals = cc in
       let result : type_cell ret ≡ type_cell replaced.head.ret = cc in
       record { name = sym (n g.0) ∙ b.0; formals = types; result = same-type ret replaced.head.ret result }
 

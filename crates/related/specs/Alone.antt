@@ -11,7 +11,7 @@ use Rattle.parser.specs.Moved.{Move, Sim, SimE, Each}
 use Rattle.parser.specs.declared.Refusal.{Refusal}
 use Rattle.parser.specs.declared.Ty.{Ty}
 use Rattle.parser.specs.declared.Variable.{Variable}
-use Rattle.functions.specs.Known.{formal_types_lem}
+use Rattle.functions.specs.Known.{formal_types}
 use Rattle.functions.specs.Functions.{Function}
 use Rattle.functions.specs.Moved.{SimFunction}
 use Rattle.sema.specs.Typing.{Global, absent, global}
@@ -43,7 +43,7 @@ pub record Alone {old new : List Tok} (e : Edited old new) (alone : List Tok) : 
 pub record Kept (spells : ℕ → ℕ → Bool) (replaced : Function) (g : Identifier) (vs : List Variable) (ret : Ty) : Type 0
   where
     pub name : spells g.0 replaced.head.name.0 ≡ true
-    pub formals : formal_types_lem vs ≡ formal_types_lem replaced.head.formals
+    pub formals : formal_types vs ≡ formal_types replaced.head.formals
     pub result : ret ≡ replaced.head.ret
 
 abbrev pub Keeps : (ℕ → ℕ → Bool) → Function → List Tok → Type 0
@@ -55,7 +55,7 @@ unfoldable pub global_spelt : (ℕ → Bool) → List Function → Global
 global_spelt is [] = absent
 global_spelt is (f ∷ fs) =
     let more = global_spelt is fs in
-    pick (is f.head.name.0) (global (type_cell f.head.ret) (formal_types_lem f.head.formals)) more
+    pick (is f.head.name.0) (global (type_cell f.head.ret) (formal_types f.head.formals)) more
 
 -- What the whole text then is. ---------------------------------------------------------------------------------------
 

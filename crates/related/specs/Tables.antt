@@ -4,7 +4,7 @@
 use Rattle.std.specs.Prelude.{ℕ, ◌≤◌, ◌<◌, ◌≡◌, List, [], ◌∷◌, eqb, length, get_or}
 use Rattle.parser.specs.Moved.{Move, SimE}
 use Rattle.parser.specs.declared.Refusal.{Refusal}
-use Rattle.functions.specs.Known.{formal_types_lem}
+use Rattle.functions.specs.Known.{formal_types}
 use Rattle.functions.specs.Functions.{Function}
 use Rattle.sema.specs.Symbols.{Typed, typed}
 use Rattle.sema.specs.Typing.{Global}
@@ -36,7 +36,7 @@ pub record SameGlobals (m : Move) (g g' : ℕ → Global) : Type 0 where
 pub record SameHead (S : ℕ → ℕ → Type 0) (f f' : Function) : Type 0 where
   pub name : S f.head.name.0 f'.head.name.0
   pub ret : f.head.ret ≡ f'.head.ret
-  pub formals : formal_types_lem f.head.formals ≡ formal_types_lem f'.head.formals
+  pub formals : formal_types f.head.formals ≡ formal_types f'.head.formals
   pub type : f.head.type ≡ f'.head.type
 
 -- a relation of names that tells them apart as they are

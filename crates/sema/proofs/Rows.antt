@@ -8,7 +8,7 @@ use lib.ListN.{length, drop}
 use Rattle.utils.specs.Bytes.{pick}
 use Rattle.lexer.specs.Decoded.{Tok}
 use Rattle.parser.specs.Runs.{type_cell}
-use Rattle.functions.specs.Known.{formal_types_lem}
+use Rattle.functions.specs.Known.{formal_types}
 use Rattle.functions.specs.Functions.{Function}
 use Rattle.functions.specs.Columns.{row_at}
 use Rattle.functions.specs.Answer.{counts, counts_with}
@@ -39,14 +39,14 @@ module _ (ts : List Tok) (names : List ℕ) (rows rest : List ℕ) (name : ℕ) 
       let i = n.functions in
       let s = row_stands ts names rows rest n f fs h in
       let few = w.0.formals-few in
-      let type : row_global rows i ≡ global (type_cell f.head.ret) (formal_types_lem f.head.formals) =
+      let type : row_global rows i ≡ global (type_cell f.head.ret) (formal_types f.head.formals) =
       rw (
         row-ret ts names f n.items n.blocks rows i s.0 s.1,
         row-types ts names f n.items n.blocks rows i s.0 s.1 few,
       ) in
       rw (row_name_lem ts names f n.items n.blocks rows i s.0 s.1)
       (pick-global (eqb f.head.name.0 name) rows i (row_from rows (i + 1) (length fs) name)
-      (global (type_cell f.head.ret) (formal_types_lem f.head.formals)) (globals_of fs name) type
+      (global (type_cell f.head.ret) (formal_types f.head.formals)) (globals_of fs name) type
       (globals_from fs (counts_with n f) w.1 (rows_behind ts names rows rest n f fs few h)))
 
   pub globals_stored : (fs : List Function) → FitsFrom (counts 0 0 0 0 0) fs

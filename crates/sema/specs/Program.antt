@@ -7,7 +7,7 @@ use Rattle.parser.specs.Runs.{type_cell}
 use Rattle.body.specs.Body.{Item}
 use Rattle.link.specs.Blocks.{Block, fresh}
 use Rattle.link.specs.Edges.{successors}
-use Rattle.functions.specs.Known.{formal_types_lem}
+use Rattle.functions.specs.Known.{formal_types}
 use Rattle.functions.specs.Functions.{Function, blocks_in}
 use Rattle.sema.specs.Symbols.{Typed, on, then_typed}
 use Rattle.sema.specs.Typing.{Global, absent, global}
@@ -18,7 +18,7 @@ unfoldable pub globals_of : List Function → ℕ → Global
 globals_of [] name = absent
 globals_of (f ∷ fs) name =
     let more = globals_of fs name in
-    pick (eqb f.head.name.0 name) (global (type_cell f.head.ret) (formal_types_lem f.head.formals)) more
+    pick (eqb f.head.name.0 name) (global (type_cell f.head.ret) (formal_types f.head.formals)) more
 
 abbrev pub items_in : List Item → Block → List Item
 items_in is b = take b.operations (drop b.first is)

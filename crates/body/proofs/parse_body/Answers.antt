@@ -1,29 +1,26 @@
 -- What is left to read, read from here, gives the whole body (`Reading`); each turn takes tokens.
 use native.Mathlib.Omega.{arith}
-use Prim.Native.Nat.{◌-◌}
 use Rattle.lexer.specs.Decoded.{tokens_of}
 use Rattle.body.specs.Answer.{function_body}
 use Rattle.body.proofs.Reading.{begin, ready, onward, stop, finish, closed-read, refused-read}
 use Rattle.body.proofs.parse_body.Goals as goal
 
 pub loop-next-init : goal.loop-next-init
-loop-next-init c =
-    (
-      4096,
-      0,
-      begin (tokens_of c.args.tokens.now) c.args.void c.args.at c.args.first c.args.used c.args.items.now c.args.arguments.now
-          c.args.labels.now c.requires.within,
-    )
+loop-next-init c = (
+  4096,
+  0,
+  begin (tokens_of c.args.tokens.now) c.args.void c.args.at c.args.first c.args.used c.args.items.now c.args.arguments.now
+      c.args.labels.now c.requires.within,
+)
 
 pub turn-requires : goal.turn-requires
-turn-requires c =
-    (
-      ready c.requires.first_bound.0 c.requires.first_bound.1 c.loop-next.invariant.2,
-      omega (arith, c.loop-next.invariant.2.long-items, c.requires.items_size_in_bounds.0),
-      omega
-          (arith, c.loop-next.invariant.2.long-arguments, c.requires.items_size_in_bounds.1),
-      omega (arith, c.loop-next.invariant.2.long-labels, c.requires.items_size_in_bounds.2),
-    )
+turn-requires c = (
+  ready c.requires.first_bound.0 c.requires.first_bound.1 c.loop-next.invariant.2,
+  omega (arith, c.loop-next.invariant.2.long-items, c.requires.items_size_in_bounds.0),
+  omega
+      (arith, c.loop-next.invariant.2.long-arguments, c.requires.items_size_in_bounds.1),
+  omega (arith, c.loop-next.invariant.2.long-labels, c.requires.items_size_in_bounds.2),
+)
 
 pub loop-next-smaller : goal.loop-next-smaller
 loop-next-smaller c =

@@ -1,10 +1,10 @@
 -- The loop's state is `Lexing`; lexer/proofs/Turns.antt says what each answer of next_token makes of it.
 use native.Mathlib.Omega.{arith}
-use Prim.Native.Nat.{◌*◌, ◌-◌}
+use Prim.Native.Nat.{◌*◌}
 use mathlib.Core.Bool.{not}
 use mathlib.Core.Path.{refl, ◌∙◌, ap}
 use lib.ListN.{take}
-use Rattle.lexer.proofs.Turns.{start, ready, tokens-room, tokens-long, names-long, skipped, skipped_less}
+use Rattle.lexer.proofs.Turns.{start, ready, tokens-room, skipped, skipped_less}
 use Rattle.lexer.proofs.Turns.{refused, refused-held, token_full_held, end_full_held, end-held}
 use Rattle.lexer.proofs.Turns.{count_fits, more-fits, known-fits}
 use Rattle.lexer.proofs.Turns.{token-place, token-less, token_full, token-more, end-place, end_full, end-done}
@@ -14,13 +14,12 @@ use Rattle.lexer.proofs.Prints.{no_prints, prints_kept, known_more}
 use Rattle.lexing.proofs.lex_all.Goals as goal
 
 pub loop-next-init : goal.loop-next-init
-loop-next-init c =
-    (
-      start c.args.text.now c.args.line c.args.tokens.now c.args.names.now (omega (arith, c.requires))
-          (omega (arith, c.requires)) (omega (arith, c.requires)) (omega (arith, c.requires)),
-      no_prints c.args.text.now c.args.names.now _ (omega arith),
-      refl,
-    )
+loop-next-init c = (
+  start c.args.text.now c.args.line c.args.tokens.now c.args.names.now (omega (arith, c.requires))
+      (omega (arith, c.requires)) (omega (arith, c.requires)) (omega (arith, c.requires)),
+  no_prints c.args.text.now c.args.names.now _ (omega arith),
+  refl,
+)
 
 pub next_token-requires : goal.next_token-requires
 next_token-requires c =
@@ -39,13 +38,12 @@ keep_print-requires c =
     ((ready more).0, prints_kept ((added_by c.args.text.now (parts_of (take (c.loop-next.known * 2) c.loop-next.names)) (piece_at c.args.text.now c.loop-next.at.place c.loop-next.at.line))) _ c.next_token.ensures.names_after c.loop-next.invariant.1, known_more _ _ c.loop-next.known _ c.next_token.ensures.value c.in-Token.is)
 
 pub loop-next-preserved : goal.loop-next-preserved
-loop-next-preserved c =
-    (
-      token-more c.loop-next.invariant.0 c.next_token.ensures.value c.next_token.ensures.names_after c.in-Token.is
-          c.push_token.ensures.0 (ap not c.if-not-push_token.false) c.push_token.ensures.1,
-      c.keep_print.ensures,
-      c.keep_print.auto.prints ∙ c.loop-next.invariant.2,
-    )
+loop-next-preserved c = (
+  token-more c.loop-next.invariant.0 c.next_token.ensures.value c.next_token.ensures.names_after c.in-Token.is
+      c.push_token.ensures.0 (ap not c.if-not-push_token.false) c.push_token.ensures.1,
+  c.keep_print.ensures,
+  c.keep_print.auto.prints ∙ c.loop-next.invariant.2,
+)
 
 pub returns-in-End : goal.returns-in-End
 returns-in-End c =

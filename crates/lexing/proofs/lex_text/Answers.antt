@@ -1,5 +1,5 @@
 -- The two tests before lexing, as in `lexed_from`.
-use borrow.Author.Tests.{lt-ltb, le-ltb, not-true, not-false}
+use borrow.Author.Tests.{lt-ltb, le-ltb}
 use mathlib.Core.Path.{refl}
 use Rattle.lexer.specs.Read.{lexed_from}
 use Rattle.utils.specs.Bytes.{pick}
@@ -26,13 +26,13 @@ unfolding lexed_from pick
 returns c =
     record {
       value = rw (
-      le-ltb _ _ c.if-text-gt-BYTES.false,
-      ← c.is_ascii.ensures,
-      c.if-not-is_ascii.false,
-    ) c.lex_all.ensures.value;
+        le-ltb _ _ c.if-text-gt-BYTES.false,
+        ← c.is_ascii.ensures,
+        c.if-not-is_ascii.false,
+      ) c.lex_all.ensures.value;
       held = rw (
-      le-ltb _ _ c.if-text-gt-BYTES.false,
-      ← c.is_ascii.ensures,
-      c.if-not-is_ascii.false,
-    ) c.lex_all.ensures.held;
+        le-ltb _ _ c.if-text-gt-BYTES.false,
+        ← c.is_ascii.ensures,
+        c.if-not-is_ascii.false,
+      ) c.lex_all.ensures.held;
     }

@@ -11,12 +11,11 @@ pub loop-i-init : goal.loop-i-init
 loop-i-init c = (omega arith, refl, refl)
 
 pub loop-i-preserved : goal.loop-i-preserved
-loop-i-preserved c =
-    (
-      omega arith,
-      simp length-set c.loop-i.invariant.1,
-      ap (λ (l : List ℕ). set l c.loop-i.i 0) c.loop-i.invariant.2 ∙ fill_more c.loop-i.i 0 c.args.buf.now (omega arith),
-    )
+loop-i-preserved c = (
+  omega arith,
+  simp length-set c.loop-i.invariant.1,
+  ap (λ (l : List ℕ). set l c.loop-i.i 0) c.loop-i.invariant.2 ∙ fill_more c.loop-i.i 0 c.args.buf.now (omega arith),
+)
 
 pub returns : goal.returns
 returns c =

@@ -1,5 +1,4 @@
 -- As `put`: storing what is left of the part from `at + i` on gives what storing all of it from `at` gives.
-use Prim.Native.Nat.{◌-◌}
 use mathlib.Core.Path.{refl, sym, ◌∙◌}
 use native.Mathlib.Omega.{arith}
 use native.Mathlib.Nat.{add-zero}
@@ -11,12 +10,11 @@ pub loop-i-init : goal.loop-i-init
 loop-i-init c = (omega arith, refl, rw add-zero)
 
 pub loop-i-preserved : goal.loop-i-preserved
-loop-i-preserved c =
-    (
-      omega arith,
-      simp length-set (omega arith),
-      sym (copied c.args.part.now c.loop-i.cells c.args.at c.loop-i.i c.loop-i-test.true) ∙ c.loop-i.invariant.2,
-    )
+loop-i-preserved c = (
+  omega arith,
+  simp length-set (omega arith),
+  sym (copied c.args.part.now c.loop-i.cells c.args.at c.loop-i.i c.loop-i-test.true) ∙ c.loop-i.invariant.2,
+)
 
 pub returns : goal.returns
 returns c =

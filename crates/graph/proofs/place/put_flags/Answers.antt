@@ -1,6 +1,6 @@
 -- `put_flags` meets its contract: what is left to copy, copied from here, gives the whole.
 use native.Mathlib.Omega.{arith}
-use Prim.Native.Nat.{◌-◌, ◌<◌}
+use Prim.Native.Nat.{◌<◌}
 use mathlib.Core.Path.{◌≡◌, refl, ◌∙◌}
 use lib.ListN.{length, take, drop_of_length-le}
 use lib.Seq.{get_or-take, length-take-le}

@@ -1,7 +1,6 @@
 -- `put_left` meets its contract: what is left to copy, copied from here, gives the whole.
 use mathlib.Core.List.{[]}
 use native.Mathlib.Omega.{arith}
-use Prim.Native.Nat.{◌-◌}
 use mathlib.Core.Path.{◌≡◌, refl, ◌∙◌}
 use lib.ListN.{drop, drop_of_length-le}
 use Rattle.graph.proofs.Placing.{sets_more}

@@ -6,12 +6,11 @@ use Rattle.graph.proofs.Turns.{current, room-left, room-two, turn_leave, turn_ol
 use Rattle.graph.proofs.walk.turn.Goals as goal
 
 pub leave-k-requires : goal.leave-k-requires
-leave-k-requires c =
-    (
-      room-left ((row_of c.args.succs.now c.args.counts.now)) c.args.n ((state c.args.met.now c.args.left.now c.args.processing.now c.args.top c.args.at)) c.requires.0 c.requires.1 c.if-current-ge-LEAVE.true,
-      c.requires.0.within,
-      c.requires.0.long-left,
-    )
+leave-k-requires c = (
+  room-left ((row_of c.args.succs.now c.args.counts.now)) c.args.n ((state c.args.met.now c.args.left.now c.args.processing.now c.args.top c.args.at)) c.requires.0 c.requires.1 c.if-current-ge-LEAVE.true,
+  c.requires.0.within,
+  c.requires.0.long-left,
+)
 
 pub returns-then-current-ge-LEAVE : goal.returns-then-current-ge-LEAVE
 returns-then-current-ge-LEAVE c =

@@ -1,7 +1,7 @@
 -- The names from `k` on hold the first match if any name does; each lies in the text.
 use borrow.Author.Rules.{rules}
 use native.Mathlib.Omega.{arith}
-use Prim.Native.Nat.{◌-◌, ◌*◌, ◌≤◌}
+use Prim.Native.Nat.{◌*◌, ◌≤◌}
 use mathlib.Core.Path.{refl}
 use lib.ListN.{length, take, length-take, drop_of_length-le}
 use Rattle.lexer.proofs.Parts.{name-within, names-within, name-here, name-later}

@@ -1,7 +1,6 @@
 -- What is left of the sum, from byte `i` on, gives the whole.
 use native.Mathlib.Omega.{arith}
 use native.Mathlib.Numerals.{add-one}
-use Prim.Native.Nat.{◌-◌}
 use mathlib.Core.Path.{refl, sym}
 use lib.ListN.{drop_of_length-le}
 use lib.Seq.{drop-cons}
@@ -19,12 +18,11 @@ overflow_add-sum c = omega (arith, c.shared_slice_known-1.given c.loop-i.i)
 
 pub loop-i-preserved : goal.loop-i-preserved
 unfolding print_from
-loop-i-preserved c =
-    (
-      omega arith,
-      omega arith,
-      rw (add-one) (sym (rw (drop-cons c.args.name.now c.loop-i.i 0 (omega arith)) at (sym c.loop-i.invariant.2))),
-    )
+loop-i-preserved c = (
+  omega arith,
+  omega arith,
+  rw (add-one) (sym (rw (drop-cons c.args.name.now c.loop-i.i 0 (omega arith)) at (sym c.loop-i.invariant.2))),
+)
 
 pub returns : goal.returns
 unfolding print_from

@@ -1,6 +1,5 @@
 -- The labels from `i` on decide as all of them do.
 use native.Mathlib.Omega.{arith}
-use Prim.Native.Nat.{◌-◌}
 use mathlib.Core.Path.{◌≡◌, refl}
 use lib.ListN.{length, take, drop_of_length-le}
 use lib.Seq.{length-take-le}

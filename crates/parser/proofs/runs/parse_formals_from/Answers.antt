@@ -1,6 +1,5 @@
 -- Of the whole run n variables are stored, and the rest is read from here (`Going`).
 use native.Mathlib.Omega.{arith}
-use Prim.Native.Nat.{◌-◌}
 use mathlib.Core.Path.{refl, ◌∙◌}
 use Rattle.parser.specs.Grammar.{consume_d}
 use Rattle.parser.proofs.Turning.{formals-refused, formals-room, formals-last, formals-more}

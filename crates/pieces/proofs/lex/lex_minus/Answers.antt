@@ -1,5 +1,4 @@
 -- As for a digit, with the bound of the negative numbers.
-use borrow.Author.Tests.{not-true, not-false}
 use native.Mathlib.Omega.{arith}
 use Prim.Native.Nat.{◌+◌}
 use Rattle.pieces.proofs.Capping.{number-low, number_high}

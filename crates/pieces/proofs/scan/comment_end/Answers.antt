@@ -1,5 +1,4 @@
 -- The scan from `i` on, with or without a star before it, gives what the scan from `at` on gives.
-use Prim.Native.Nat.{◌-◌}
 use Rattle.pieces.specs.Pieces.{comment_end}
 use Rattle.pieces.proofs.Picked.{picked, with_byte, with_end}
 use Rattle.pieces.proofs.scan.comment_end.Goals as goal

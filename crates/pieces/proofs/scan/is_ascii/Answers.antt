@@ -1,10 +1,9 @@
 -- The most of the bytes passed and what is left of the text decide as the whole text does.
 use borrow.Author.Tests.{lt-ltb, le-ltb, le-leb, lt-leb, ltb-true, ltb-false}
 use native.Mathlib.Omega.{arith}
-use Prim.Native.Nat.{ℕ, ◌+◌, ◌-◌}
+use Prim.Native.Nat.{ℕ, ◌+◌}
 use mathlib.Core.Path.{◌≡◌, refl}
 use mathlib.Core.Bool.{Bool, true, false}
-use mathlib.Core.List.{List}
 use lib.Dec.{ltb, leb}
 use lib.ListN.{drop, get_or}
 use Rattle.utils.specs.Bytes.{pick}

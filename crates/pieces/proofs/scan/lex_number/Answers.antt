@@ -1,5 +1,4 @@
 -- The digits from `i` on, behind a number that the code knows only up to 2147483649, give the whole number.
-use borrow.Author.Tests.{not-true, not-false}
 use native.Mathlib.Omega.{arith}
 use native.Mathlib.Numerals.{add-one}
 use Prim.Native.Nat.{◌+◌, ◌-◌, ◌*◌}

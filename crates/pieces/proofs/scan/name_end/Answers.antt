@@ -1,5 +1,4 @@
 -- The scan from `i` on gives what the scan from `at` on gives.
-use Prim.Native.Nat.{◌-◌}
 use Rattle.pieces.specs.Pieces.{name_end}
 use Rattle.pieces.proofs.Picked.{picked, at_byte, at-end}
 use Rattle.pieces.proofs.scan.name_end.Goals as goal

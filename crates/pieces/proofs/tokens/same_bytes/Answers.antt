@@ -21,15 +21,14 @@ returns-then-a-p c =
 
 pub loop-k-preserved : goal.loop-k-preserved
 unfolding pick
-loop-k-preserved c =
-    (
-      omega arith,
-      rw (
-        ← c.loop-k.invariant.1,
-        same_back c.args.a.now c.args.b.now c.args.i c.args.j c.loop-k.k (omega arith) (omega arith) (omega arith),
-        eq-eqb _ _ c.if-a-p.false,
-      ),
-    )
+loop-k-preserved c = (
+  omega arith,
+  rw (
+    ← c.loop-k.invariant.1,
+    same_back c.args.a.now c.args.b.now c.args.i c.args.j c.loop-k.k (omega arith) (omega arith) (omega arith),
+    eq-eqb _ _ c.if-a-p.false,
+  ),
+)
 
 pub returns : goal.returns
 returns c =
