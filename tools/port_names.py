@@ -16,6 +16,11 @@ DECLARED = re.compile(
     r"^(\s*)((?:(?:unfoldable|abbrev|pub|record|data)\s+)*)([^\s(){};,:=.]+)\s*((?:\{[^}]*\}\s*|\([^)]*\)\s*)*):\s(.*)")
 USED = re.compile(r"use\s+([^\s;{]+?)\.\{([^}]*)\}")
 CAMEL = re.compile(r"^[a-z][A-Za-z0-9₀-₉']*[A-Z]")
+# Fields that would hide the definition that they hold, and what they are called instead.
+APART = {"new-tokens": "tokens_new", "before-next": "before_is", "last-next": "last_is", "formal-types": "types_are"}
+# Names that no `..: ..` line declares: parameters, and words brought under a name of a file's own.
+LOOSE = {"wantedResult": "wanted_result", "wantedOperands": "wanted_operands", "typedD": "typed_d", "lexedReading": "lexed_reading",
+         "asTyped": "as_typed"}
 # A parameter that would hide a definition: its file, its name, and what it is called instead.
 HIDES = [("crates/replay/proofs/Digits.antt", "is_digit", "digit_is")]
 
@@ -47,6 +52,28 @@ def declared(path):
             yield m.group(3), m.group(5), m.group(2)
 
 
+def fields():
+    """The names of records' fields, which have no dash."""
+    found = set()
+    for path in definitions() + lemmas():
+        depth = None
+        for line in read(path).split("\n"):
+            m = re.match(r"(\s*)(?:pub\s+)?record\s.*\bwhere\s*$", line)
+            if m:
+                depth = len(m.group(1))
+                continue
+            if depth is None or not line.strip() or line.lstrip().startswith("--"):
+                continue
+            indent = len(line) - len(line.lstrip())
+            if indent <= depth:
+                depth = None
+                continue
+            m = DECLARED.match(line)
+            if m and indent == depth + 2:
+                found.add(m.group(3))
+    return found
+
+
 def joined(words, known):
     """A lemma's words, with a dash only between two known names."""
     parts, i = [], 0
@@ -75,11 +102,13 @@ def mapping():
             if not module.startswith("Rattle.") or module.startswith("Rattle.std."):
                 outside.update(n.strip() for n in names.split(","))
     known = {snake(n) for n in defs if not n[0].isupper()} | {n for n in outside if re.match(r"^[a-z][a-z_0-9]*$", n)}
-    to = {}
+    to = dict(LOOSE)
+    # (what is declared as anything else too keeps a lemma's spelling)
+    plain = {n for n in fields() if "-" in n and not n.startswith("+")}
     for name in defs:
         new = snake(name) if CAMEL.match(name) else name
         if "-" in new and not new.startswith("+"):
-            new = joined(new.split("-"), known)
+            new = APART.get(name) or (new.replace("-", "_") if name in plain else joined(new.split("-"), known))
         if new != name:
             to[name] = new
     taken = collections.defaultdict(set)
@@ -88,7 +117,7 @@ def mapping():
     for name in others:
         new = snake(name) if CAMEL.match(name) else name
         if "-" in new and not new.startswith("+"):
-            new = joined(new.split("-"), known)
+            new = APART.get(name) or (new.replace("-", "_") if name in plain else joined(new.split("-"), known))
         if new != name:
             to[name] = new
         taken[to.get(name, name)].add(name)

@@ -282,14 +282,14 @@ module _ (old rows : List ℕ) (number : ℕ) (new : List ℕ) (ts : List Tok) (
             let m = w.taken in
             let u = m.room in
             record {
-              functions-few = m.few;
-              type-few = omega (arith, (t.in_range.each number t.there).type);
-              formals-few = m.formals-few;
-              items-few = omega (arith, u.items-few, u.within.reached, u.within.few);
-              arguments-few = omega (arith, u.arguments-few, u.within.reached, u.within.few);
-              blocks-few = omega (arith, u.blocks-few, u.within.reached, u.within.few);
-              few-blocks = m.few-blocks;
-              predecessors-few = omega (arith, u.predecessors-few, u.blocks-few, u.within.reached, u.within.few);
+              functions_few = m.few;
+              type_few = omega (arith, (t.in_range.each number t.there).type);
+              formals_few = m.formals_few;
+              items_few = omega (arith, u.items_few, u.within.reached, u.within.few);
+              arguments_few = omega (arith, u.arguments_few, u.within.reached, u.within.few);
+              blocks_few = omega (arith, u.blocks_few, u.within.reached, u.within.few);
+              few_blocks = m.few_blocks;
+              predecessors_few = omega (arith, u.predecessors_few, u.blocks_few, u.within.reached, u.within.few);
             }
 
         -- its row is that of the function with the replaced one's type number
@@ -316,8 +316,8 @@ module _ (old rows : List ℕ) (number : ℕ) (new : List ℕ) (ts : List Tok) (
         unfolding stored_from FitsFrom
         laid_are =
             stored_are
-            ∙ stored_laid ts names f i a b p rows_long long.items-long
-            long.arguments-long long.blocks-long long.predecessors-long (g ∷ []) (fits, tt)
+            ∙ stored_laid ts names f i a b p rows_long long.items_long
+            long.arguments_long long.blocks_long long.predecessors_long (g ∷ []) (fits, tt)
 
         f-is : f₂ ≡ over f (1 ∷ rows_cells ts names none (g ∷ []))
         f-is = ap (λ (s : Slices). s.functions) laid_are
@@ -344,7 +344,7 @@ module _ (old rows : List ℕ) (number : ℕ) (new : List ℕ) (ts : List Tok) (
         below : r.place < r.count
         below =
             place-below old rows new names known number t v ts w.read w.alone kept
-            w.taken.formals-few out₀ f₁ r out
+            w.taken.formals_few out₀ f₁ r out
             f₂ room q rest
 
         few : (r.count ≤ 64) × (r.place + 1 ≤ 64)
@@ -355,12 +355,12 @@ module _ (old rows : List ℕ) (number : ℕ) (new : List ℕ) (ts : List Tok) (
             let l : length i₁ ≡ length i =
             ap (λ (s : Slices). length s.items) w.taken.stored
             ∙ length-sets i 0 (items_cells 0 w.read.items) in
-            omega (arith, l, fits.items-few, long.items-long)
+            omega (arith, l, fits.items_few, long.items_long)
 
         rows_fit_lem : RowsFit out r.count r.place 1 (length i₁)
         rows_fit_lem =
             placed_fit old rows new names known number t v ts w.read w.alone kept
-            w.taken.formals-few out₀ f₁ r out
+            w.taken.formals_few out₀ f₁ r out
             f₂ room q rest own (length i₁) items-room
 
         -- what typing asks
@@ -373,36 +373,36 @@ module _ (old rows : List ℕ) (number : ℕ) (new : List ℕ) (ts : List Tok) (
         placed_fits : Fits (counts r.place 0 0 0 0) g
         placed_fits =
             record {
-              functions-few = omega (arith, few.1);
-              type-few = fits.type-few;
-              formals-few = fits.formals-few;
-              items-few = fits.items-few;
-              arguments-few = fits.arguments-few;
-              blocks-few = fits.blocks-few;
-              few-blocks = fits.few-blocks;
-              predecessors-few = fits.predecessors-few;
+              functions_few = omega (arith, few.1);
+              type_few = fits.type_few;
+              formals_few = fits.formals_few;
+              items_few = fits.items_few;
+              arguments_few = fits.arguments_few;
+              blocks_few = fits.blocks_few;
+              few_blocks = fits.few_blocks;
+              predecessors_few = fits.predecessors_few;
             }
 
         stand : drop (row_at r.place) out
             ≡ row_cells ts names g 0 0
             ++ behind old rows new names known number t v ts w.read w.alone kept
-            w.taken.formals-few out₀ f₁ r out
+            w.taken.formals_few out₀ f₁ r out
             f₂ room q rest own
         stand =
-            new_row old rows new names known number t v ts w.read w.alone kept w.taken.formals-few out₀ f₁ r
+            new_row old rows new names known number t v ts w.read w.alone kept w.taken.formals_few out₀ f₁ r
             out f₂
             room q rest own
 
         globals_are : (x : ℕ) → globals_in out r.count x ≡ globals x
         globals_are =
             globals_placed old rows new names known number t v ts w.read w.alone kept
-            w.taken.formals-few out₀ f₁ r
+            w.taken.formals_few out₀ f₁ r
             out f₂ room q rest own
 
         callees_are : (x : ℕ) → callee_of out r.count x ≡ callees x
         callees_are =
             callees_placed old rows new names known number t v ts w.read w.alone kept
-            w.taken.formals-few out₀ f₁ r
+            w.taken.formals_few out₀ f₁ r
             out f₂ room q rest own
 
         abbrev typing : Typed
@@ -476,6 +476,6 @@ module _ (old rows : List ℕ) (number : ℕ) (new : List ℕ) (ts : List Tok) (
                 refl,
                 (
                   written_are h,
-                  (omega arith, fits.items-few, fits.arguments-few, fits.blocks-few, fits.predecessors-few),
+                  (omega arith, fits.items_few, fits.arguments_few, fits.blocks_few, fits.predecessors_few),
                 ),
               )

@@ -236,8 +236,8 @@ labels_from ts (suc room) ls before at h =
     few-item ls i _ (item_operates ts at i at1 e).0 (labels_from ts room ls (behind i) at1 h))))))
 
 -- A body has at most 255 labels.
-pub labels-few : (ts : List Tok) (room before at : ℕ) → length (labels_of (body_d ts room [] before at).items) ≤ 255
-labels-few ts room before at = omega (arith, labels_from ts room [] before at (omega arith))
+pub labels_few : (ts : List Tok) (room before at : ℕ) → length (labels_of (body_d ts room [] before at).items) ≤ 255
+labels_few ts room before at = omega (arith, labels_from ts room [] before at (omega arith))
 
 -- Of closed items. ----------------------------------------------------------------------------------------------------
 

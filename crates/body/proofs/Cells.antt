@@ -141,7 +141,7 @@ module _ {void : Bool} {i : Item} {s s' : Going} {items₀ items arguments₀ ar
     (t : Taken void i s s' items₀ items arguments₀ arguments) (is : List Item) where
   closed_on : closed_from void s.before s.last (i ∷ is)
       ≡ closing void s.before s.last i ++ closed_from void s'.before s'.last is
-  closed_on = rw (t.before_next_lem, t.last_next_lem) (closed_cons void s.before s.last i is)
+  closed_on = rw (t.before_is, t.last_is) (closed_cons void s.before s.last i is)
 
   pub items-on : sets items (s'.items * 8) (items_cells s'.arguments (closed_from void s'.before s'.last is))
       ≡ sets items₀ (s.items * 8) (items_cells s.arguments (closed_from void s.before s.last (i ∷ is)))
@@ -149,9 +149,9 @@ module _ {void : Bool} {i : Item} {s s' : Going} {items₀ items arguments₀ ar
       let xs = closing void s.before s.last i in
       let ys = closed_from void s'.before s'.last is in
       let n : s'.items * 8 ≡ s.items * 8 + length (items_cells s.arguments xs) =
-      omega (arith, t.items-next, length-items s.arguments xs) in
+      omega (arith, t.items_next, length-items s.arguments xs) in
       let u : s'.arguments ≡ s.arguments + arguments_count xs =
-      omega (arith, t.arguments-next, closing-count void s.before s.last i) in
+      omega (arith, t.arguments_next, closing-count void s.before s.last i) in
       rw (closed_on, items_append s.arguments xs ys, t.items_are, n, u)
       (sym (sets_append (items_cells s.arguments xs) (items_cells (s.arguments + arguments_count xs) ys) items₀
       (s.items * 8)))
@@ -161,7 +161,7 @@ module _ {void : Bool} {i : Item} {s s' : Going} {items₀ items arguments₀ ar
   unfolding arguments_cells
   arguments-on =
       let n : s'.arguments * 2 ≡ s.arguments * 2 + length (variables_cells (arguments_in i)) =
-      omega (arith, t.arguments-next, length_variables (arguments_in i)) in
+      omega (arith, t.arguments_next, length_variables (arguments_in i)) in
       rw (t.arguments_are, n)
       (sym (sets_append (variables_cells (arguments_in i)) (arguments_cells is) arguments₀ (s.arguments * 2)))
 
@@ -171,19 +171,19 @@ module _ {void : Bool} {i : Item} {s s' : Going} {items₀ items arguments₀ ar
       rw closed_on
       (omega (
         arith,
-        t.items-next,
+        t.items_next,
         length-append (closing void s.before s.last i) (closed_from void s'.before s'.last is),
       ))
 
   pub arguments_count-on : s'.arguments + arguments_count is ≡ s.arguments + arguments_count (i ∷ is)
   unfolding arguments_count
-  arguments_count-on = omega (arith, t.arguments-next)
+  arguments_count-on = omega (arith, t.arguments_next)
 
   pub blocks-on : started s.before i + filled (fresh s'.before)
       (shapes_of (closed_from void s'.before s'.last is))
       ≡ filled (fresh s.before) (shapes_of (closed_from void s.before s.last (i ∷ is)))
   blocks-on =
-      rw (closed_on, t.before_next_lem, t.last_next_lem)
+      rw (closed_on, t.before_is, t.last_is)
       (sym (closing-filled void s.before s.last i (closed_from void (before_next i) (last_next s.last i) is)))
 
 module _ (i : Item) (is : List Item) (n n' : ℕ) (next : n' ≡ n + length (labels_of (i ∷ []))) where

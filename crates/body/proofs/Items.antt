@@ -206,14 +206,14 @@ item-taken ts void s s' i items₀ items arguments₀ arguments w q late n used 
           record {
             two = on.two;
             within = record { last = w.last; ends = w.ends; reached = on.reached; few = w.few };
-            arguments-few = on.arguments;
+            arguments_few = on.arguments;
           };
       taken =
           record {
-            items-next = rw o.one n;
-            arguments-next = used;
-            before_next_lem = before ∙ o.kind;
-            last_next_lem = last ∙ o.token;
+            items_next = rw o.one n;
+            arguments_next = used;
+            before_is = before ∙ o.kind;
+            last_is = last ∙ o.token;
             items_are = rw o.one p.items_are;
             arguments_are = p.arguments_are;
           };

@@ -50,11 +50,11 @@ pub record Reading (ts : List Tok) (void : Bool) (at first used : ℕ) (whole : 
   pub blocks-count : blocks
       + filled (fresh s.before) (shapes_of (closed_from void s.before s.last (body_from ts room s labels).items))
       ≡ filled true (shapes_of (closed_items void whole.items))
-  pub items-few : at * 3 + s.items * 4 ≤ s.at * 3 + first * 4
+  pub items_few : at * 3 + s.items * 4 ≤ s.at * 3 + first * 4
   pub items_spared : s.before ≡ 2 → at * 3 + s.items * 4 + 2 ≤ s.at * 3 + first * 4
-  pub arguments-few : at * 16 + s.arguments * 19 ≤ s.at * 16 + used * 19
-  pub labels-few : s.labels ≤ 255
-  pub blocks-few : at + blocks * 4 ≤ s.at + 2
+  pub arguments_few : at * 16 + s.arguments * 19 ≤ s.at * 16 + used * 19
+  pub labels_few : s.labels ≤ 255
+  pub blocks_few : at + blocks * 4 ≤ s.at + 2
   pub blocks_spared : s.before ≤ 1 → at + blocks * 4 ≤ s.at
 
 abbrev pub beginning : ℕ → ℕ → ℕ → Going
@@ -79,11 +79,11 @@ begin ts void at first used items arguments labels w =
       arguments_count_lem = refl;
       labels-count = zero-add (length (labels_of (function_body ts at).items));
       blocks-count = zero-add (filled true (shapes_of (closed_items void (function_body ts at).items)));
-      items-few = omega arith;
+      items_few = omega arith;
       items_spared = λ z. absurd (omega (arith, z));
-      arguments-few = omega arith;
-      labels-few = omega arith;
-      blocks-few = omega arith;
+      arguments_few = omega arith;
+      labels_few = omega arith;
+      blocks_few = omega arith;
       blocks_spared = λ z. omega arith;
     }
 
@@ -119,9 +119,9 @@ module _ {ts : List Tok} {void : Bool} {at first used : ℕ} {whole : Body} {ite
     ready v =
         record {
           within = v.within;
-          items-few = omega (arith, v.items-few);
-          arguments-few = omega (arith, v.arguments-few);
-          labels-few = v.labels-few;
+          items_few = omega (arith, v.items_few);
+          arguments_few = omega (arith, v.arguments_few);
+          labels_few = v.labels_few;
         }
 
     -- room is left
@@ -143,10 +143,10 @@ module _ {ts : List Tok} {void : Bool} {at first used : ℕ} {whole : Body} {ite
         let t = g.taken in
         let go = g.goes room in
         let few =
-        items-few-on void s.last i s.before s.items (at * 3) s.at s'.at (first * 4) v.items-few
+        items-few-on void s.last i s.before s.items (at * 3) s.at s'.at (first * 4) v.items_few
         v.items_spared g.passed.two in
         let begun =
-        blocks-few-on i s.before blocks at s.at s'.at v.blocks-few v.blocks_spared g.passed.two in (
+        blocks-few-on i s.before blocks at s.at s'.at v.blocks_few v.blocks_spared g.passed.two in (
           room,
           blocks + started s.before i,
           record {
@@ -166,12 +166,12 @@ module _ {ts : List Tok} {void : Bool} {at first used : ℕ} {whole : Body} {ite
             labels-count =
                 labels-count-on i is s.labels s'.labels g.labels_next ∙ rw go at v.labels-count;
             blocks-count = omega (arith, blocks-on t is, rw go at v.blocks-count);
-            items-few = rw t.items-next few.0;
-            items_spared = λ z. rw t.items-next (few.1 (sym t.before_next_lem ∙ z));
-            arguments-few = omega (arith, v.arguments-few, t.arguments-next, g.passed.arguments-few);
-            labels-few = g.labels-few;
-            blocks-few = begun.0;
-            blocks_spared = λ z. begun.1 (rw t.before_next_lem at z);
+            items_few = rw t.items_next few.0;
+            items_spared = λ z. rw t.items_next (few.1 (sym t.before_is ∙ z));
+            arguments_few = omega (arith, v.arguments_few, t.arguments_next, g.passed.arguments_few);
+            labels_few = g.labels_few;
+            blocks_few = begun.0;
+            blocks_spared = λ z. begun.1 (rw t.before_is at z);
           },
         )
 
@@ -203,22 +203,22 @@ module _ {ts : List Tok} {void : Bool} {at first used : ℕ} {whole : Body} {ite
         rw go at v.blocks-count in
         let few =
         ending_few lacks s.last s.before s.items (at * 3) s.at e.next (first * 4)
-        (lacks_operation void s.before) v.items-few v.items_spared g.one in (
+        (lacks_operation void s.before) v.items_few v.items_spared g.one in (
           sym (rw go at v.ends),
-          omega (arith, g.items-next),
-          omega (arith, g.arguments-next),
+          omega (arith, g.items_next),
+          omega (arith, g.arguments_next),
           omega (arith, g.labels_next),
           record {
             items_are = g.items_are ∙ rw go at v.items-rest;
             arguments_are = g.arguments_are ∙ rw go at v.arguments-rest;
             labels_are = g.labels_are ∙ rw go at v.labels-rest;
-            few-labels = omega (arith, l, v.labels-few);
+            few-labels = omega (arith, l, v.labels_few);
             on = g.within;
             bounds =
                 record {
-                  items-few = omega (arith, few, n);
-                  arguments-few = omega (arith, v.arguments-few, g.one);
-                  blocks-few = omega (arith, b, ending_filled void s.before s.last, v.blocks-few, g.one);
+                  items_few = omega (arith, few, n);
+                  arguments_few = omega (arith, v.arguments_few, g.one);
+                  blocks_few = omega (arith, b, ending_filled void s.before s.last, v.blocks_few, g.one);
                 };
           },
         )

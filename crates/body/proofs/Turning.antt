@@ -52,7 +52,7 @@ module _ (ts : List Tok) (void : Bool) (s : Going) {l : Identifier} {next : ℕ}
     labelled : (s.at + 2 ≤ next) × (next ≤ g.within.last) × (s.labels < 255)
     labelled =
         let w = g.within in
-        let few : s.labels ≤ length labels₀ = omega (arith, g.labels-few, long) in
+        let few : s.labels ≤ length labels₀ = omega (arith, g.labels_few, long) in
         let h : LabelIn s.at w.last (length (take s.labels labels₀)) (N.At l next) =
         rw (sym e ∙ f) at (label_in ts w.last w.ends (take s.labels labels₀) s.at w.reached) in
         (h.0, h.1, rw (length-take-le s.labels labels₀ few) at h.2)
@@ -64,7 +64,7 @@ module _ (ts : List Tok) (void : Bool) (s : Going) {l : Identifier} {next : ℕ}
     label-room items there =
         let few = g.within.few in (
           omega (arith, labelled.0, labelled.1, few),
-          omega (arith, labelled.0, labelled.1, few, g.items-few),
+          omega (arith, labelled.0, labelled.1, few, g.items_few),
           there,
           labelled.2,
           long,
@@ -84,20 +84,20 @@ module _ (ts : List Tok) (void : Bool) (s : Going) {l : Identifier} {next : ℕ}
           name = l;
           goes = sym e ∙ f;
           labels_next = refl;
-          labels-few = omega (arith, labelled.2);
+          labels_few = omega (arith, labelled.2);
           labels_are = refl;
           passed =
               record {
                 two = labelled.0;
                 within = record { last = w.last; ends = w.ends; reached = labelled.1; few = w.few };
-                arguments-few = omega (arith, labelled.0);
+                arguments_few = omega (arith, labelled.0);
               };
           taken =
               record {
-                items-next = omega (arith, length-append xs (label s.at l ∷ []));
-                arguments-next = sym (add-zero s.arguments);
-                before_next_lem = refl;
-                last_next_lem = refl;
+                items_next = omega (arith, length-append xs (label s.at l ∷ []));
+                arguments_next = sym (add-zero s.arguments);
+                before_is = refl;
+                last_is = refl;
                 items_are =
                     rw (
                       added_cells_lem t s.last s.arguments,
@@ -119,9 +119,9 @@ module _ (ts : List Tok) (void : Bool) (s : Going) {l : Identifier} {next : ℕ}
 
 -- The closing brace. ------------------------------------------------------------------------------------------------
 
-pub closes-kind : (before kind : ℕ) → closes before kind ≡ true → kind ≡ 28
+pub closes_kind : (before kind : ℕ) → closes before kind ≡ true → kind ≡ 28
 unfolding closes
-closes-kind before kind =
+closes_kind before kind =
     pick_either (λ (b : Bool). b ≡ true → kind ≡ 28) (eqb before 1) _ _
     (λ t h. absurd (let z : ◌≡◌ {A = ℕ} 0 1 = cc in omega arith)) (λ t h. eqb-true kind 28 h)
 
@@ -134,15 +134,15 @@ pub body_ended : (ts : List Tok) (void : Bool) (s : Going) (e : Closed) (items�
     → Ended ts void s e items₀ items arguments arguments labels labels
 unfolding body_d opened
 body_ended ts void s e items₀ items arguments labels w h next n used count f =
-    let k = closes-kind s.before (token_at ts s.at).kind h in
+    let k = closes_kind s.before (token_at ts s.at).kind h in
     let m = moves ts w.last w.ends s.at w.reached (λ z. omega (arith, z, k)) in
     let one : e.next ≡ s.at + 1 = next ∙ m.0 in
     record {
       goes = λ room. rw (h, next);
       one = omega (arith, one);
       within = record { last = w.last; ends = w.ends; reached = omega (arith, one, m.1); few = w.few };
-      items-next = n;
-      arguments-next = used;
+      items_next = n;
+      arguments_next = used;
       labels_next = count;
       items_are = f ∙ ap (sets items₀ (s.items * 8))
           (added_cells_lem (lacks_ret void s.before) s.last s.arguments);
@@ -163,20 +163,20 @@ module _ (ts : List Tok) (void : Bool) (s : Going) (items₀ items labels₀ : L
       let t = h.taken in
       let so_far : take s'.labels labels ≡ take s.labels labels₀ ++ (h.name.0 ∷ []) =
       rw (h.labels_are, h.labels_next, add-one s.labels)
-      (take-suc-set labels₀ s.labels h.name.0 (omega (arith, h.labels_next, h.labels-few))) in
+      (take-suc-set labels₀ s.labels h.name.0 (omega (arith, h.labels_next, h.labels_few))) in
       record {
         read = label s.at h.name;
-        goes = λ room. rw (goes_on, k, h.goes, so_far, t.before_next_lem);
+        goes = λ room. rw (goes_on, k, h.goes, so_far, t.before_is);
         labels_next = h.labels_next;
-        labels-few = h.labels-few;
+        labels_few = h.labels_few;
         labels_are = h.labels_are;
         passed = h.passed;
         taken =
             record {
-              items-next = t.items-next;
-              arguments-next = t.arguments-next;
-              before_next_lem = t.before_next_lem;
-              last_next_lem = t.last_next_lem;
+              items_next = t.items_next;
+              arguments_next = t.arguments_next;
+              before_is = t.before_is;
+              last_is = t.last_is;
               items_are = t.items_are;
               arguments_are = refl;
             };
@@ -196,9 +196,9 @@ module _ (ts : List Tok) (void : Bool) (s : Going) (items₀ items labels₀ : L
         goes = λ room.
             rw (goes_on, k)
             (h.goes (λ i at1. body_then i (body_d ts room (take s.labels labels₀) (behind i) at1))
-            ∙ rw (h.labels_next, t.before_next_lem, h.before_same));
+            ∙ rw (h.labels_next, t.before_is, h.before_same));
         labels_next = rw (h.no_label, add-zero) h.labels_next;
-        labels-few = rw h.labels_next few;
+        labels_few = rw h.labels_next few;
         labels_are = rw h.no_label;
         passed = h.passed;
         taken = t;

@@ -34,6 +34,6 @@ filled first (operation w goes ∷ ps) = pick first 1 0 + filled false ps
 -- items where a `ret` is added; a call of sixteen arguments takes nineteen tokens; a block takes four, its label and an
 -- operation.
 pub record Bounds (at next items arguments blocks : ℕ) : Type 0 where
-  pub items-few : at * 3 + items * 4 ≤ next * 3
-  pub arguments-few : at * 16 + arguments * 19 ≤ next * 16
-  pub blocks-few : at + blocks * 4 ≤ next + 1
+  pub items_few : at * 3 + items * 4 ≤ next * 3
+  pub arguments_few : at * 16 + arguments * 19 ≤ next * 16
+  pub blocks_few : at + blocks * 4 ≤ next + 1

@@ -98,9 +98,9 @@ last_next last (call_into w v g xs) = w
 -- what a turn may rely on: the room that the tokens behind it leave
 pub record Ready (ts : List Tok) (s : Going) : Type 0 where
   pub within : Within ts s.at
-  pub items-few : s.items * 4 ≤ s.at * 3
-  pub arguments-few : s.arguments * 19 ≤ s.at * 16
-  pub labels-few : s.labels ≤ most_labels
+  pub items_few : s.items * 4 ≤ s.at * 3
+  pub arguments_few : s.arguments * 19 ≤ s.at * 16
+  pub labels_few : s.labels ≤ most_labels
 
 -- The turns. --------------------------------------------------------------------------------------------------------
 
@@ -108,14 +108,14 @@ pub record Ready (ts : List Tok) (s : Going) : Type 0 where
 pub record Passed (ts : List Tok) (at next : ℕ) (i : Item) : Type 0 where
   pub two : at + 2 ≤ next
   pub within : Within ts next
-  pub arguments-few : at * 16 + length (arguments_in i) * 19 ≤ next * 16
+  pub arguments_few : at * 16 + length (arguments_in i) * 19 ≤ next * 16
 
 -- the state behind an item, and the cells
 pub record Taken (void : Bool) (i : Item) (s s' : Going) (items₀ items arguments₀ arguments : List ℕ) : Type 0 where
-  pub items-next : s'.items ≡ s.items + length (closing void s.before s.last i)
-  pub arguments-next : s'.arguments ≡ s.arguments + length (arguments_in i)
-  pub before_next_lem : s'.before ≡ before_next i
-  pub last_next_lem : s'.last ≡ last_next s.last i
+  pub items_next : s'.items ≡ s.items + length (closing void s.before s.last i)
+  pub arguments_next : s'.arguments ≡ s.arguments + length (arguments_in i)
+  pub before_is : s'.before ≡ before_next i
+  pub last_is : s'.last ≡ last_next s.last i
   pub items_are : items ≡ sets items₀ (s.items * 8) (items_cells s.arguments (closing void s.before s.last i))
   pub arguments_are : arguments ≡ sets arguments₀ (s.arguments * 2) (variables_cells (arguments_in i))
 
@@ -164,7 +164,7 @@ pub record LabelTaken (ts : List Tok) (void : Bool) (s s' : Going) (items₀ ite
   pub name : Identifier
   pub goes : labelled_d ts (take s.labels labels₀) s.at ≡ N.At name s'.at
   pub labels_next : s'.labels ≡ s.labels + 1
-  pub labels-few : s'.labels ≤ most_labels
+  pub labels_few : s'.labels ≤ most_labels
   pub labels_are : labels ≡ set labels₀ s.labels name.0
   pub passed : Passed ts s.at s'.at (label s.at name)
   pub taken : Taken void (label s.at name) s s' items₀ items [] []
@@ -184,7 +184,7 @@ pub record Gone (ts : List Tok) (void : Bool) (s s' : Going) (items₀ items arg
   pub read : Item
   pub goes : (room : ℕ) → body_from ts (suc room) s labels₀ ≡ body_then read (body_from ts room s' labels)
   pub labels_next : s'.labels ≡ s.labels + length (labels_of (read ∷ []))
-  pub labels-few : s'.labels ≤ most_labels
+  pub labels_few : s'.labels ≤ most_labels
   pub labels_are : labels ≡ sets labels₀ s.labels (labels_of (read ∷ []))
   pub passed : Passed ts s.at s'.at read
   pub taken : Taken void read s s' items₀ items arguments₀ arguments
@@ -195,8 +195,8 @@ pub record Ended (ts : List Tok) (void : Bool) (s : Going) (e : Closed)
   pub goes : (room : ℕ) → body_from ts (suc room) s labels₀ ≡ body_end (C.At e.next)
   pub one : s.at + 1 ≤ e.next
   pub within : Within ts e.next
-  pub items-next : e.items ≡ s.items + length (added (lacks_ret void s.before) s.last)
-  pub arguments-next : e.arguments ≡ s.arguments
+  pub items_next : e.items ≡ s.items + length (added (lacks_ret void s.before) s.last)
+  pub arguments_next : e.arguments ≡ s.arguments
   pub labels_next : e.labels ≡ s.labels
   pub items_are : items ≡ sets items₀ (s.items * 8)
       (items_cells s.arguments (added (lacks_ret void s.before) s.last))

@@ -232,11 +232,11 @@ sizes_seen m t n u unit ok h a b =
     let b' = subst (λ (x : Bool). IfSizedUnit x (length u.functions) (length u.items) (length u.arguments)
     (length u.blocks) (length u.predecessors)) a'.3 b in
     record {
-      message-long = a'.0;
-      tokens-long = a'.1;
-      names-long = a'.2;
-      functions-long = b'.0;
-      long = record { items-long = b'.1; arguments-long = b'.2; blocks-long = b'.3; predecessors-long = b'.4 };
+      message_long = a'.0;
+      tokens_long = a'.1;
+      names_long = a'.2;
+      functions_long = b'.0;
+      long = record { items_long = b'.1; arguments_long = b'.2; blocks_long = b'.3; predecessors_long = b'.4 };
     }
 
 -- what one definition permits is equal

@@ -23,7 +23,7 @@ use Rattle.parser.specs.Grammar.{consume_d, named_d, global_d, local_d, type_d}
 use Rattle.body.specs.Body.{Item, after_brace, closed_items}
 use Rattle.body.specs.Shapes.{shapes_of, names_in}
 use Rattle.link.specs.Edges.{Resolved, resolve_d, fine, refused as unresolved}
-use Rattle.body.proofs.BodyLaws.{labels-few, names-closed}
+use Rattle.body.proofs.BodyLaws.{labels_few, names-closed}
 use Rattle.link.proofs.Laws.{at_least_1, at_most_256}
 use Rattle.body.specs.Answer.{function_body}
 use Rattle.parser.specs.Runs.{Variables, stopped, ended, variable, type_cell, variables_cells, formal_d, formals_from_d}
@@ -59,7 +59,7 @@ use Rattle.functions.proofs.Standing.{rows_behind}
 use Rattle.functions.specs.declared.Entered.{Entered}
 use Rattle.functions.specs.declared.Entered.TheVariants as E
 use Rattle.lexer.specs.Read.{read_from, read_of}
-use Rattle.sema.specs.Program.{type_program_d as typedD}
+use Rattle.sema.specs.Program.{type_program_d as typed_d}
 use Rattle.sema.specs.declared.Checked.{Checked}
 use Rattle.sema.specs.declared.Checked.TheVariants as K
 use Rattle.unit.specs.Outcome.{UnitOutcome, checked, refused, after_typing, after_parsing, untyped, unit_d, none}
@@ -176,16 +176,16 @@ unfolding pick
 picked_few true x y most h g = h
 picked_few false x y most h g = g
 
-formals-few : (ts : List Tok) (room at : ℕ) → length (formals_from_d ts room at).list ≤ room
+formals_few : (ts : List Tok) (room at : ℕ) → length (formals_from_d ts room at).list ≤ room
 unfolding formals_from_d look
-formals-few ts zero at = after_few (formal_d ts true at) _ 0 (λ v i. omega arith)
-formals-few ts (suc room) at =
+formals_few ts zero at = after_few (formal_d ts true at) _ 0 (λ v i. omega arith)
+formals_few ts (suc room) at =
     after_few (formal_d ts false at) _ (suc room) (λ v i.
     omega (
       arith,
       picked_few (eqb (token_at ts i).kind 31) (formals_from_d ts room (token_at ts i).next) (ended (consume_d ts i 26))
           room
-          (formals-few ts room (token_at ts i).next) (omega arith),
+          (formals_few ts room (token_at ts i).next) (omega arith),
     ))
 
 optional_few : (ts : List Tok) (at : ℕ) → length (optional_formals ts at).list ≤ 16
@@ -194,7 +194,7 @@ optional_few ts at =
     picked_few (eqb (token_at ts at).kind 25) _ (ended (C.At at)) 16
     (picked_few (eqb (token_at ts (token_at ts at).next).kind 26)
     (ended (C.At (token_at ts (token_at ts at).next).next))
-    (formals_from_d ts 16 (token_at ts at).next) 16 (omega arith) (formals-few ts 16 (token_at ts at).next)) (omega arith)
+    (formals_from_d ts 16 (token_at ts at).next) 16 (omega arith) (formals_few ts 16 (token_at ts at).next)) (omega arith)
 
 optional_good : (ts : List Tok) (at : ℕ) → GoodFormals (optional_formals ts at).list
 unfolding optional_formals formals_d look
@@ -284,7 +284,7 @@ closed-blocks ts void at =
     let is = (function_body ts at).items in
     let ps = shapes_of (closed_items void is) in
     let few : length (names_in ps) ≤ 255 =
-    omega (arith, ap length (names-closed void 0 0 is), labels-few ts 4096 after_brace at) in
+    omega (arith, ap length (names-closed void 0 0 is), labels_few ts 4096 after_brace at) in
     (at_least_1 ps, at_most_256 ps few)
 
 built-good : (ts : List Tok) (void : Bool) (name at : ℕ) → GoodBuilt (built_d ts void name at)
@@ -503,13 +503,13 @@ module _ (text : List ℕ) (ts : List Tok) (names rows rest : List ℕ)
       record {
         name = rw (cell (place_at i) 3 (omega arith), len) global.inside;
         place = rw (cell (place_at i) 3 (omega arith)) global.place_in;
-        name-length = rw len global.long;
+        name_length = rw len global.long;
         line = rw (cell (line_at i) 5 (omega arith)) global.line_in;
         ret = rw (row-ret ts names f first base rows i r h) g.ret;
         type = rw (row_type ts names f first base rows i r h) q.1;
         blocks = rw (cell (block_count_at i) 11 (omega arith)) q.0.1;
         formals = rw (row_count ts names f first base rows i r h) g.few;
-        formal_types_lem = λ k l.
+        types_are = λ k l.
             let e : formal_type_at i k ≡ formals_at i + k * 2 + 1 = omega arith in
             rw e
             (formal_types_in vs rows (formals_at i) r (row-formals ts names f first base rows i r h) g.types k
@@ -537,7 +537,7 @@ typed_are gs fs K.Fine h = cc
 typed_are gs fs (K.Refused e) h = absurd (let z : ◌≡◌ {A = ℕ} 0 1 = cc in omega arith)
 
 ended_are : (ts : List Tok) (gs fs : List Function) (e : Consumed) → after_parsing ts gs e ≡ checked fs → fs ≡ gs
-ended_are ts gs fs (C.At next) h = typed_are gs fs (typedD ts gs gs untyped).end h
+ended_are ts gs fs (C.At next) h = typed_are gs fs (typed_d ts gs gs untyped).end h
 ended_are ts gs fs (C.Refused e) h = absurd (let z : ◌≡◌ {A = ℕ} 0 1 = cc in omega arith)
 
 parsed_are : (ts : List Tok) (fs : List Function) → unit_d ts ≡ checked fs → fs ≡ (program_d ts).functions

@@ -44,7 +44,7 @@ module _ {line : ℕ} {text t n : List ℕ} {r : ReadAnswer} (v : Lexed line tex
             ns = ns;
             lexed = p;
             counted = ap (λ (a : ReadAnswer). a.tokens) q;
-            counted-names = ap (λ (a : ReadAnswer). a.names) q;
+            counted_names = ap (λ (a : ReadAnswer). a.names) q;
             sound = read_sound line text ts ns p;
           }
       from (Outcome.refused e) p =
@@ -61,11 +61,11 @@ module _ {line : ℕ} {text t n : List ℕ} {r : ReadAnswer} (v : Lexed line tex
   pub read_names : (read_from line text).names ≡ names_cells is-done.ns
   read_names = ap (λ (x : Reading). x.names) read_as_lem
 
-  pub tokens-few : r.tokens ≤ 4096
-  tokens-few = omega (arith, is-done.counted, is-done.sound.few)
+  pub tokens_few : r.tokens ≤ 4096
+  tokens_few = omega (arith, is-done.counted, is-done.sound.few)
 
-  pub names-few : r.names ≤ 1024
-  names-few = omega (arith, is-done.counted-names, is-done.sound.few-names)
+  pub names_few : r.names ≤ 1024
+  names_few = omega (arith, is-done.counted_names, is-done.sound.few_names)
 
   -- the cells in use, as the code lends them
   pub used_tokens : take (r.tokens * 4 - 0) (drop 0 t) ≡ (read_from line text).tokens

@@ -37,7 +37,7 @@ use Rattle.parser.specs.declared.Defined.TheVariants as D
 use Rattle.parser.specs.declared.Parsed.{Parsed}
 use Rattle.parser.specs.declared.Parsed.TheVariants as P
 use Rattle.body.proofs.Progress.{LabelIn, ItemIn, moves, label_in, item_in}
-use Rattle.body.proofs.Turning.{closes-kind}
+use Rattle.body.proofs.Turning.{closes_kind}
 use Rattle.functions.specs.Known.{Known, types_after}
 use Rattle.functions.specs.Functions.{Header, HeaderAt, header, no_header, then_header, then_formals, then_entered}
 use Rattle.functions.specs.Functions.{optional_formals, optional_type, entered_d, signature_d, header_d, BuiltAt, built}
@@ -305,7 +305,7 @@ module _ (ts : List Tok) (last : ℕ) (ends : (token_at ts last).kind ≡ 38) wh
   body_on zero labels before i h l = absurd (omega arith)
   body_on (suc room) labels before i h l =
       pick_either (λ (r : Body). EndOn r.end) (closes before (token_at ts i).kind) _ _
-      (λ t. let m = moves ts last ends i h (λ z. omega (arith, z, closes-kind before _ t)) in rw m.0
+      (λ t. let m = moves ts last ends i h (λ z. omega (arith, z, closes_kind before _ t)) in rw m.0
       (EndOn.found (i + 1) m.1))
       (λ t.
       pick_either (λ (r : Body). EndOn r.end) (eqb (token_at ts i).kind 3) _ _

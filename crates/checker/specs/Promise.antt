@@ -94,10 +94,10 @@ pub record Finishes (r : CheckAnswer) (m₀ t₀ n₀ : List ℕ) (u₀ : Slices
   pub unit : u ≡ as_long u₀ (fronts_of r u₀)
 
 pub record Sizes (m t n : List ℕ) (u : Slices) : Type 0 where
-  pub message-long : message_size ≤ length m
-  pub tokens-long : tokens_size ≤ length t
-  pub names-long : names_size ≤ length n
-  pub functions-long : table_size ≤ length u.functions
+  pub message_long : message_size ≤ length m
+  pub tokens_long : tokens_size ≤ length t
+  pub names_long : names_size ≤ length n
+  pub functions_long : table_size ≤ length u.functions
   pub long : Long u.items u.arguments u.blocks u.predecessors
 
 -- what a definition's answer d permits, by parts with names

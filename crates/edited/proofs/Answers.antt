@@ -46,7 +46,8 @@ pub rechecked_as_lem : (old table : List ℕ) (k : ℕ) (new : List ℕ) (toks :
     → Alone old table k new toks ns
 unfolding recheck_of pick
 rechecked_as_lem old table k new toks ns t p not40 not41 =
-    by (is_whole new ts) (keeps (same_bytes (row_name old table k)) (signed_at table k) new (names_cells ns) ts) refl refl
+    by (is_whole new ts) (keeps (same_bytes (row_name old table k)) (signed_at table k) new (names_cells ns) ts) refl
+    refl
   where
     ts : List Tok
     ts = tokens_of (tokens_cells toks)

@@ -58,11 +58,11 @@ pub record Cutting (old : List ℕ) (k : ℕ) (new : List ℕ) : Type 0 where
   pub closed : function.next ≡ lexing.closing + 1
   pub front : (i : ℕ) → i + 1 ≡ lexing.opening → kind_of (get_or lexing.old_tokens i no_token).value ≡ 28
   -- the header is kept, and recheck's answer
-  pub keeps : Keeps (spells_of lexing) function (tokens_in lexing.new_tokens_lem)
+  pub keeps : Keeps (spells_of lexing) function (tokens_in lexing.tokens_new)
   pub answer : rechecked_as old k new
-      ≡ verdict_as new (read_from first new) (tokens_in lexing.new_tokens_lem)
+      ≡ verdict_as new (read_from first new) (tokens_in lexing.tokens_new)
       (λ x. callee_spelt (spells_of lexing x) (before ++ (function ∷ behind))) function.head.type
-      (alone_among (tokens_in lexing.new_tokens_lem) (spells_of lexing) (before ++ (function ∷ behind)))
+      (alone_among (tokens_in lexing.tokens_new) (spells_of lexing) (before ++ (function ∷ behind)))
 
 module _ {old : List ℕ} {k : ℕ} {new : List ℕ} (h : Edits old k new) where
   a : Accepts old

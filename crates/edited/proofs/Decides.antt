@@ -27,7 +27,7 @@ use Rattle.edited.proofs.Lexing.{edited, alone_in}
 -- whether name x of the new text is spelled as name y of the old one
 abbrev pub spells_of : {pre f post new : List ℕ} {first : ℕ} → Replaced pre f post new 1 first → ℕ → ℕ → Bool
 spells_of {pre} {f} {post} {new} p =
-    spelled_alike (pre ++ (f ++ post)) (names_cells p.old_names) new (names_cells p.new-names)
+    spelled_alike (pre ++ (f ++ post)) (names_cells p.old_names) new (names_cells p.new_names)
 
 module _ {pre f post new : List ℕ} {first : ℕ} (p : Replaced pre f post new 1 first) {ts : List Token} {ns : List Part}
     (rd : Readings pre f post new 1 first (edit_of p) ts ns)
@@ -40,36 +40,36 @@ module _ {pre f post new : List ℕ} {first : ℕ} (p : Replaced pre f post new 
   spells = spells_of p
 
   abbrev alone : List Tok
-  alone = tokens_in p.new_tokens_lem
+  alone = tokens_in p.tokens_new
 
   abbrev all : List Function
   all = before ++ (r ∷ behind)
 
-  replaced_there : related.Replaced (edited rd lexed p.new-opens-kind brace) before r behind
+  replaced_there : related.Replaced (edited rd lexed p.new_opens_kind brace) before r behind
   unfolding edited
   replaced_there = record { accepted = typed; stood = stood; closed = closed }
 
   module _ (keeps : Keeps spells r alone) where
-    pub follows : Follows (edited rd lexed p.new-opens-kind brace) before r behind alone
-        (alone_in rd lexed p.new-opens-kind brace) (alone_among alone spells all)
+    pub follows : Follows (edited rd lexed p.new_opens_kind brace) before r behind alone
+        (alone_in rd lexed p.new_opens_kind brace) (alone_among alone spells all)
     unfolding edited alone_in
-    follows = verdict replaced_there (alone_in rd lexed p.new-opens-kind brace) keeps
+    follows = verdict replaced_there (alone_in rd lexed p.new_opens_kind brace) keeps
 
     -- refused alone
     pub refused-fresh : (x : Refusal) → alone_among alone spells all ≡ refuses x → (x.number ≡ 40 → ⊥)
-        → RefusedAs (tokens_in ts) alone (inside_move rd) (length p.new_tokens_lem - 1) x
+        → RefusedAs (tokens_in ts) alone (inside_move rd) (length p.tokens_new - 1) x
     unfolding edited alone_in
     refused-fresh x e n =
         subst
-        (λ (v : Verdict). Follows (edited rd lexed p.new-opens-kind brace) before r behind alone
-        (alone_in rd lexed p.new-opens-kind brace) v) e follows n
+        (λ (v : Verdict). Follows (edited rd lexed p.new_opens_kind brace) before r behind alone
+        (alone_in rd lexed p.new_opens_kind brace) v) e follows n
 
     -- accepted alone
     pub accepted-fresh : (g : Function) (table : List ℕ) → alone_among alone spells all ≡ accepts g table
-        → AcceptedAs (edited rd lexed p.new-opens-kind brace)
-        (alone_in rd lexed p.new-opens-kind brace).inside (alone_in rd lexed p.new-opens-kind brace).size alone
+        → AcceptedAs (edited rd lexed p.new_opens_kind brace)
+        (alone_in rd lexed p.new_opens_kind brace).inside (alone_in rd lexed p.new_opens_kind brace).size alone
         before r behind (retyped r.head.type g)
     accepted-fresh g table e =
         subst
-        (λ (v : Verdict). Follows (edited rd lexed p.new-opens-kind brace) before r behind alone
-        (alone_in rd lexed p.new-opens-kind brace) v) e follows
+        (λ (v : Verdict). Follows (edited rd lexed p.new_opens_kind brace) before r behind alone
+        (alone_in rd lexed p.new_opens_kind brace) v) e follows

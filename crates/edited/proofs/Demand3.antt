@@ -15,8 +15,8 @@ use Rattle.edited.proofs.Accepted.{functions_are}
 use Rattle.edited.proofs.Cutting.{Cutting, cutting}
 use Rattle.edited.proofs.Fresh.{Fresh, fresh, all, verdict, alone-refused, same-refusal, not-accepted}
 use Rattle.edited.proofs.Fresh.{accepted_as, fresh-zero, alone-zero}
-use Rattle.edited.proofs.Read.{answer-is, text, old_text, accepted-new, accepted_old, new-reads, before-long}
-use Rattle.edited.proofs.Read.{new-begins, as_many, others_read}
+use Rattle.edited.proofs.Read.{answer-is, text, old_text, accepted-new, accepted_old, new_reads, before-long}
+use Rattle.edited.proofs.Read.{new_begins, as_many, others_read}
 
 module _ {old : List ℕ} {k : ℕ} {new : List ℕ} (h : Edits old k new) where
   abbrev c : Cutting old k new
@@ -32,11 +32,11 @@ module _ {old : List ℕ} {k : ℕ} {new : List ℕ} (h : Edits old k new) where
       let no = not-accepted c z x e one in
       let same = same-refusal c z x e one in
       record {
-        accepts-fresh = λ q. same.number ∙ q;
-        fresh-accepts = λ q. absurd (no q);
+        accepts_fresh = λ q. same.number ∙ q;
+        fresh_accepts = λ q. absurd (no q);
         refuses = λ q. same;
-        new-reads = λ q. absurd (no q);
-        new-begins = λ q. absurd (no q);
+        new_reads = λ q. absurd (no q);
+        new_begins = λ q. absurd (no q);
         as_many = λ q. absurd (no q);
         others_read = λ q. absurd (no q);
       }
@@ -53,14 +53,14 @@ module _ {old : List ℕ} {k : ℕ} {new : List ℕ} (h : Edits old k new) where
         ap (λ (t : List ℕ). (check_of t).answer.functions) (sym c.old_is)
         ∙ functions_are (old_text c z g table e) (accepted_old c z g table e)
 
-    new-one : reading_of (edited_text old k new) (check_of (edited_text old k new)) k
+    new_one : reading_of (edited_text old k new) (check_of (edited_text old k new)) k
         ≡ reading_of new (rechecked_as old k new) 0
-    new-one =
+    new_one =
         let i : k ≡ length (accepted_as c z g table e).before' =
         omega (arith, before-long c z g table e, c.counted) in
         ap (λ (t : List ℕ). reading_of t (check_of t) k) c.edited_is
         ∙ ap (λ (j : ℕ). reading_of (text c z g table e) (check_of (text c z g table e)) j) i
-        ∙ new-reads c z g table e ∙ ap (λ (r : Checking). reading_of new r 0) (sym (answer-is c z g table e))
+        ∙ new_reads c z g table e ∙ ap (λ (r : Checking). reading_of new r 0) (sym (answer-is c z g table e))
 
     begins_there : begins_at (edited_text old k new) k ≡ begins_at old k
     begins_there =
@@ -68,7 +68,7 @@ module _ {old : List ℕ} {k : ℕ} {new : List ℕ} (h : Edits old k new) where
         omega (arith, before-long c z g table e, c.counted) in
         ap (λ (t : List ℕ). begins_at t k) c.edited_is
         ∙ ap (λ (j : ℕ). begins_at (text c z g table e) j) i
-        ∙ new-begins c z g table e ∙ sym c.begins
+        ∙ new_begins c z g table e ∙ sym c.begins
 
     other_ones : (j : ℕ) → j < (check_of old).answer.functions → (j ≡ k → ⊥)
         → moved_reading (edited_text old k new) (check_of (edited_text old k new)) j ≡ moved_reading old (check_of old) j
@@ -81,11 +81,11 @@ module _ {old : List ℕ} {k : ℕ} {new : List ℕ} (h : Edits old k new) where
     when_accepted : Demand3 old k new
     when_accepted =
         record {
-          accepts-fresh = λ q. fresh-zero c z g table e;
-          fresh-accepts = λ q. alone-zero c z g table e;
+          accepts_fresh = λ q. fresh-zero c z g table e;
+          fresh_accepts = λ q. alone-zero c z g table e;
           refuses = λ q. absurd (q (fresh-zero c z g table e));
-          new-reads = λ q. new-one;
-          new-begins = λ q. begins_there;
+          new_reads = λ q. new_one;
+          new_begins = λ q. begins_there;
           as_many = λ q. edited_many ∙ sym old_many;
           others_read = λ q. other_ones;
         }

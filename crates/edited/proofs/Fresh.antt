@@ -42,8 +42,8 @@ fresh {old} {k} {new} h =
     let given : (n : ℕ) → (read_from 1 (c.pre ++ (new ++ c.post))).answer.number ≡ n
     → (read_of (edited_text old k new)).answer.number ≡ n =
     λ n e. ap (λ (t : List ℕ). (read_of t).answer.number) c.edited_is ∙ e in
-    let z = replaced c.lexing (λ e. h.bytes-few (given 31 e)) (λ e. h.tokens-few (given 32 e))
-    (λ e. h.names-few (given 33 e)) in
+    let z = replaced c.lexing (λ e. h.bytes_few (given 31 e)) (λ e. h.tokens_few (given 32 e))
+    (λ e. h.names_few (given 33 e)) in
     record { tokens = z.0; names = z.1; lexed = z.2; readings = z.3 }
 
 module _ {old : List ℕ} {k : ℕ} {new : List ℕ} (c : Cutting old k new) (z : Fresh c) where
@@ -52,7 +52,7 @@ module _ {old : List ℕ} {k : ℕ} {new : List ℕ} (c : Cutting old k new) (z 
 
   -- what the new function is alone
   abbrev pub alone : List Tok
-  alone = tokens_in c.lexing.new_tokens_lem
+  alone = tokens_in c.lexing.tokens_new
 
   abbrev pub verdict : Verdict
   verdict = alone_among alone (spells_of c.lexing) all
@@ -74,7 +74,7 @@ module _ {old : List ℕ} {k : ℕ} {new : List ℕ} (c : Cutting old k new) (z 
   alone-refused x e = ap (λ (r : Checking). r.answer.number) (alone-is x e)
 
   module _ (x : Refusal) (e : verdict ≡ refuses x) (one : x.number ≡ 40 → ⊥) where
-    moved : RefusedAs (tokens_in z.tokens) alone (inside_move z.readings) (length c.lexing.new_tokens_lem - 1) x
+    moved : RefusedAs (tokens_in z.tokens) alone (inside_move z.readings) (length c.lexing.tokens_new - 1) x
     moved =
         refused-fresh c.lexing z.readings z.lexed c.front c.before c.function c.behind c.typed
         c.stood c.closed c.keeps x e one
@@ -114,9 +114,9 @@ module _ {old : List ℕ} {k : ℕ} {new : List ℕ} (c : Cutting old k new) (z 
   -- Accepted. -------------------------------------------------------------------------------------------------------
 
   module _ (g : Function) (table : List ℕ) (e : verdict ≡ accepts g table) where
-    pub accepted_as : AcceptedAs (edited z.readings z.lexed c.lexing.new-opens-kind c.front)
-        (alone_in z.readings z.lexed c.lexing.new-opens-kind c.front).inside
-        (alone_in z.readings z.lexed c.lexing.new-opens-kind c.front).size alone c.before c.function
+    pub accepted_as : AcceptedAs (edited z.readings z.lexed c.lexing.new_opens_kind c.front)
+        (alone_in z.readings z.lexed c.lexing.new_opens_kind c.front).inside
+        (alone_in z.readings z.lexed c.lexing.new_opens_kind c.front).size alone c.before c.function
         c.behind (retyped c.function.head.type g)
     accepted_as =
         accepted-fresh c.lexing z.readings z.lexed c.front c.before c.function c.behind c.typed

@@ -30,9 +30,9 @@ module _ (old : List ℕ) (k : ℕ) (accepted : (check_of old).answer.number ≡
         lexes = lexes;
         whole = whole;
         keeps = keeps;
-        bytes-few = λ e. omega (arith, still, e);
-        tokens-few = λ e. omega (arith, still, e);
-        names-few = λ e. omega (arith, still, e);
+        bytes_few = λ e. omega (arith, still, e);
+        tokens_few = λ e. omega (arith, still, e);
+        names_few = λ e. omega (arith, still, e);
       }
 
   by_edits : Edits old k (own_text old k) → RechecksItself old k
@@ -41,8 +41,8 @@ module _ (old : List ℕ) (k : ℕ) (accepted : (check_of old).answer.number ≡
       let same = edited_own old k (accepted-text old accepted) one in
       let zero = ap (λ (t : List ℕ). (check_of t).answer.number) same ∙ accepted in
       record {
-        accepted = d.fresh-accepts zero;
-        reading = sym (d.new-reads zero) ∙ ap (λ (t : List ℕ). reading_of t (check_of t) k) same;
+        accepted = d.fresh_accepts zero;
+        reading = sym (d.new_reads zero) ∙ ap (λ (t : List ℕ). reading_of t (check_of t) k) same;
       }
 
 -- THE THEOREM

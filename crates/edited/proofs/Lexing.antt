@@ -67,8 +67,8 @@ module _ {s : List ℕ} {line : ℕ} {ts : List Token} {ns : List Part} (v : Sou
   name-past x h = sym (padded-name s (names_cells ns) 0 x) ∙ (accepted-named s line 0 ts ns v).past x h
 
   -- how long a name is
-  pub name-length : (x : ℕ) → x < length ns → get_or (names_cells ns) (x * 2 + 1) 0 ≡ length (get_or (spellings s ns) x [])
-  name-length x h =
+  pub name_length : (x : ℕ) → x < length ns → get_or (names_cells ns) (x * 2 + 1) 0 ≡ length (get_or (spellings s ns) x [])
+  name_length x h =
       let p = get_or ns x no_part in
       let l : length (get_or (spellings s ns) x []) ≡ p.place + p.len - p.place =
       rw (spelling-at s ns x h) (length-slice p.place (p.place + p.len) s (v.within x h).2) in
@@ -137,8 +137,8 @@ module _ {pre f post new : List ℕ} {line first : ℕ} {e : Edit pre f post new
   pub edited_sound : Sound (pre ++ (new ++ post)) line ts ns
   edited_sound = read_sound line (pre ++ (new ++ post)) ts ns lexed
 
-  pub own_sound : Sound new first e.new_tokens_lem e.new-names
-  own_sound = read_sound first new e.new_tokens_lem e.new-names e.new-lexes
+  pub own_sound : Sound new first e.tokens_new e.new_names
+  own_sound = read_sound first new e.tokens_new e.new_names e.new_lexes
 
   -- how many names each table has
   pub old_few : length (spellings (pre ++ (f ++ post)) e.old_names) ≡ length e.old_names
@@ -147,35 +147,35 @@ module _ {pre f post new : List ℕ} {line first : ℕ} {e : Edit pre f post new
   pub edited_few : length (spellings (pre ++ (new ++ post)) ns) ≡ length ns
   edited_few = length-spellings (pre ++ (new ++ post)) ns
 
-  pub own-few : length (spellings new e.new-names) ≡ length e.new-names
-  own-few = length-spellings new e.new-names
+  pub own-few : length (spellings new e.new_names) ≡ length e.new_names
+  own-few = length-spellings new e.new_names
 
   pub front_fits : Fits (front_move r)
   front_fits =
       record {
-        few = omega (arith, r.front-known, edited_sound.few-names);
-        low = λ x h. omega (arith, r.front-known, edited_sound.few-names);
+        few = omega (arith, r.front-known, edited_sound.few_names);
+        low = λ x h. omega (arith, r.front-known, edited_sound.few_names);
       }
 
   pub inside-fits : Fits (inside_move r)
   inside-fits =
       record {
-        few = omega (arith, own-few, own_sound.few-names);
-        low = λ x h. omega (arith, (r.new-spelled x (omega (arith, own-few))).0, edited_few, edited_sound.few-names);
+        few = omega (arith, own-few, own_sound.few_names);
+        low = λ x h. omega (arith, (r.new-spelled x (omega (arith, own-few))).0, edited_few, edited_sound.few_names);
       }
 
   pub old_fits : Fits (old_back_move r)
   old_fits =
       record {
-        few = omega (arith, r.rest-few, old_sound.few-names);
-        low = λ x h. omega (arith, (r.old_spelled x h).0, old_few, old_sound.few-names);
+        few = omega (arith, r.rest-few, old_sound.few_names);
+        low = λ x h. omega (arith, (r.old_spelled x h).0, old_few, old_sound.few_names);
       }
 
-  pub new-fits : Fits (new_back_move r)
-  new-fits =
+  pub new_fits : Fits (new_back_move r)
+  new_fits =
       record {
-        few = omega (arith, r.rest-few, old_sound.few-names);
-        low = λ x h. omega (arith, (r.rest-spelled x h).0, edited_few, edited_sound.few-names);
+        few = omega (arith, r.rest-few, old_sound.few_names);
+        low = λ x h. omega (arith, (r.rest-spelled x h).0, edited_few, edited_sound.few_names);
       }
 
   -- The spellings: a name and the one that it is renamed to. -------------------------------------------------------
@@ -189,9 +189,9 @@ module _ {pre f post new : List ℕ} {line first : ℕ} {e : Edit pre f post new
 
   pub inside-name : (x : ℕ) → x < (inside_move r).names
       → name_of (pre ++ (new ++ post)) (names_cells ns) ((inside_move r).name x)
-      ≡ name_of new (names_cells e.new-names) x
+      ≡ name_of new (names_cells e.new_names) x
   inside-name x h =
-      let l : x < length e.new-names = omega (arith, own-few) in
+      let l : x < length e.new_names = omega (arith, own-few) in
       let q = r.new-spelled x l in
       name_spelled_lem edited_sound ((inside_move r).name x) (omega (arith, q.0, edited_few)) ∙ q.1
       ∙ sym (name_spelled_lem own_sound x l)
@@ -214,18 +214,18 @@ module _ {pre f post new : List ℕ} {line first : ℕ} {e : Edit pre f post new
   front_lengths =
       record {
         same = λ x h.
-            name-length edited_sound x (omega (arith, r.front-known)) ∙ ap length (r.front-spelled x h)
-            ∙ sym (name-length old_sound x (omega (arith, r.front-known_old)));
+            name_length edited_sound x (omega (arith, r.front-known)) ∙ ap length (r.front-spelled x h)
+            ∙ sym (name_length old_sound x (omega (arith, r.front-known_old)));
       }
 
-  inside_lengths : SameLengths (inside_move r) (names_cells ns) (names_cells e.new-names)
+  inside_lengths : SameLengths (inside_move r) (names_cells ns) (names_cells e.new_names)
   inside_lengths =
       record {
         same = λ x h.
-            let l : x < length e.new-names = omega (arith, own-few) in
+            let l : x < length e.new_names = omega (arith, own-few) in
             let q = r.new-spelled x l in
-            name-length edited_sound ((inside_move r).name x) (omega (arith, q.0, edited_few)) ∙ ap length q.1
-            ∙ sym (name-length own_sound x l);
+            name_length edited_sound ((inside_move r).name x) (omega (arith, q.0, edited_few)) ∙ ap length q.1
+            ∙ sym (name_length own_sound x l);
       }
 
   old_lengths : SameLengths (old_back_move r) (names_cells e.old_names) (word_cells r.rest-words)
@@ -233,7 +233,7 @@ module _ {pre f post new : List ℕ} {line first : ℕ} {e : Edit pre f post new
       record {
         same = λ x h.
             let q = r.old_spelled x h in
-            name-length old_sound ((old_back_move r).name x) (omega (arith, q.0, old_few)) ∙ ap length q.1
+            name_length old_sound ((old_back_move r).name x) (omega (arith, q.0, old_few)) ∙ ap length q.1
             ∙ sym (word-length r.rest-words x h);
       }
 
@@ -242,37 +242,37 @@ module _ {pre f post new : List ℕ} {line first : ℕ} {e : Edit pre f post new
       record {
         same = λ x h.
             let q = r.rest-spelled x h in
-            name-length edited_sound ((new_back_move r).name x) (omega (arith, q.0, edited_few)) ∙ ap length q.1
+            name_length edited_sound ((new_back_move r).name x) (omega (arith, q.0, edited_few)) ∙ ap length q.1
             ∙ sym (word-length r.rest-words x h);
       }
 
   -- The new text's tokens. -----------------------------------------------------------------------------------------
 
-  pub own-some : 0 < length e.new_tokens_lem - 1
-  own-some = omega (arith, e.new-closes.before-end)
+  pub own-some : 0 < length e.tokens_new - 1
+  own-some = omega (arith, e.new_closes.before_end)
 
-  pub inside-tokens : Sim (inside_move r) (length e.new_tokens_lem - 1) (tokens_in ts) (tokens_in e.new_tokens_lem)
-  inside-tokens = sim_plain ts e.new_tokens_lem (r.new-moved 0 0)
+  pub inside-tokens : Sim (inside_move r) (length e.tokens_new - 1) (tokens_in ts) (tokens_in e.tokens_new)
+  inside-tokens = sim_plain ts e.tokens_new (r.new-moved 0 0)
 
-  pub own-ends : (token_at (tokens_in e.new_tokens_lem) (length e.new_tokens_lem - 1)).kind ≡ T.end_of_file
+  pub own-ends : (token_at (tokens_in e.tokens_new) (length e.tokens_new - 1)).kind ≡ T.end_of_file
   own-ends =
-      kind_at e.new_tokens_lem (length e.new_tokens_lem - 1) (omega (arith, own-some))
+      kind_at e.tokens_new (length e.tokens_new - 1) (omega (arith, own-some))
       ∙ ap (λ (t : Token). kind_of t.value) (end-last own_sound)
 
-  pub own-unended : (i : ℕ) → i < length e.new_tokens_lem - 1 → (token_at (tokens_in e.new_tokens_lem) i).kind ≡ T.end_of_file
+  pub own-unended : (i : ℕ) → i < length e.tokens_new - 1 → (token_at (tokens_in e.tokens_new) i).kind ≡ T.end_of_file
       → ⊥
   own-unended i h q =
-      let k = kind_at e.new_tokens_lem i (omega arith) in
+      let k = kind_at e.tokens_new i (omega arith) in
       omega (arith, end-only-last own_sound i (omega arith))
 
   -- The new text begins with a global, and before the replaced function stands a closing brace, or nothing.
-  module _ (opens : kind_of (get_or e.new_tokens_lem 0 no_token).value ≡ T.global)
+  module _ (opens : kind_of (get_or e.tokens_new 0 no_token).value ≡ T.global)
       (brace : (i : ℕ) → i + 1 ≡ e.opening → kind_of (get_or e.old_tokens i no_token).value ≡ T.right_brace) where
     pub begins-here : (token_at (tokens_in ts) e.opening).kind ≡ T.global
     begins-here =
         ap (λ (i : ℕ). (token_at (tokens_in ts) i).kind) (sym (add-zero e.opening))
         ∙ ap (λ (t : TokenAt). t.kind) (inside-tokens.same 0 own-some)
-        ∙ kind_at e.new_tokens_lem 0 (omega (arith, own-some)) ∙ opens
+        ∙ kind_at e.tokens_new 0 (omega (arith, own-some)) ∙ opens
 
     -- THE THEOREMS: what parsing and typing ask of the old text's tokens and the edited text's,
     unfoldable pub edited : Edited (tokens_in e.old_tokens) (tokens_in ts)
@@ -288,11 +288,11 @@ module _ {pre f post new : List ℕ} {line first : ℕ} {e : Edit pre f post new
           old_back = old_back_move r;
           new_back = new_back_move r;
           behind_old = sim_plain e.old_tokens r.rest (r.rest_old 0 0);
-          behind-new = sim_plain ts r.rest (r.rest-new 0 0);
+          behind_new = sim_plain ts r.rest (r.rest-new 0 0);
           ends_old = kind-past e.old_tokens (e.closing + 1 + length r.rest) (omega (arith, r.counted_old));
-          ends-new = kind-past ts (e.opening + (length e.new_tokens_lem - 1) + length r.rest)
+          ends_new = kind-past ts (e.opening + (length e.tokens_new - 1) + length r.rest)
               (omega (arith, r.counted));
-          ends-rest = kind-past r.rest (length r.rest) (omega arith);
+          ends_rest = kind-past r.rest (length r.rest) (omega arith);
           Spelt = SpeltIn (spellings (pre ++ (f ++ post)) e.old_names) (spellings (pre ++ (new ++ post)) ns);
           apart = spelt_apart (spellings (pre ++ (f ++ post)) e.old_names) (spellings (pre ++ (new ++ post)) ns)
               (table-distinct old_sound) r.distinct;
@@ -309,29 +309,29 @@ module _ {pre f post new : List ℕ} {line first : ℕ} {e : Edit pre f post new
           );
           front_fits = front_fits;
           old_fits = old_fits;
-          new-fits = new-fits;
+          new_fits = new_fits;
         }
 
     -- a name of the new text and a name of the old one: spelled alike, and so one name of the edited text
     pub own-spelling : (x y y' : ℕ) → x < (inside_move r).names
         → SpeltIn (spellings (pre ++ (f ++ post)) e.old_names) (spellings (pre ++ (new ++ post)) ns) y y'
-        → spelled_alike (pre ++ (f ++ post)) (names_cells e.old_names) new (names_cells e.new-names) x y
+        → spelled_alike (pre ++ (f ++ post)) (names_cells e.old_names) new (names_cells e.new_names) x y
         ≡ eqb y' ((inside_move r).name x)
     own-spelling x y y' h p =
-        let l : x < length e.new-names = omega (arith, own-few) in
+        let l : x < length e.new_names = omega (arith, own-few) in
         let q = r.new-spelled x l in
         same_name (spellings (pre ++ (new ++ post)) ns) r.distinct y' ((inside_move r).name x) p.1 q.0
         (name_spelled_lem old_sound y (omega (arith, p.0, old_few)) ∙ p.2) (name_spelled_lem own_sound x l ∙ sym q.1)
 
     pub own_spelt : (x y : ℕ) → x < (inside_move r).names
-        → spelled_alike (pre ++ (f ++ post)) (names_cells e.old_names) new (names_cells e.new-names) x y ≡ true
+        → spelled_alike (pre ++ (f ++ post)) (names_cells e.old_names) new (names_cells e.new_names) x y ≡ true
         → SpeltIn (spellings (pre ++ (f ++ post)) e.old_names) (spellings (pre ++ (new ++ post)) ns) y
         ((inside_move r).name x)
     own_spelt x y h t =
-        let l : x < length e.new-names = omega (arith, own-few) in
+        let l : x < length e.new_names = omega (arith, own-few) in
         let q = r.new-spelled x l in
         let w = same_bytes-true (name_of (pre ++ (f ++ post)) (names_cells e.old_names) y)
-        (name_of new (names_cells e.new-names) x) t ∙ name_spelled_lem own_sound x l in
+        (name_of new (names_cells e.new_names) x) t ∙ name_spelled_lem own_sound x l in
         let m : y < length e.old_names =
         name_in_lem old_sound y (omega (arith, ap length w, name-some own_sound x l)) in (
           omega (arith, old_few),
@@ -340,12 +340,12 @@ module _ {pre f post new : List ℕ} {line first : ℕ} {e : Edit pre f post new
         )
 
     -- and of the new text's own tokens; names are as long in each reading.
-    unfoldable pub alone_in : Alone edited (tokens_in e.new_tokens_lem)
+    unfoldable pub alone_in : Alone edited (tokens_in e.tokens_new)
     unfolding edited
     alone_in =
         record {
           inside = inside_move r;
-          size = length e.new_tokens_lem - 1;
+          size = length e.tokens_new - 1;
           begins = refl;
           closes = refl;
           tokens = inside-tokens;
@@ -353,13 +353,13 @@ module _ {pre f post new : List ℕ} {line first : ℕ} {e : Edit pre f post new
           ends = own-ends;
           unended = own-unended;
           fits = inside-fits;
-          spells = spelled_alike (pre ++ (f ++ post)) (names_cells e.old_names) new (names_cells e.new-names);
+          spells = spelled_alike (pre ++ (f ++ post)) (names_cells e.old_names) new (names_cells e.new_names);
           spelling = own-spelling;
           spelt_so = own_spelt;
         }
 
     pub lengths : Lengths edited alone_in (names_cells e.old_names) (names_cells ns) (word_cells r.rest-words)
-        (names_cells e.new-names)
+        (names_cells e.new_names)
     unfolding edited alone_in
     lengths =
         record { front = front_lengths; old_back = old_lengths; new_back = new_lengths; inside = inside_lengths }

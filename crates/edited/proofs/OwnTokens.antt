@@ -61,7 +61,7 @@ module _ (old : List ℕ) (k : ℕ) (a : Accepts old) (one : k < (check_of old).
         order = omega (arith, h.order, h.behind);
         inner = inner;
         opens_at = sym (from_is old a.tokens a.names a.lexed f h) ∙ sym (begins-is old k a one) ∙ sym p;
-        closes-kind =
+        closes_kind =
             let at = token_at_lem a.tokens brace (omega (arith, inner)) in
             sym (ap (λ (t : TokenAt). t.kind) at) ∙ h.closes;
         closes_at =
@@ -133,14 +133,14 @@ module _ (old : List ℕ) (k : ℕ) (a : Accepts old) (one : k < (check_of old).
       let closes = ap (token_at (ts old k a one)) (sym last) ∙ own-moves.same n (omega (arith, own_many)) in
       let first_kind = sym (ap (λ (t : TokenAt). t.kind) opens) ∙ h.opens in
       let last-kind = sym (ap (λ (t : TokenAt). t.kind) closes) ∙ h.closes in
-      let first-place : (token_at alone 0).place ≡ 0 =
+      let first_place : (token_at alone 0).place ≡ 0 =
       omega (arith, ap (λ (t : TokenAt). t.place) opens, begins-is old k a one, p) in
-      let last-place : (token_at alone n).place + 1 ≡ length own =
+      let last_place : (token_at alone n).place + 1 ≡ length own =
       omega (arith, ap (λ (t : TokenAt). t.place) closes, ends_is old k a one, p, q, order old k a one) in
       rw (
         toks-counted own-tokens,
         eq-eqb _ _ first_kind,
-        eq-eqb _ _ first-place,
+        eq-eqb _ _ first_place,
         eq-eqb _ _ last-kind,
-        eq-eqb _ _ last-place,
+        eq-eqb _ _ last_place,
       )

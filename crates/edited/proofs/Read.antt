@@ -10,7 +10,7 @@ use lib.ListN.{length, get_or, length-append}
 use Rattle.utils.specs.Bytes.{pick}
 use Rattle.pieces.specs.declared.Token.{Token}
 use Rattle.lexer.specs.Numbered.{Outcome, tokens_cells, names_cells}
-use Rattle.lexer.specs.Read.{reading_of as lexedReading}
+use Rattle.lexer.specs.Read.{reading_of as lexed_reading}
 use Rattle.lexer.specs.Decoded.{Tok, tokens_of, token_at, name_of}
 use Rattle.lexer.specs.declared.TokenAt.{TokenAt}
 use Rattle.parser.specs.Step.{look, refusal}
@@ -18,7 +18,7 @@ use Rattle.parser.specs.Moved.{Each}
 use Rattle.functions.specs.Functions.{Function, FunctionAt, function, no_function, then_function, function_d}
 use Rattle.functions.specs.Answer.{counts_from}
 use Rattle.functions.specs.declared.Counts.{Counts}
-use Rattle.functions.proofs.Heads.{formals-few}
+use Rattle.functions.proofs.Heads.{formals_few}
 use Rattle.sema.specs.Program.{globals_of, function_typed}
 use Rattle.elaborate.specs.Types.{callee_in}
 use Rattle.unit.specs.Outcome.{none, untyped}
@@ -87,31 +87,31 @@ alone_read_lem ts f = by (function_d ts false [] 0 0)
 alone-few : (ts : List Tok) (f : Function) → alone_d ts ≡ function f → length f.head.formals ≤ 16
 alone-few ts f e =
     let u = function_up_to ts [] 0 0 f (alone_read_lem ts f e) in
-    omega (arith, formals-few ts u.at1, ap length u.listed)
+    omega (arith, formals_few ts u.at1, ap length u.listed)
 
 module _ {old : List ℕ} {k : ℕ} {new : List ℕ} (c : Cutting old k new) (z : Fresh c) (g : Function) (table : List ℕ)
     (e : verdict c z ≡ accepts g table) where
-  abbrev pub new-names : List ℕ
-  new-names = names_cells c.lexing.new-names
+  abbrev pub new_names : List ℕ
+  new_names = names_cells c.lexing.new_names
 
   abbrev pub type : ℕ
   type = c.function.head.type
 
   -- its records
   abbrev alone_written : Written
-  alone_written = written_alone (alone c z) new-names (spells_of c.lexing) (all c z) (retyped type g)
+  alone_written = written_alone (alone c z) new_names (spells_of c.lexing) (all c z) (retyped type g)
 
   -- recheck's answer
   abbrev pub answer : Checking
   answer =
-      verdict_as new (lexedReading (Outcome.done c.lexing.new_tokens_lem c.lexing.new-names)) (alone c z)
+      verdict_as new (lexed_reading (Outcome.done c.lexing.tokens_new c.lexing.new_names)) (alone c z)
       (λ y. callee_spelt (spells_of c.lexing y) (all c z)) type (accepts g table)
 
   pub answer-is : rechecked_as old k new ≡ answer
   answer-is =
       alone-checked c z g table e
-      ∙ ap (λ (o : Outcome). verdict_as new (lexedReading o) (alone c z)
-      (λ y. callee_spelt (spells_of c.lexing y) (all c z)) type (accepts g table)) c.lexing.new-lexes
+      ∙ ap (λ (o : Outcome). verdict_as new (lexed_reading o) (alone c z)
+      (λ y. callee_spelt (spells_of c.lexing y) (all c z)) type (accepts g table)) c.lexing.new_lexes
 
   accepted_there : alone_d (alone c z) ≡ function g
   accepted_there = (accepted-alone (alone c z) (λ x. global_spelt (spells_of c.lexing x) (all c z)) g table e).read
@@ -132,20 +132,20 @@ module _ {old : List ℕ} {k : ℕ} {new : List ℕ} (c : Cutting old k new) (z 
       }
 
   alone-reads : reading_of new answer 0
-      ≡ read (name_of new new-names) 0 (tokens_cells c.lexing.new_tokens_lem) (retyped type g) alone_written
+      ≡ read (name_of new new_names) 0 (tokens_cells c.lexing.tokens_new) (retyped type g) alone_written
   unfolding reading_of counts_from
   alone-reads =
-      ap (λ (own : Own). seen_own (firsts_of (name_of new new-names) 0 own) own)
+      ap (λ (own : Own). seen_own (firsts_of (name_of new new_names) 0 own) own)
       (own-cells alone_stands
-      ∙ ap (λ (t : List ℕ). own_written (tokens_cells c.lexing.new_tokens_lem) (retyped type g)
-      (written_with (alone c z) new-names (λ y. callee_spelt (spells_of c.lexing y) (all c z)) t none (retyped type g)))
+      ∙ ap (λ (t : List ℕ). own_written (tokens_cells c.lexing.tokens_new) (retyped type g)
+      (written_with (alone c z) new_names (λ y. callee_spelt (spells_of c.lexing y) (all c z)) t none (retyped type g)))
       (sym left))
 
   -- The texts, as they were cut. --------------------------------------------------------------------------------------
 
-  abbrev pub x : AcceptedAs (edited z.readings z.lexed c.lexing.new-opens-kind c.front)
-      (alone_in z.readings z.lexed c.lexing.new-opens-kind c.front).inside
-      (alone_in z.readings z.lexed c.lexing.new-opens-kind c.front).size (alone c z) c.before
+  abbrev pub x : AcceptedAs (edited z.readings z.lexed c.lexing.new_opens_kind c.front)
+      (alone_in z.readings z.lexed c.lexing.new_opens_kind c.front).inside
+      (alone_in z.readings z.lexed c.lexing.new_opens_kind c.front).size (alone c z) c.before
       c.function c.behind (retyped type g)
   x = accepted_as c z g table e
 
@@ -176,20 +176,20 @@ module _ {old : List ℕ} {k : ℕ} {new : List ℕ} (c : Cutting old k new) (z 
       }
 
   -- what is written for each function
-  writing : WrittenAs (alone_in z.readings z.lexed c.lexing.new-opens-kind c.front)
-      (names_cells c.lexing.old_names) (names_cells z.names) (word_cells z.readings.rest-words) new-names x
+  writing : WrittenAs (alone_in z.readings z.lexed c.lexing.new_opens_kind c.front)
+      (names_cells c.lexing.old_names) (names_cells z.names) (word_cells z.readings.rest-words) new_names x
   writing =
-      related.written (alone_in z.readings z.lexed c.lexing.new-opens-kind c.front)
-      (lengths z.readings z.lexed c.lexing.new-opens-kind c.front) x
+      related.written (alone_in z.readings z.lexed c.lexing.new_opens_kind c.front)
+      (lengths z.readings z.lexed c.lexing.new_opens_kind c.front) x
 
   -- The new function. -------------------------------------------------------------------------------------------------
 
-  new_side : Side text accepted-new x.f c.lexing.new_tokens_lem (retyped type g) alone_written (name_of new new-names)
+  new_side : Side text accepted-new x.f c.lexing.tokens_new (retyped type g) alone_written (name_of new new_names)
   unfolding edited alone_in
   new_side =
       record {
         move = inside_move z.readings;
-        size = length c.lexing.new_tokens_lem - 1;
+        size = length c.lexing.tokens_new - 1;
         tokens = inside-tokens z.readings z.lexed;
         function = x.same;
         written_as = writing.new-function;
@@ -198,19 +198,19 @@ module _ {old : List ℕ} {k : ℕ} {new : List ℕ} (c : Cutting old k new) (z 
 
   alone_laid : Laid (retyped type g) alone_written
   alone_laid =
-      laid (alone c z) new-names (λ y. callee_spelt (spells_of c.lexing y) (all c z))
+      laid (alone c z) new_names (λ y. callee_spelt (spells_of c.lexing y) (all c z))
       (function_typed (alone c z) (λ y. global_spelt (spells_of c.lexing y) (all c z)) (retyped type g) untyped).table
       none (retyped type g)
 
   -- THE NEW FUNCTION READS AS ALONE
-  pub new-reads : reading_of text (check_of text) (length x.before') ≡ reading_of new answer 0
+  pub new_reads : reading_of text (check_of text) (length x.before') ≡ reading_of new answer 0
   unfolding new_side
-  new-reads = side_lines new_side alone_laid x.before' x.behind' refl refl ∙ sym alone-reads
+  new_reads = side_lines new_side alone_laid x.before' x.behind' refl refl ∙ sym alone-reads
 
   -- .. and stands where the replaced one stood
-  pub new-begins : begins_at text (length x.before') ≡ length c.pre
+  pub new_begins : begins_at text (length x.before') ≡ length c.pre
   unfolding edited alone_in
-  new-begins =
+  new_begins =
       let s : Split accepted-new.functions (length x.before') =
       record { before = x.before'; function = x.f; behind = x.behind'; all = refl; counted = refl } in
       let first : g.token ≡ 0 =
@@ -218,13 +218,13 @@ module _ {old : List ℕ} {k : ℕ} {new : List ℕ} (c : Cutting old k new) (z 
       let by : ℕ = (inside_move z.readings).by in
       let at : x.f.token ≡ by + 0 = x.same.token ∙ ap (λ (i : ℕ). by + i) first in
       let opens : (token_at (alone c z) 0).place ≡ 0 =
-      ap (λ (t : TokenAt). t.place) (token_at_lem c.lexing.new_tokens_lem 0 (omega (arith, c.lexing.new-inner)))
-      ∙ c.lexing.new-opens_at in
+      ap (λ (t : TokenAt). t.place) (token_at_lem c.lexing.tokens_new 0 (omega (arith, c.lexing.new_inner)))
+      ∙ c.lexing.new_opens_at in
       (its_row text accepted-new 2881 s).place
       ∙ ap (λ (l : List ℕ). (token_at (tokens_of l) x.f.token).place) (tokens_are text accepted-new)
       ∙ ap (λ (i : ℕ). (token_at (tokens_in z.tokens) i).place) at
       ∙ ap (λ (t : TokenAt). t.place)
-      ((inside-tokens z.readings z.lexed).same 0 (omega (arith, c.lexing.new-inner)))
+      ((inside-tokens z.readings z.lexed).same 0 (omega (arith, c.lexing.new_inner)))
       ∙ omega (arith, opens)
 
   -- All others. -------------------------------------------------------------------------------------------------------
@@ -236,7 +236,7 @@ module _ {old : List ℕ} {k : ℕ} {new : List ℕ} (c : Cutting old k new) (z 
     written : Written
     spells : ℕ → List ℕ
     its_laid : Laid function written
-    new-one : Side text accepted-new g' tokens function written spells
+    new_one : Side text accepted-new g' tokens function written spells
     old_one : Side old_text accepted_old o tokens function written spells
 
   -- those before the replaced one are related to the old ones, counted from their own first
@@ -252,7 +252,7 @@ module _ {old : List ℕ} {k : ℕ} {new : List ℕ} (c : Cutting old k new) (z 
       → Through g' o
   unfolding edited
   before_through g' o q w =
-      let e = edited z.readings z.lexed c.lexing.new-opens-kind c.front in
+      let e = edited z.readings z.lexed c.lexing.new_opens_kind c.front in
       let same_names : SameLengths (front_move z.readings) (names_cells c.lexing.old_names)
       (names_cells c.lexing.old_names) = record { same = λ y h. refl } in
       let same_globals : SameGlobals (front_move z.readings) (globals_of (all c z)) (globals_of (all c z)) =
@@ -267,7 +267,7 @@ module _ {old : List ℕ} {k : ℕ} {new : List ℕ} (c : Cutting old k new) (z 
         its_laid =
             laid (tokens_in c.lexing.old_tokens) (names_cells c.lexing.old_names) (callee_in (all c z))
             (function_typed (tokens_in c.lexing.old_tokens) (globals_of (all c z)) o untyped).table none o;
-        new-one =
+        new_one =
             record {
               move = front_move z.readings;
               size = c.lexing.opening;
@@ -306,7 +306,7 @@ module _ {old : List ℕ} {k : ℕ} {new : List ℕ} (c : Cutting old k new) (z 
       → Through g' o
   unfolding edited
   behind_through g' o r p q =
-      let e = edited z.readings z.lexed c.lexing.new-opens-kind c.front in
+      let e = edited z.readings z.lexed c.lexing.new_opens_kind c.front in
       let m = old_back_move z.readings in
       record {
         tokens = z.readings.rest;
@@ -318,11 +318,11 @@ module _ {old : List ℕ} {k : ℕ} {new : List ℕ} (c : Cutting old k new) (z 
             (λ y. callee_in (all c z) (m.name y))
             (function_typed (tokens_in z.readings.rest) (λ y. globals_of (all c z) (m.name y)) r untyped).table
             none r;
-        new-one =
+        new_one =
             record {
               move = new_back_move z.readings;
               size = length z.readings.rest;
-              tokens = e.behind-new;
+              tokens = e.behind_new;
               function = p.0;
               written_as = p.1;
               names = new_back_name z.readings z.lexed;
@@ -346,7 +346,7 @@ module _ {old : List ℕ} {k : ℕ} {new : List ℕ} (c : Cutting old k new) (z 
   behind_others : Each Through x.behind' c.behind
   unfolding edited
   behind_others =
-      each-meet behind_through (each_both x.read-new writing.behind-new)
+      each-meet behind_through (each_both x.read-new writing.behind_new)
       (each_both x.read_old writing.behind_old)
 
   pub as_many : length (x.before' ++ (x.f ∷ x.behind')) ≡ length (all c z)
@@ -369,6 +369,6 @@ module _ {old : List ℕ} {k : ℕ} {new : List ℕ} (c : Cutting old k new) (z 
       let a = others_at x.f c.function before_others behind_others j h other in
       let t = a.related in
       ap (λ (i : ℕ). moved_reading text (check_of text) i) (sym a.counted)
-      ∙ side_moved t.new-one t.its_laid a.front a.back a.is
+      ∙ side_moved t.new_one t.its_laid a.front a.back a.is
       ∙ sym (side_moved t.old_one t.its_laid a.front' a.back' a.is')
       ∙ ap (λ (i : ℕ). moved_reading old_text (check_of old_text) i) a.counted'

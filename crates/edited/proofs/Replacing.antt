@@ -126,9 +126,9 @@ module _ (old : List ℕ) (toks : List Token) (ns : List Part) (lexed : lexed_fr
 
     pub record Whole : Type 0 where
       pub first_kind : first-new.kind ≡ 2
-      pub first-place : first-new.place ≡ 0
-      pub last-kind-is : last-new.kind ≡ 28
-      pub last-place : last-new.place + 1 ≡ length new
+      pub first_place : first-new.place ≡ 0
+      pub last_kind_is : last-new.kind ≡ 28
+      pub last_place : last-new.place + 1 ≡ length new
 
     pub is_whole_lem : Whole
     unfolding is_whole
@@ -139,9 +139,9 @@ module _ (old : List ℕ) (toks : List Token) (ns : List Part) (lexed : lexed_fr
         let c = pick-both _ _ b.1 in
         record {
           first_kind = eqb-true _ _ a.0;
-          first-place = eqb-true _ _ b.0;
-          last-kind-is = eqb-true _ _ c.0;
-          last-place = eqb-true _ _ c.1;
+          first_place = eqb-true _ _ b.0;
+          last_kind_is = eqb-true _ _ c.0;
+          last_place = eqb-true _ _ c.1;
         }
 
     -- a first token that is a global is not the end token
@@ -177,21 +177,21 @@ module _ (old : List ℕ) (toks : List Token) (ns : List Part) (lexed : lexed_fr
           closing = h.brace;
           order = omega (arith, h.order, h.behind);
           inner = brace-inner;
-          opens-kind = sym (ap (λ (t : TokenAt). t.kind) opening) ∙ h.opens;
+          opens_kind = sym (ap (λ (t : TokenAt). t.kind) opening) ∙ h.opens;
           opens_at = sym from_is ∙ sym (first-long old from to from-to to_inside);
-          opens-line = sym (ap (λ (t : TokenAt). t.line.0) opening);
-          closes-kind = sym (ap (λ (t : TokenAt). t.kind) closing) ∙ h.closes;
+          opens_line = sym (ap (λ (t : TokenAt). t.line.0) opening);
+          closes_kind = sym (ap (λ (t : TokenAt). t.kind) closing) ∙ h.closes;
           closes_at =
               let a = first-long old from to from-to to_inside in
               let b = part-long old from to from-to to_inside in
               omega (arith, to_is, a, b, from-to);
-          new_tokens_lem = new-toks;
-          new-names = new-ns;
-          new-lexes = new-lexed;
-          new-closing = length new-toks - 2;
-          new-inner = omega (arith, two);
-          new-opens-kind = sym (ap (λ (t : TokenAt). t.kind) begin) ∙ w.first_kind;
-          new-opens_at = sym (ap (λ (t : TokenAt). t.place) begin) ∙ w.first-place;
-          new-closes-kind = sym (ap (λ (t : TokenAt). t.kind) end) ∙ w.last-kind-is;
-          new-closes_at = ap (λ (k : ℕ). k + 1) (sym (ap (λ (t : TokenAt). t.place) end)) ∙ w.last-place;
+          tokens_new = new-toks;
+          new_names = new-ns;
+          new_lexes = new-lexed;
+          new_closing = length new-toks - 2;
+          new_inner = omega (arith, two);
+          new_opens_kind = sym (ap (λ (t : TokenAt). t.kind) begin) ∙ w.first_kind;
+          new_opens_at = sym (ap (λ (t : TokenAt). t.place) begin) ∙ w.first_place;
+          new_closes_kind = sym (ap (λ (t : TokenAt). t.kind) end) ∙ w.last_kind_is;
+          new_closes_at = ap (λ (k : ℕ). k + 1) (sym (ap (λ (t : TokenAt). t.place) end)) ∙ w.last_place;
         }

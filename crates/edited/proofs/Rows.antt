@@ -173,29 +173,29 @@ module _ (text : List ℕ) (a : Accepts text) (m : ℕ) where
       s.behind 0 rows)
 
   -- A CALLEE BY ITS SPELLING among the rows is the one among the functions
-  module _ (new new-names : List ℕ) where
-    pub globals_listed : (x : ℕ) → globals_spelled text (table_in m text) new new-names x
-        ≡ global_spelt (spelled_alike text (names_read text) new new-names x) a.functions
+  module _ (new new_names : List ℕ) where
+    pub globals_listed : (x : ℕ) → globals_spelled text (table_in m text) new new_names x
+        ≡ global_spelt (spelled_alike text (names_read text) new new_names x) a.functions
     globals_listed x =
         rw count-is
-        (globals_from text (tokens_read text) (names_read text) (table_in m text) (name_of new new-names x) a.functions 0
+        (globals_from text (tokens_read text) (names_read text) (table_in m text) (name_of new new_names x) a.functions 0
         all-rows)
 
-    pub callees_listed : (x : ℕ) → callees_spelled text (table_in m text) new new-names x
-        ≡ callee_spelt (spelled_alike text (names_read text) new new-names x) a.functions
+    pub callees_listed : (x : ℕ) → callees_spelled text (table_in m text) new new_names x
+        ≡ callee_spelt (spelled_alike text (names_read text) new new_names x) a.functions
     callees_listed x =
         rw count-is
-        (callees_from text (tokens_read text) (names_read text) (table_in m text) (name_of new new-names x) a.functions 0
+        (callees_from text (tokens_read text) (names_read text) (table_in m text) (name_of new new_names x) a.functions 0
         all-rows)
 
   -- no 41: the function at this row is kept
-  pub kept-listed : (new new-names : List ℕ) {k : ℕ} (s : Split a.functions k) (alone : List Tok)
-      → keeps (same_bytes (row_name text (table_in m text) k)) (signed_at (table_in m text) k) new new-names alone ≡ true
-      → Keeps (spelled_alike text (names_read text) new new-names) s.function alone
-  kept-listed new new-names {k} s alone e =
-      keeps-by (spelled_alike text (names_read text) new new-names) s.function
-      (same_bytes (row_name text (table_in m text) k)) (signed_at (table_in m text) k) new new-names alone e
-      (λ x. ap (λ (w : List ℕ). same_bytes w (name_of new new-names x)) (its_row s).name) (its_row s).signed
+  pub kept-listed : (new new_names : List ℕ) {k : ℕ} (s : Split a.functions k) (alone : List Tok)
+      → keeps (same_bytes (row_name text (table_in m text) k)) (signed_at (table_in m text) k) new new_names alone ≡ true
+      → Keeps (spelled_alike text (names_read text) new new_names) s.function alone
+  kept-listed new new_names {k} s alone e =
+      keeps-by (spelled_alike text (names_read text) new new_names) s.function
+      (same_bytes (row_name text (table_in m text) k)) (signed_at (table_in m text) k) new new_names alone e
+      (λ x. ap (λ (w : List ℕ). same_bytes w (name_of new new_names x)) (its_row s).name) (its_row s).signed
 
   -- the table is one, for each of its functions
   pub is_table_lem : 2881 ≤ m → (k : ℕ) → k < length a.functions → is_table text (table_in m text) k ≡ true

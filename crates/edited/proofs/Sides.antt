@@ -13,7 +13,7 @@ use Rattle.parser.specs.Moved.{Move, Sim}
 use Rattle.functions.specs.Functions.{Function}
 use Rattle.functions.specs.Answer.{counts_from}
 use Rattle.functions.specs.declared.Counts.{Counts}
-use Rattle.functions.proofs.Heads.{formals-few}
+use Rattle.functions.proofs.Heads.{formals_few}
 use Rattle.sema.specs.Program.{globals_of, function_typed}
 use Rattle.elaborate.specs.Types.{callee_in}
 use Rattle.unit.specs.Outcome.{checked, unit_d, slices_of, tables_of, none, untyped}
@@ -42,7 +42,7 @@ run-few : {ts : List Tok} {p : Place} {fs : List Function} → Run ts p fs → F
 run-few Run.none = tt
 run-few {ts} {p} (Run.more {f = f} h e r) =
     let u = function_up_to ts p.known p.types p.at f e in
-    (omega (arith, formals-few ts u.at1, ap length u.listed), run-few r)
+    (omega (arith, formals_few ts u.at1, ap length u.listed), run-few r)
 
 pub accepted-few : (ts : List Tok) (fs : List Function) → unit_d ts ≡ checked fs → FewFormals fs
 accepted-few ts fs e = run-few (cut ts 64 start fs [] ((accepted-by ts fs e).functions ∙ sym (append-nil fs))).run

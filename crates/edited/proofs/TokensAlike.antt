@@ -67,10 +67,10 @@ nothing-carried T.Nop h g = refl
 nothing-carried T.Identity h g = refl
 nothing-carried T.EndOfFile h g = refl
 
-name-is : (f : ℕ → ℕ) (b : Bool) (x x' : ℕ) → pick b x 0 ≡ pick b (f (pick b x' 0)) (pick b x' 0) → b ≡ true → x ≡ f x'
+name_is : (f : ℕ → ℕ) (b : Bool) (x x' : ℕ) → pick b x 0 ≡ pick b (f (pick b x' 0)) (pick b x' 0) → b ≡ true → x ≡ f x'
 unfolding pick
-name-is f true x x' n e = n
-name-is f false x x' n e = absurd (let z : ◌≡◌ {A = ℕ} 0 1 = cc in omega arith)
+name_is f true x x' n e = n
+name_is f false x x' n e = absurd (let z : ◌≡◌ {A = ℕ} 0 1 = cc in omega arith)
 
 integer-is : (c : Bool) (x x' : ℕ) → pick c x 0 ≡ pick c x' 0 → (c ≡ false → x ≡ x') → x ≡ x'
 unfolding pick
@@ -102,7 +102,7 @@ module _ {m : Move} {o o' : Firsts} (q : Meets m o o') where
       let b : Bool = is_name (kind_of v') in
       let c : Bool = eqb (kind_of v') 4 in
       rw k
-      (picked b (carried v) (carried v') (name-is m.name b (carried v) (carried v') (rw k at n))
+      (picked b (carried v) (carried v') (name_is m.name b (carried v) (carried v') (rw k at n))
       (small_is b (carried v') m.names f)
       (λ e. integer-is c (carried v) (carried v') (rw k at i) (λ d.
       nothing-carried v (rw k e) (rw k d) ∙ sym (nothing-carried v' e d))))

@@ -57,9 +57,9 @@ pub record Edits (old : List ℕ) (k : ℕ) (new : List ℕ) : Type 0 where
   -- "keeping name, parameter types and return type": nor with 41, likewise
   pub keeps : (rechecked_as old k new).answer.number ≡ 41 → ⊥
   -- "the edited text stays inside the limits on bytes, tokens and names"
-  pub bytes-few : (read_of (edited_text old k new)).answer.number ≡ 31 → ⊥
-  pub tokens-few : (read_of (edited_text old k new)).answer.number ≡ 32 → ⊥
-  pub names-few : (read_of (edited_text old k new)).answer.number ≡ 33 → ⊥
+  pub bytes_few : (read_of (edited_text old k new)).answer.number ≡ 31 → ⊥
+  pub tokens_few : (read_of (edited_text old k new)).answer.number ≡ 32 → ⊥
+  pub names_few : (read_of (edited_text old k new)).answer.number ≡ 33 → ⊥
 
 -- What follows. ------------------------------------------------------------------------------------------------------
 
@@ -72,15 +72,15 @@ pub record SameRefusal (p : ℕ) (fresh alone : Checking) : Type 0 where
 
 pub record Demand3 (old : List ℕ) (k : ℕ) (new : List ℕ) : Type 0 where
   -- "accepts exactly when the whole edited text, read afresh, is accepted"
-  pub accepts-fresh : (rechecked_as old k new).answer.number ≡ 0 → (check_of (edited_text old k new)).answer.number ≡ 0
-  pub fresh-accepts : (check_of (edited_text old k new)).answer.number ≡ 0 → (rechecked_as old k new).answer.number ≡ 0
+  pub accepts_fresh : (rechecked_as old k new).answer.number ≡ 0 → (check_of (edited_text old k new)).answer.number ≡ 0
+  pub fresh_accepts : (check_of (edited_text old k new)).answer.number ≡ 0 → (rechecked_as old k new).answer.number ≡ 0
   pub refuses : ((check_of (edited_text old k new)).answer.number ≡ 0 → ⊥)
       → SameRefusal (begins_at old k) (check_of (edited_text old k new)) (rechecked_as old k new)
   -- "On acceptance its reading is the fresh one", lines as they are
-  pub new-reads : (check_of (edited_text old k new)).answer.number ≡ 0
+  pub new_reads : (check_of (edited_text old k new)).answer.number ≡ 0
       → reading_of (edited_text old k new) (check_of (edited_text old k new)) k ≡ reading_of new (rechecked_as old k new) 0
   -- .. where the replaced one stood
-  pub new-begins : (check_of (edited_text old k new)).answer.number ≡ 0
+  pub new_begins : (check_of (edited_text old k new)).answer.number ≡ 0
       → begins_at (edited_text old k new) k ≡ begins_at old k
   -- "and all others read as before, but for name numbers and moved lines and places"
   pub as_many : (check_of (edited_text old k new)).answer.number ≡ 0

@@ -11,10 +11,10 @@ pub record Case : Type 0 where
   pub alone : Checking
   pub fresh : Checking
   -- number and message of each; no message where it is accepted
-  pub alone-number : ℕ
-  pub alone-says : String
-  pub fresh-number : ℕ
-  pub fresh-says : String
+  pub alone_number : ℕ
+  pub alone_says : String
+  pub fresh_number : ℕ
+  pub fresh_says : String
 
 -- function k of the old text becomes the new one
 abbrev becomes : List ℕ → ℕ → String → ℕ → String → ℕ → String → Case
@@ -22,10 +22,10 @@ becomes old k new n m n' m' =
     record {
       alone = rechecked_as old k (bytes new);
       fresh = check_of (edited_text old k (bytes new));
-      alone-number = n;
-      alone-says = m;
-      fresh-number = n';
-      fresh-says = m';
+      alone_number = n;
+      alone_says = m;
+      fresh_number = n';
+      fresh_says = m';
     }
 
 unfoldable cases : List Case
@@ -48,9 +48,9 @@ right : List Case → Bool
 right [] = true
 right (c ∷ cs) =
     let more = right cs in
-    pick (same_bytes (c.alone.answer.number ∷ c.fresh.answer.number ∷ []) (c.alone-number ∷ c.fresh-number ∷ []))
-    (pick (same_bytes c.alone.message (whole.line (bytes c.alone-says)))
-    (pick (same_bytes c.fresh.message (whole.line (bytes c.fresh-says))) more false) false) false
+    pick (same_bytes (c.alone.answer.number ∷ c.fresh.answer.number ∷ []) (c.alone_number ∷ c.fresh_number ∷ []))
+    (pick (same_bytes c.alone.message (whole.line (bytes c.alone_says)))
+    (pick (same_bytes c.fresh.message (whole.line (bytes c.fresh_says))) more false) false) false
 
 -- THE CLAIM
 all_right : right cases ≡ true

@@ -16,8 +16,8 @@ abbrev pub SpeltIn : List (List ℕ) → List (List ℕ) → ℕ → ℕ → Typ
 SpeltIn ws us x y = (x < length ws) × (y < length us) × (get_or ws x [] ≡ get_or us y [])
 
 -- whether name x of the new text is spelled as name y of the old one
-abbrev pub spelled_alike : (old old_names new new-names : List ℕ) → ℕ → ℕ → Bool
-spelled_alike old old_names new new-names x y = same_bytes (name_of old old_names y) (name_of new new-names x)
+abbrev pub spelled_alike : (old old_names new new_names : List ℕ) → ℕ → ℕ → Bool
+spelled_alike old old_names new new_names x y = same_bytes (name_of old old_names y) (name_of new new_names x)
 
 -- the tokens of a text, of the cells that `read_of` has of it
 abbrev pub tokens_in : List Token → List Tok
@@ -38,7 +38,7 @@ module _ {pre f post new : List ℕ} {line first : ℕ} {e : Edit pre f post new
 
   abbrev pub inside_move : Move
   inside_move =
-      move_of e.opening 0 (length pre) (spellings (pre ++ (new ++ post)) ns) (spellings new e.new-names)
+      move_of e.opening 0 (length pre) (spellings (pre ++ (new ++ post)) ns) (spellings new e.new_names)
       r.new_apart
 
   abbrev pub old_back_move : Move
@@ -48,5 +48,5 @@ module _ {pre f post new : List ℕ} {line first : ℕ} {e : Edit pre f post new
 
   abbrev pub new_back_move : Move
   new_back_move =
-      move_of (e.opening + (length e.new_tokens_lem - 1)) (get_or e.new_tokens_lem e.new-closing no_token).line.0
+      move_of (e.opening + (length e.tokens_new - 1)) (get_or e.tokens_new e.new_closing no_token).line.0
       (length pre + length new) (spellings (pre ++ (new ++ post)) ns) r.rest-words r.rest-apart

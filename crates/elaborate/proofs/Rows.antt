@@ -39,7 +39,7 @@ module _ (ts : List Tok) (names : List ℕ) (rows rest : List ℕ) (name : ℕ) 
         type-pick rows (eqb (get_or rows (name_at i) 0) name) (W.At i) (row_from rows (i + 1) (length fs) name),
         row_name_lem ts names f n.items n.blocks rows i s.0 s.1,
         row_type ts names f n.items n.blocks rows i s.0 s.1,
-        callees_from fs (counts_with n f) w.1 (rows_behind ts names rows rest n f fs w.0.formals-few h),
+        callees_from fs (counts_with n f) w.1 (rows_behind ts names rows rest n f fs w.0.formals_few h),
       )
 
   pub callees_stored : (fs : List Function) → FitsFrom (counts 0 0 0 0 0) fs

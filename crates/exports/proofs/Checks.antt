@@ -110,15 +110,15 @@ pub sizes_reached : (m t n f i a b p : List ℕ) → Sizes t n (slices f i a b p
     → cells.Sizes m t n (slices f i a b p)
 sizes_reached m t n f i a b p z h =
     record {
-      message-long = h;
-      tokens-long = omega (arith, z.tokens);
-      names-long = omega (arith, z.names);
-      functions-long = omega (arith, z.functions);
+      message_long = h;
+      tokens_long = omega (arith, z.tokens);
+      names_long = omega (arith, z.names);
+      functions_long = omega (arith, z.functions);
       long = record {
-        items-long = omega (arith, z.items);
-        arguments-long = omega (arith, z.arguments);
-        blocks-long = omega (arith, z.blocks);
-        predecessors-long = omega (arith, z.predecessors);
+        items_long = omega (arith, z.items);
+        arguments_long = omega (arith, z.arguments);
+        blocks_long = omega (arith, z.blocks);
+        predecessors_long = omega (arith, z.predecessors);
       };
     }
 

@@ -47,9 +47,9 @@ from-few ts (suc room) at =
     up (pick-few (eqb (token_at ts i).kind 31) (formals_from_d ts room (token_at ts i).next)
     (ended (consume_d ts i 26)) room (from-few ts room (token_at ts i).next) (omega arith)))
 
-pub formals-few : (ts : List Tok) (at : ℕ) → length (optional_formals ts at).list ≤ 16
+pub formals_few : (ts : List Tok) (at : ℕ) → length (optional_formals ts at).list ≤ 16
 unfolding optional_formals formals_d look
-formals-few ts at =
+formals_few ts at =
     let next = (token_at ts at).next in
     pick-few (eqb (token_at ts at).kind 25) _ (ended (C.At at)) 16
     (pick-few (eqb (token_at ts next).kind 26) (ended (C.At (token_at ts next).next)) (formals_from_d ts 16 next) 16

@@ -69,7 +69,7 @@ length-rows ts names n (f ∷ fs) h =
     omega (
       arith,
       length-append (pad_to 45 row) more,
-      length_pad 45 row (row-long ts names f n.items n.blocks h.0.formals-few),
+      length_pad 45 row (row-long ts names f n.items n.blocks h.0.formals_few),
       length-rows ts names (counts_with n f) fs h.1,
     )
 
@@ -132,11 +132,11 @@ length-predecessors n (f ∷ fs) =
 -- The counts stay inside the slices' least sizes. ---------------------------------------------------------------------
 
 pub record Inside (n : Counts) : Type 0 where
-  pub functions-few : n.functions ≤ 64
-  pub items-few : n.items ≤ 3072
-  pub arguments-few : n.arguments ≤ 3464
-  pub blocks-few : n.blocks ≤ 1024
-  pub predecessors-few : n.predecessors ≤ 2048
+  pub functions_few : n.functions ≤ 64
+  pub items_few : n.items ≤ 3072
+  pub arguments_few : n.arguments ≤ 3464
+  pub blocks_few : n.blocks ≤ 1024
+  pub predecessors_few : n.predecessors ≤ 2048
 
 pub inside-from : (n : Counts) (fs : List Function) → Inside n → FitsFrom n fs → Inside (counts_from n fs)
 unfolding counts_from FitsFrom
@@ -145,30 +145,30 @@ inside-from n (f ∷ fs) i h =
     let g = h.0 in
     inside-from (counts_with n f) fs
     (record {
-      functions-few = omega (arith, g.functions-few);
-      items-few = g.items-few;
-      arguments-few = g.arguments-few;
-      blocks-few = g.blocks-few;
-      predecessors-few = g.predecessors-few;
+      functions_few = omega (arith, g.functions_few);
+      items_few = g.items_few;
+      arguments_few = g.arguments_few;
+      blocks_few = g.blocks_few;
+      predecessors_few = g.predecessors_few;
     })
     h.1
 
 pub none_inside : Inside (counts 0 0 0 0 0)
 none_inside = record {
-  functions-few = omega arith;
-  items-few = omega arith;
-  arguments-few = omega arith;
-  blocks-few = omega arith;
-  predecessors-few = omega arith;
+  functions_few = omega arith;
+  items_few = omega arith;
+  arguments_few = omega arith;
+  blocks_few = omega arith;
+  predecessors_few = omega arith;
 }
 
 -- Each list fits its slice.
 pub record LaidFits (ts : List Tok) (names : List ℕ) (fs : List Function) : Type 0 where
   pub rows_fit_lem : length (length fs ∷ rows_cells ts names (counts 0 0 0 0 0) fs) ≤ 2881
-  pub items-fit : length (untyped_items (counts 0 0 0 0 0) fs) ≤ 24576
-  pub arguments-fit : length (untyped_arguments fs) ≤ 6928
-  pub blocks-fit : length (all_blocks (counts 0 0 0 0 0) fs) ≤ 8192
-  pub predecessors-fit : length (all_predecessors fs) ≤ 2048
+  pub items_fit : length (untyped_items (counts 0 0 0 0 0) fs) ≤ 24576
+  pub arguments_fit : length (untyped_arguments fs) ≤ 6928
+  pub blocks_fit : length (all_blocks (counts 0 0 0 0 0) fs) ≤ 8192
+  pub predecessors_fit : length (all_predecessors fs) ≤ 2048
 
 pub laid_fits : (ts : List Tok) (names : List ℕ) (fs : List Function) → FitsFrom (counts 0 0 0 0 0) fs
     → LaidFits ts names fs
@@ -176,11 +176,11 @@ laid_fits ts names fs h =
     let n : Counts = counts 0 0 0 0 0 in
     let i = inside-from n fs none_inside h in
     record {
-      rows_fit_lem = omega (arith, length-rows ts names n fs h, functions-counted n fs, i.functions-few);
-      items-fit = omega (arith, length-items n fs, i.items-few);
-      arguments-fit = omega (arith, length-arguments n fs, i.arguments-few);
-      blocks-fit = omega (arith, length-all_blocks n fs, i.blocks-few);
-      predecessors-fit = omega (arith, length-predecessors n fs, i.predecessors-few);
+      rows_fit_lem = omega (arith, length-rows ts names n fs h, functions-counted n fs, i.functions_few);
+      items_fit = omega (arith, length-items n fs, i.items_few);
+      arguments_fit = omega (arith, length-arguments n fs, i.arguments_few);
+      blocks_fit = omega (arith, length-all_blocks n fs, i.blocks_few);
+      predecessors_fit = omega (arith, length-predecessors n fs, i.predecessors_few);
     }
 
 -- Stores. -------------------------------------------------------------------------------------------------------------
@@ -209,8 +209,8 @@ module _ (ts : List Tok) (names F I A B P : List ℕ) (long-f : 2881 ≤ length 
     row-stored : sets (over F lf) (row_at n.functions) (pad_to 45 row) ≡ over F (lf ++ pad_to 45 row)
     unfolding row
     row-stored =
-        let long = length_pad 45 row (row-long ts names f n.items n.blocks fits.formals-few) in
-        sets_over F lf (pad_to 45 row) (row_at n.functions) h.rows (omega (arith, long, fits.functions-few))
+        let long = length_pad 45 row (row-long ts names f n.items n.blocks fits.formals_few) in
+        sets_over F lf (pad_to 45 row) (row_at n.functions) h.rows (omega (arith, long, fits.functions_few))
 
     one : stored_function ts names n (slices (over F lf) (over I li) (over A la) (over B lb) (over P lp)) f
         ≡ slices (over F (lf ++ pad_to 45 row)) (over I (li ++ items_cells n.arguments is))
@@ -219,12 +219,12 @@ module _ (ts : List Tok) (names F I A B P : List ℕ) (long-f : 2881 ≤ length 
     one =
         same-slices row-stored
         (sets_over I li (items_cells n.arguments is) (n.items * 8) h.items
-        (omega (arith, length-items_cells n.arguments is, fits.items-few)))
+        (omega (arith, length-items_cells n.arguments is, fits.items_few)))
         (sets_over A la (arguments_cells is) (n.arguments * 2) h.arguments
-        (omega (arith, length-arguments_cells is, fits.arguments-few)))
+        (omega (arith, length-arguments_cells is, fits.arguments_few)))
         (sets_over B lb (cells_of_blocks n is) (n.blocks * 8) h.blocks
-        (omega (arith, length-blocks n is, fits.blocks-few)))
-        (sets_over P lp (predecessors_in is) n.predecessors h.preds (omega (arith, fits.predecessors-few)))
+        (omega (arith, length-blocks n is, fits.blocks_few)))
+        (sets_over P lp (predecessors_in is) n.predecessors h.preds (omega (arith, fits.predecessors_few)))
 
     next : Before (counts_with n f) (lf ++ pad_to 45 row) (li ++ items_cells n.arguments is) (la ++ arguments_cells is)
         (lb ++ cells_of_blocks n is) (lp ++ predecessors_in is)
@@ -234,7 +234,7 @@ module _ (ts : List Tok) (names F I A B P : List ℕ) (long-f : 2881 ≤ length 
         arith,
         h.rows,
         length-append lf (pad_to 45 row),
-        length_pad 45 row (row-long ts names f n.items n.blocks fits.formals-few),
+        length_pad 45 row (row-long ts names f n.items n.blocks fits.formals_few),
       );
       items = omega (
         arith,

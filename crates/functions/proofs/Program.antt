@@ -72,19 +72,19 @@ module _ (ts : List Tok) (names : List ℕ) (s₀ : Slices) where
 
   pub record Going (at types : ℕ) (n : Counts) (s : Slices) : Type 0 where
     pub few : n.functions ≤ 64
-    pub types-few : types ≤ n.functions
+    pub types_few : types ≤ n.functions
     pub room : Room ts at n
-    pub functions-kept : length s.functions ≡ length s₀.functions
+    pub functions_kept : length s.functions ≡ length s₀.functions
     pub items_kept : length s.items ≡ length s₀.items
-    pub arguments-kept : length s.arguments ≡ length s₀.arguments
-    pub blocks-kept : length s.blocks ≡ length s₀.blocks
-    pub predecessors-kept : length s.predecessors ≡ length s₀.predecessors
+    pub arguments_kept : length s.arguments ≡ length s₀.arguments
+    pub blocks_kept : length s.blocks ≡ length s₀.blocks
+    pub predecessors_kept : length s.predecessors ≡ length s₀.predecessors
     pub ends : (left at types n s).end ≡ (program_d ts).end
     pub counted : counts_from n (left at types n s).functions ≡ counts_from (counts 0 0 0 0 0) (program_d ts).functions
     pub stored : stored_from ts names n s (left at types n s).functions
         ≡ stored_from ts names (counts 0 0 0 0 0) s₀ (program_d ts).functions
     pub number : n.functions + length (left at types n s).functions ≡ length (program_d ts).functions
-    pub known-few : TypesFew types (known_from s.functions 0 n.functions)
+    pub known_few : TypesFew types (known_from s.functions 0 n.functions)
     pub fits : FitsFrom n (left at types n s).functions → AllFit (program_d ts)
 
   pub begin : Room ts 0 (counts 0 0 0 0 0) → Going 0 0 (counts 0 0 0 0 0) s₀
@@ -92,18 +92,18 @@ module _ (ts : List Tok) (names : List ℕ) (s₀ : Slices) where
   begin room =
       record {
         few = omega arith;
-        types-few = omega arith;
+        types_few = omega arith;
         room = room;
-        functions-kept = refl;
+        functions_kept = refl;
         items_kept = refl;
-        arguments-kept = refl;
-        blocks-kept = refl;
-        predecessors-kept = refl;
+        arguments_kept = refl;
+        blocks_kept = refl;
+        predecessors_kept = refl;
         ends = refl;
         counted = refl;
         stored = refl;
         number = omega arith;
-        known-few = tt;
+        known_few = tt;
         fits = λ w. w;
       }
 
@@ -112,24 +112,24 @@ module _ (ts : List Tok) (names : List ℕ) (s₀ : Slices) where
     fitting w few-type =
         let r = w.room in
         record {
-          functions-few = w.few;
-          type-few = omega (arith, few-type, g.types-few, w.few);
-          formals-few = w.formals-few;
-          items-few = omega (arith, r.items-few, r.within.reached, r.within.few);
-          arguments-few = omega (arith, r.arguments-few, r.within.reached, r.within.few);
-          blocks-few = omega (arith, r.blocks-few, r.within.reached, r.within.few);
-          few-blocks = w.few-blocks;
-          predecessors-few =
-              omega (arith, r.predecessors-few, r.blocks-few, r.within.reached, r.within.few);
+          functions_few = w.few;
+          type_few = omega (arith, few-type, g.types_few, w.few);
+          formals_few = w.formals_few;
+          items_few = omega (arith, r.items_few, r.within.reached, r.within.few);
+          arguments_few = omega (arith, r.arguments_few, r.within.reached, r.within.few);
+          blocks_few = omega (arith, r.blocks_few, r.within.reached, r.within.few);
+          few_blocks = w.few_blocks;
+          predecessors_few =
+              omega (arith, r.predecessors_few, r.blocks_few, r.within.reached, r.within.few);
         }
 
     -- the end token
-    pub at-end : {t : TokenAt} → t ≡ token_at ts at → t.kind ≡ 38
+    pub at_end : {t : TokenAt} → t ≡ token_at ts at → t.kind ≡ 38
         → (U.Done n ≡ program_read (program_d ts))
         × (Held ts names (program_d ts).functions s₀ (with_count n.functions s) (program_d ts).end × AllFit
         (program_d ts))
     unfolding program_read counts_from stored_from FitsFrom opened
-    at-end q h =
+    at_end q h =
         let e = functions-end ts (64 - n.functions) (known_from s.functions 0 n.functions) types at q h in
         let f : (program_d ts).end ≡ C.At at = sym g.ends ∙ ap (λ (p : Program). p.end) e in
         let k : n.functions ≡ length (program_d ts).functions = omega (arith, rw e at g.number) in
@@ -157,7 +157,7 @@ module _ (ts : List Tok) (names : List ℕ) (s₀ : Slices) where
     unfolding counts_from stored_from types_after FitsFrom opened
     onward {f = f} q h a s' w =
         let e = functions_more ts n.functions (known_from s.functions 0 n.functions) types at w.few q h a in
-        let few-type = function-type-few ts (known_from s.functions 0 n.functions) types g.known-few
+        let few-type = function-type-few ts (known_from s.functions 0 n.functions) types g.known_few
         (leb 64 n.functions)
         at a in
         let same : left at types n s
@@ -165,25 +165,25 @@ module _ (ts : List Tok) (names : List ℕ) (s₀ : Slices) where
         e ∙ rw w.seen in
         record {
           few = omega (arith, w.few);
-          types-few = types_grow types f.head.type n.functions g.types-few;
+          types_few = types_grow types f.head.type n.functions g.types_few;
           room = w.room;
-          functions-kept = rw (w.stored, length-sets) g.functions-kept;
+          functions_kept = rw (w.stored, length-sets) g.functions_kept;
           items_kept = rw (w.stored, length-sets) g.items_kept;
-          arguments-kept = rw (w.stored, length-sets) g.arguments-kept;
-          blocks-kept = rw (w.stored, length-sets) g.blocks-kept;
-          predecessors-kept = rw (w.stored, length-sets) g.predecessors-kept;
+          arguments_kept = rw (w.stored, length-sets) g.arguments_kept;
+          blocks_kept = rw (w.stored, length-sets) g.blocks_kept;
+          predecessors_kept = rw (w.stored, length-sets) g.predecessors_kept;
           ends = rw same at g.ends;
           counted = rw same at g.counted;
           stored = ap (λ (z : Slices). stored_from ts names (counts_with n f) z
               (left f.next (types_after types f.head.type) (counts_with n f) s').functions) w.stored
               ∙ rw same at g.stored;
           number = omega (arith, rw same at g.number);
-          known-few =
+          known_few =
               rw w.seen
               (more-types types (types_after types f.head.type) (known_from s.functions 0 n.functions)
               (known_of f.head)
               (types_after_up types f.head.type) (omega (arith, few-type, types_after_up types f.head.type))
-              g.known-few);
+              g.known_few);
           fits = λ v. g.fits (rw same (fitting w few-type, v));
         }
 

@@ -42,7 +42,7 @@ length_variables [] = refl
 length_variables (v ∷ vs) = omega (arith, length_variables vs)
 
 module _ (ts : List Tok) (names : List ℕ) (f : Function) (first base n : ℕ) (rows : List ℕ)
-    (few : n < 64) (formals-few : length f.head.formals ≤ 16) (long : 2881 ≤ length rows) where
+    (few : n < 64) (formals_few : length f.head.formals ≤ 16) (long : 2881 ≤ length rows) where
   vs : List Variable
   vs = f.head.formals
 
@@ -104,7 +104,7 @@ module _ (ts : List Tok) (names : List ℕ) (f : Function) (first base n : ℕ) 
         at-type,
         at-ret,
         at_count,
-        le-leb (length vs) 16 formals-few,
+        le-leb (length vs) 16 formals_few,
         types-below (length vs) zs rows' at (14 + n * 45) (omega (arith, cells-long)),
         types,
       )

@@ -143,7 +143,7 @@ module _ (ts : List Tok) (names : List ℕ) (rows rest : List ℕ) where
       let at : i ≡ n.functions = omega arith in
       record { before = n; function = f; behind = s.0; fits = w.0; stands = rw at s.1 }
   each_row (f ∷ fs) n w h (suc k) i g e =
-      each_row fs (counts_with n f) w.1 (rows_behind n f fs w.0.formals-few h) k i (omega arith) (omega arith)
+      each_row fs (counts_with n f) w.1 (rows_behind n f fs w.0.formals_few h) k i (omega arith) (omega arith)
 
   module _ (fs : List Function) (fit : FitsFrom (counts 0 0 0 0 0) fs)
       (stand : drop 1 rows ≡ rows_cells ts names (counts 0 0 0 0 0) fs ++ rest) (i : ℕ) (there : i < length fs) where
@@ -154,7 +154,7 @@ module _ (ts : List Tok) (names : List ℕ) (rows rest : List ℕ) where
     types-stored =
         let n = row.before in
         rw (row_type ts names row.function n.items n.blocks rows i row.behind row.stands)
-        row.fits.type-few
+        row.fits.type_few
 
     pub items-stored : get_or rows (9 + i * 45) 0 + get_or rows (10 + i * 45) 0 ≤ 3072
     items-stored =
@@ -163,4 +163,4 @@ module _ (ts : List Tok) (names : List ℕ) (rows rest : List ℕ) where
           row_first ts names row.function n.items n.blocks rows i row.behind row.stands,
           row-items ts names row.function n.items n.blocks rows i row.behind row.stands,
         )
-        row.fits.items-few
+        row.fits.items_few

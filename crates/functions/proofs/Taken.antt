@@ -38,14 +38,14 @@ use Rattle.functions.proofs.HeaderOn.{HeaderIn, header_in}
 pub record Headed (x : HeaderAt) (h : Head) : Type 0 where
   pub head : Header
   pub is : x ≡ header head h.next
-  pub name-is : h.name ≡ head.name
-  pub formals-is : h.formals ≡ length head.formals
-  pub ret-is : h.ret ≡ type_cell head.ret
-  pub type-is : h.ty ≡ head.type
+  pub name_is : h.name ≡ head.name
+  pub formals_is : h.formals ≡ length head.formals
+  pub ret_is : h.ret ≡ type_cell head.ret
+  pub type_is : h.ty ≡ head.type
 
 pub headed : (x : HeaderAt) (h : Head) → H.At h ≡ header_read x → Headed x h
 headed (header hd next) h e =
-    record { head = hd; is = ap (header hd) cc; name-is = cc; formals-is = cc; ret-is = cc; type-is = cc }
+    record { head = hd; is = ap (header hd) cc; name_is = cc; formals_is = cc; ret_is = cc; type_is = cc }
 headed (no_header r) h e = absurd (let z : ◌≡◌ {A = ℕ} 0 1 = cc in omega arith)
 
 pub unheaded : (x : HeaderAt) (e : Refusal) → H.Refused e ≡ header_read x → x ≡ no_header e
@@ -56,14 +56,14 @@ unheaded (no_header r) e h = cc
 pub record Bodied (x : BuiltAt) (b : Body) : Type 0 where
   pub items : List Item
   pub is : x ≡ built items b.next
-  pub items-is : b.items ≡ length items
-  pub arguments-is : b.arguments ≡ arguments_count items
+  pub items_is : b.items ≡ length items
+  pub arguments_is : b.arguments ≡ arguments_count items
   pub blocks_is : b.blocks ≡ length (blocks_in items)
-  pub predecessors-is : b.predecessors ≡ length (predecessors_in items)
+  pub predecessors_is : b.predecessors ≡ length (predecessors_in items)
 
 pub bodied : (x : BuiltAt) (b : Body) → G.Done b ≡ build_read x → Bodied x b
 bodied (built is next) b e =
-    record { items = is; is = ap (built is) cc; items-is = cc; arguments-is = cc; blocks_is = cc; predecessors-is = cc }
+    record { items = is; is = ap (built is) cc; items_is = cc; arguments_is = cc; blocks_is = cc; predecessors_is = cc }
 bodied (not_built r) b e = absurd (let z : ◌≡◌ {A = ℕ} 0 1 = cc in omega arith)
 
 pub unbodied : (x : BuiltAt) (e : Refusal) → G.Refused e ≡ build_read x → x ≡ not_built e
@@ -132,18 +132,18 @@ module _ (ts : List Tok) (names : List ℕ) (at types : ℕ) (n : Counts) (rows�
         record {
           within =
               record { last = room.within.last; ends = room.within.ends; reached = on.1; few = room.within.few };
-          items-few = omega (arith, room.items-few, on.0);
-          arguments-few = omega (arith, room.arguments-few, on.0);
-          blocks-few = omega (arith, room.blocks-few, on.0);
-          predecessors-few = room.predecessors-few;
+          items_few = omega (arith, room.items_few, on.0);
+          arguments_few = omega (arith, room.arguments_few, on.0);
+          blocks_few = omega (arith, room.blocks_few, on.0);
+          predecessors_few = room.predecessors_few;
         }
 
     pub inner-behind : n.blocks * 4 + 2 ≤ h.next
-    inner-behind = omega (arith, room.blocks-few, on.0)
+    inner-behind = omega (arith, room.blocks_few, on.0)
 
     pub body_refused : (e : Refusal) → G.Refused e ≡ build_read inner → whole ≡ no_function e
     unfolding function_d then_header then_built
-    body_refused e g = rw (hd.is, ← hd.ret-is, unbodied inner e g)
+    body_refused e g = rw (hd.is, ← hd.ret_is, unbodied inner e g)
 
     module _ (rows₁ : List ℕ) (held : HeaderHeld n.functions rows₀ rows₁ read) (b : Body)
         (Bodied-by : G.Done b ≡ build_read inner)
@@ -158,7 +158,7 @@ module _ (ts : List Tok) (names : List ℕ) (at types : ℕ) (n : Counts) (rows�
 
       whole_is : whole ≡ function f
       unfolding function_d then_header then_built f
-      whole_is = rw (hd.is, ← hd.ret-is, bd.is)
+      whole_is = rw (hd.is, ← hd.ret_is, bd.is)
 
       header-kept : (rows₁ ≡ sets rows₀ (formals_at n.functions) (variables_cells hd.head.formals))
           × (length hd.head.formals ≤ 16) × (n.functions < 64)
@@ -177,11 +177,11 @@ module _ (ts : List Tok) (names : List ℕ) (at types : ℕ) (n : Counts) (rows�
             omega (arith, room.within.reached, room.within.few),
             body_kept.on,
             omega (arith, r.within.reached, r.within.few),
-            omega (arith, room.items-few, room.within.reached, room.within.few),
-            omega (arith, bd.items-is, r.items-few, r.within.reached, r.within.few),
-            omega (arith, room.blocks-few, room.within.reached, room.within.few),
-            omega (arith, bd.blocks_is, r.blocks-few, r.within.reached, r.within.few),
-            omega (arith, hd.formals-is, header-kept.1),
+            omega (arith, room.items_few, room.within.reached, room.within.few),
+            omega (arith, bd.items_is, r.items_few, r.within.reached, r.within.few),
+            omega (arith, room.blocks_few, room.within.reached, room.within.few),
+            omega (arith, bd.blocks_is, r.blocks_few, r.within.reached, r.within.few),
+            omega (arith, hd.formals_is, header-kept.1),
           )
 
       pub counts-fit : (n.functions ≤ 4096) × (n.items ≤ 4096) × (b.items ≤ 4096) × (n.arguments ≤ 4096)
@@ -192,12 +192,12 @@ module _ (ts : List Tok) (names : List ℕ) (at types : ℕ) (n : Counts) (rows�
             omega (arith, header-kept.2),
             row_fits_lem.4,
             row_fits_lem.5,
-            omega (arith, room.arguments-few, room.within.reached, room.within.few),
-            omega (arith, bd.arguments-is, r.arguments-few, r.within.reached, r.within.few),
+            omega (arith, room.arguments_few, room.within.reached, room.within.few),
+            omega (arith, bd.arguments_is, r.arguments_few, r.within.reached, r.within.few),
             row_fits_lem.6,
             row_fits_lem.7,
-            omega (arith, room.predecessors-few, room.blocks-few, room.within.reached, room.within.few),
-            omega (arith, bd.predecessors-is, r.predecessors-few, r.blocks-few, r.within.reached, r.within.few),
+            omega (arith, room.predecessors_few, room.blocks_few, room.within.reached, room.within.few),
+            omega (arith, bd.predecessors_is, r.predecessors_few, r.blocks_few, r.within.reached, r.within.few),
           )
 
       module _ (rows₂ : List ℕ) (put : rows₂ ≡ sets (sets rows₁ (row_at n.functions)
@@ -214,7 +214,7 @@ module _ (ts : List Tok) (names : List ℕ) (at types : ℕ) (n : Counts) (rows�
         head_put =
             ap (sets rows₁ (row_at n.functions))
             (cells_same ts names f h.name h.ret h.ty n.items b.items n.blocks b.blocks h.formals
-            hd.name-is hd.ret-is hd.type-is bd.items-is bd.blocks_is hd.formals-is)
+            hd.name_is hd.ret_is hd.type_is bd.items_is bd.blocks_is hd.formals_is)
 
         row_put_lem : rows₂ ≡ sets rows₀ (row_at n.functions) (pad_to 45 (row_cells ts names f n.items n.blocks))
         unfolding f
@@ -223,7 +223,7 @@ module _ (ts : List Tok) (names : List ℕ) (at types : ℕ) (n : Counts) (rows�
             let vs = hd.head.formals in
             let long : length row ≡ 13 + h.formals * 2 =
             length-append (head_cells ts names f n.items n.blocks) (variables_cells vs)
-            ∙ omega (arith, length_variables vs, hd.formals-is) in
+            ∙ omega (arith, length_variables vs, hd.formals_is) in
             let end : formals_at n.functions + h.formals * 2 ≡ row_at n.functions + length row =
             omega (arith, long) in
             let left : 32 - h.formals * 2 ≡ 45 - length row = omega (arith, long) in
@@ -246,8 +246,8 @@ module _ (ts : List Tok) (names : List ℕ) (at types : ℕ) (n : Counts) (rows�
                   ∙ (seen ts names f n.items n.blocks n.functions rows₀ header-kept.2 header-kept.1
                   rows_long);
               room = body_kept.room;
-              formals-few = header-kept.1;
-              few-blocks = body_kept.few-blocks;
+              formals_few = header-kept.1;
+              few_blocks = body_kept.few_blocks;
             }
 
         pub held_whole : FunctionHeld ts names n (slices rows₀ items₀ arguments₀ blocks₀ preds₀)
@@ -265,6 +265,6 @@ module _ (ts : List Tok) (names : List ℕ) (at types : ℕ) (n : Counts) (rows�
             → F.Done b.next types' m ≡ function_read types n whole
         unfolding f
         answered types' m p q =
-            done-same types n m f types' h.ty b.items b.arguments b.blocks b.predecessors p hd.type-is
-            bd.items-is bd.arguments-is bd.blocks_is bd.predecessors-is q
+            done-same types n m f types' h.ty b.items b.arguments b.blocks b.predecessors p hd.type_is
+            bd.items_is bd.arguments_is bd.blocks_is bd.predecessors_is q
             ∙ ap (function_read types n) (sym whole_is)

@@ -109,16 +109,16 @@ module _ (ts : List Tok) (void : Bool) (named at : ℕ) (n : Counts)
 
     few-items : n.items + c.items ≤ 3072
     few-items =
-        omega (arith, bounds.items-few, room.items-few, stored.on.reached, stored.on.few, ended.1)
+        omega (arith, bounds.items_few, room.items_few, stored.on.reached, stored.on.few, ended.1)
 
-    items-long : length items ≡ length items₀
-    items-long = ap length stored.items_are ∙ length-sets items₀ (n.items * 8) (items_cells n.arguments is)
+    items_long : length items ≡ length items₀
+    items_long = ap length stored.items_are ∙ length-sets items₀ (n.items * 8) (items_cells n.arguments is)
 
     parts : parts_at items n.items c.items ≡ shapes_of is
     parts =
         ap (λ (k : ℕ). parts_at items n.items k) ended.1
         ∙ parts_stored items items₀ n.arguments n.items is stored.items_are
-        (omega (arith, few-items, ended.1, long.items-long))
+        (omega (arith, few-items, ended.1, long.items_long))
 
     -- the labels stand at the front
     labels-front : take (length (labels_of body.items)) labels ≡ labels_of body.items
@@ -129,21 +129,21 @@ module _ (ts : List Tok) (void : Bool) (named at : ℕ) (n : Counts)
         rw (stored.labels_are, sets-eq ls labels₀ 0 fits) (take-append_seam ls (drop (0 + length ls) labels₀))
 
     few-filled : (n.blocks + filled true (shapes_of is)) * 4 ≤ 4096
-    few-filled = omega (arith, bounds.blocks-few, behind, stored.on.reached, stored.on.few)
+    few-filled = omega (arith, bounds.blocks_few, behind, stored.on.reached, stored.on.few)
 
     pub ready : Ready items n.items c.items labels c.labels blocks₀ n.blocks preds₀ n.predecessors
     ready =
         record {
-          items_there = omega (arith, few-items, items-long, long.items-long);
+          items_there = omega (arith, few-items, items_long, long.items_long);
           few-items = few-items;
           few-labels = omega (arith, ended.3, stored.few-labels);
           labels_there = omega (arith, ended.3, stored.few-labels, labels-long);
           labels_are =
               rw (ended.3, parts, names-closed void 0 0 body.items) labels-front;
-          few-blocks = rw parts (omega (arith, few-filled));
-          blocks_there = long.blocks-long;
-          few-before = room.predecessors-few;
-          predecessors_there = long.predecessors-long;
+          few_blocks = rw parts (omega (arith, few-filled));
+          blocks_there = long.blocks_long;
+          few-before = room.predecessors_few;
+          predecessors_there = long.predecessors_long;
         }
 
     pub link_refused : (e : Refusal) → L.Refused e ≡ link_d named (parts_at items n.items c.items)
@@ -193,21 +193,21 @@ module _ (ts : List Tok) (void : Bool) (named at : ℕ) (n : Counts)
               room =
                   record {
                     within = stored.on;
-                    items-few = omega (arith, bounds.items-few, room.items-few);
-                    arguments-few =
+                    items_few = omega (arith, bounds.items_few, room.items_few);
+                    arguments_few =
                         omega (
                           arith,
-                          bounds.arguments-few,
-                          room.arguments-few,
+                          bounds.arguments_few,
+                          room.arguments_few,
                           arguments_count-closed void
                               body.items,
                         );
-                    blocks-few =
-                        omega (arith, bounds.blocks-few, behind, blocks-counted named (shapes_of is) linked_to.0);
-                    predecessors-few = omega (arith, few-predecessors, room.predecessors-few);
+                    blocks_few =
+                        omega (arith, bounds.blocks_few, behind, blocks-counted named (shapes_of is) linked_to.0);
+                    predecessors_few = omega (arith, few-predecessors, room.predecessors_few);
                   };
-              few-blocks =
+              few_blocks =
                   at_most_256 (shapes_of is)
                   (omega (arith, stored.few-labels, ap length (names-closed void 0 0 body.items)));
-              on = omega (arith, bounds.blocks-few, behind);
+              on = omega (arith, bounds.blocks_few, behind);
             })

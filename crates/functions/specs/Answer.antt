@@ -61,17 +61,17 @@ build_read (not_built e) = B.Refused e
 -- The tokens so far have room for what is counted (crates/body/specs/Room.antt).
 pub record Room (ts : List Tok) (at : ℕ) (n : Counts) : Type 0 where
   pub within : Within ts at
-  pub items-few : n.items * 4 ≤ at * 3
-  pub arguments-few : n.arguments * 19 ≤ at * 16
-  pub blocks-few : n.blocks * 4 ≤ at
-  pub predecessors-few : n.predecessors ≤ n.blocks * 2
+  pub items_few : n.items * 4 ≤ at * 3
+  pub arguments_few : n.arguments * 19 ≤ at * 16
+  pub blocks_few : n.blocks * 4 ≤ at
+  pub predecessors_few : n.predecessors ≤ n.blocks * 2
 
 -- the least lengths of the slices of items, arguments, blocks and predecessors
 pub record Long (items arguments blocks preds : List ℕ) : Type 0 where
-  pub items-long : items_size ≤ length items
-  pub arguments-long : arguments_size ≤ length arguments
-  pub blocks-long : blocks_size ≤ length blocks
-  pub predecessors-long : predecessors_size ≤ length preds
+  pub items_long : items_size ≤ length items
+  pub arguments_long : arguments_size ≤ length arguments
+  pub blocks_long : blocks_size ≤ length blocks
+  pub predecessors_long : predecessors_size ≤ length preds
 
 unfoldable pub counts_from : Counts → List Function → Counts
 counts_from n [] = n
@@ -89,7 +89,7 @@ pub record Built (ts : List Tok) (n : Counts) (is : List Item) (next : ℕ)
       (block_cells n.items n.predecessors 0 (edges_in is) (edges_in is) (blocks_in is))
   pub predecessors_are : preds ≡ sets preds₀ n.predecessors (predecessors_in is)
   pub room : Room ts next (counts_after n is)
-  pub few-blocks : length (blocks_in is) ≤ most_blocks
+  pub few_blocks : length (blocks_in is) ≤ most_blocks
   pub on : 1 ≤ next
 
 abbrev pub BuildHeld : (ts : List Tok) (n : Counts)
@@ -133,8 +133,8 @@ pub record Taken (ts : List Tok) (names : List ℕ) (n : Counts) (f : Function) 
   pub seen : known_from s.functions 0 (n.functions + 1)
       ≡ known_from s₀.functions 0 n.functions ++ (known_of f.head ∷ [])
   pub room : Room ts f.next (counts_with n f)
-  pub formals-few : length f.head.formals ≤ most_formals
-  pub few-blocks : length (blocks_in f.items) ≤ most_blocks
+  pub formals_few : length f.head.formals ≤ most_formals
+  pub few_blocks : length (blocks_in f.items) ≤ most_blocks
 
 abbrev pub FunctionHeld : (ts : List Tok) (names : List ℕ) (n : Counts) (s₀ s : Slices) → FunctionAt → Type 0
 FunctionHeld ts names n s₀ s (function f) = Taken ts names n f s₀ s

@@ -37,14 +37,14 @@ all_predecessors (f ∷ fs) = predecessors_in f.items ++ all_predecessors fs
 
 -- A function behind those that are counted is inside document 01's limits, and its records inside the slices' sizes.
 pub record Fits (n : Counts) (f : Function) : Type 0 where
-  pub functions-few : n.functions < most_functions
-  pub type-few : f.head.type ≤ most_functions
-  pub formals-few : length f.head.formals ≤ most_formals
-  pub items-few : n.items + length f.items ≤ 3072
-  pub arguments-few : n.arguments + arguments_count f.items ≤ 3464
-  pub blocks-few : n.blocks + length (blocks_in f.items) ≤ 1024
-  pub few-blocks : length (blocks_in f.items) ≤ most_blocks
-  pub predecessors-few : n.predecessors + length (predecessors_in f.items) ≤ 2048
+  pub functions_few : n.functions < most_functions
+  pub type_few : f.head.type ≤ most_functions
+  pub formals_few : length f.head.formals ≤ most_formals
+  pub items_few : n.items + length f.items ≤ 3072
+  pub arguments_few : n.arguments + arguments_count f.items ≤ 3464
+  pub blocks_few : n.blocks + length (blocks_in f.items) ≤ 1024
+  pub few_blocks : length (blocks_in f.items) ≤ most_blocks
+  pub predecessors_few : n.predecessors + length (predecessors_in f.items) ≤ 2048
 
 unfoldable pub FitsFrom : Counts → List Function → Type 0
 FitsFrom n [] = Unit

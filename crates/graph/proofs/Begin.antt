@@ -35,8 +35,8 @@ module _ (n : ℕ) (met left entries₀ : List ℕ) (few : n ≤ 256) (none : me
       let w : waiting (take n met) ≡ n = ap waiting unmet ∙ waiting-fresh n in
       record {
         few = few;
-        long-met = rw none (length-replicate {A = ℕ} 256 0);
-        long-left = long;
+        long_met = rw none (length-replicate {A = ℕ} 256 0);
+        long_left = long;
         deep = d;
         small = λ k h. let q = at k h in omega arith;
         blocks = λ k h b. let q = at k h in omega (arith, (p (omega arith)).1);
@@ -88,8 +88,8 @@ module _ (n : ℕ) (met left entries₀ : List ℕ) (few : n ≤ 256) (none : me
         → Holds (coming g n (state met left entries top 256)) n met' left' at → Holds (walked h n) n met' left' at
     ends g h met' left' at same p =
         record {
-          long-met = p.long-met;
-          long-left = p.long-left;
+          long_met = p.long_met;
+          long_left = p.long_left;
           within = p.within;
           same = p.same ∙ whole g ∙ walk_depends_below g h n same;
         }

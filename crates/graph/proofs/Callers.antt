@@ -23,9 +23,9 @@ use Rattle.graph.proofs.Counts.{walked-long}
 use Rattle.graph.proofs.Once.{order_permutation}
 use Rattle.graph.proofs.Paths.{met_iff_path}
 
-pub blocks-few : (count : ℕ) → count ≤ 256 → at_most256 count ≡ count
+pub blocks_few : (count : ℕ) → count ≤ 256 → at_most256 count ≡ count
 unfolding at_most256 pick
-blocks-few count h = rw (le-ltb 256 count h)
+blocks_few count h = rw (le-ltb 256 count h)
 
 pub blocks_most : (count : ℕ) → at_most256 count ≤ 256
 unfolding at_most256 pick

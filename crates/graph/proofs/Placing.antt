@@ -62,7 +62,7 @@ module _ (g : ℕ → List ℕ) (n : ℕ) (met left : List ℕ) (at placed : ℕ
   left_is = ap (λ (s : Walk). s.left) walk.same
 
   placed_is : placed ≡ length (drop at left)
-  placed_is = omega (arith, length-drop at left, walk.long-left, walk.within)
+  placed_is = omega (arith, length-drop at left, walk.long_left, walk.within)
 
   -- there is room for the blocks never met
   pub room_unmet : placed + waiting (take n met) ≤ 256

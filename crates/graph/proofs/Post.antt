@@ -20,14 +20,14 @@ use Rattle.graph.proofs.Counts.{waiting-set, waiting-fresh, each-kept, walked-lo
 -- The blocks still new are those that are there and were not seen.
 record Sees (n : ℕ) (seen : List ℕ) (s : Walk) : Type 0 where
   new_there : (k : ℕ) → is_new k s ≡ true → k < n
-  new-unseen : (k : ℕ) → is_new k s ≡ true → In k seen → ⊥
+  new_unseen : (k : ℕ) → is_new k s ≡ true → In k seen → ⊥
   old_seen : (k : ℕ) → is_new k s ≡ false → (n ≤ k) ⊎ In k seen
 
 sees_fresh : (n : ℕ) → Sees n [] (fresh n)
 sees_fresh n =
     record {
       new_there = λ k e. rw (length-replicate {A = ℕ} n 0) at (new k (fresh n) e).there;
-      new-unseen = λ k e i. elim i [ ];
+      new_unseen = λ k e i. elim i [ ];
       old_seen = λ k e. by k e (dec_lt k n);
     }
   where
@@ -46,8 +46,8 @@ sees_meet : (n v : ℕ) (seen : List ℕ) (s : Walk) → Sees n seen s → Sees 
 sees_meet n v seen s o =
     record {
       new_there = λ k e. o.new_there k (still k e);
-      new-unseen =
-          λ k e i. ⊎_elim (λ q. true≢false (sym e ∙ rw q (meet_self v s))) (λ j. o.new-unseen k (still k e) j)
+      new_unseen =
+          λ k e i. ⊎_elim (λ q. true≢false (sym e ∙ rw q (meet_self v s))) (λ j. o.new_unseen k (still k e) j)
           (in_cons k v seen i);
       old_seen =
           λ k e. ⊎_elim (λ q. inr (in_front k v seen q))
@@ -62,7 +62,7 @@ sees_meet n v seen s o =
     still k e = by k e (is_new k s) refl
 
 sees_leave : (n v : ℕ) (seen : List ℕ) (s : Walk) → Sees n seen s → Sees n seen (leave v s)
-sees_leave n v seen s o = record { new_there = o.new_there; new-unseen = o.new-unseen; old_seen = o.old_seen }
+sees_leave n v seen s o = record { new_there = o.new_there; new_unseen = o.new_unseen; old_seen = o.old_seen }
 
 module _ (g : ℕ → List ℕ) (n : ℕ) where
   -- A walk from s to t, and the rules' walk to the blocks vs.
@@ -95,7 +95,7 @@ module _ (g : ℕ → List ℕ) (n : ℕ) where
       record {
         out = f.out ++ (i.out ++ (v ∷ []));
         seen' = i.seen';
-        rules = into f.rules (f.sees.new_there v e) (f.sees.new-unseen v e) i.rules;
+        rules = into f.rules (f.sees.new_there v e) (f.sees.new_unseen v e) i.rules;
         sees = sees_leave n v i.seen' u i.sees;
         left = rw (i.left, f.left) (simp (reverse-append, append_assoc));
       }

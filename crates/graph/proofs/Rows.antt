@@ -16,8 +16,8 @@ loaded_none cells first rows counts =
     record {
       pairs = λ v h. absurd (omega arith);
       counted_so = λ v h. absurd (omega arith);
-      other-pairs = λ v h. refl;
-      other-counts = λ v h. refl;
+      other_pairs = λ v h. refl;
+      other_counts = λ v h. refl;
     }
 
 -- one block more
@@ -39,11 +39,11 @@ loaded_more cells first k rows₀ rows counts₀ counts b hr hc e p =
           (ap (λ (x : BlockRecord). x.to.0 ∷ x.other.0 ∷ []) e);
       counted_so = stored counts k b.successors 0 (λ v. (block_at cells (first + v)).successors) hc p.counted_so
           (ap (λ (x : BlockRecord). x.successors) e);
-      other-pairs =
+      other_pairs =
           λ v h. get_or-set_other rows k v (b.to.0 ∷ b.other.0 ∷ []) [] (λ z. omega arith)
-          ∙ p.other-pairs v (omega arith);
-      other-counts =
-          λ v h. get_or-set_other counts k v b.successors 0 (λ z. omega arith) ∙ p.other-counts v (omega arith);
+          ∙ p.other_pairs v (omega arith);
+      other_counts =
+          λ v h. get_or-set_other counts k v b.successors 0 (λ z. omega arith) ∙ p.other_counts v (omega arith);
     }
   where
     pair : ℕ → List ℕ

@@ -46,7 +46,7 @@ module _ (g : ℕ → List ℕ) (n : ℕ) (a : State) (ready : Ready n a) (some 
   below = resume g n a.entries (a.top - 1)
 
   long : length (take n a.met) ≡ n
-  long = length-take-le n a.met (omega (arith, ready.long-met, ready.few))
+  long = length-take-le n a.met (omega (arith, ready.long_met, ready.few))
 
   there : current a < 256 → current a < n
   there = ready.blocks (a.top - 1) (omega arith)
@@ -72,8 +72,8 @@ module _ (g : ℕ → List ℕ) (n : ℕ) (a : State) (ready : Ready n a) (some 
         ready =
             record {
               few = ready.few;
-              long-met = ready.long-met;
-              long-left = p.1;
+              long_met = ready.long_met;
+              long_left = p.1;
               deep = ready.deep;
               small = λ k l. ready.small k (omega arith);
               blocks = λ k l. ready.blocks k (omega arith);
@@ -104,8 +104,8 @@ module _ (g : ℕ → List ℕ) (n : ℕ) (a : State) (ready : Ready n a) (some 
         ready =
             record {
               few = ready.few;
-              long-met = ready.long-met;
-              long-left = ready.long-left;
+              long_met = ready.long_met;
+              long_left = ready.long_left;
               deep = ready.deep;
               small = λ k l. ready.small k (omega arith);
               blocks = λ k l. ready.blocks k (omega arith);
@@ -144,8 +144,8 @@ module _ (g : ℕ → List ℕ) (n : ℕ) (a : State) (ready : Ready n a) (some 
           ready =
               record {
                 few = ready.few;
-                long-met = length-set a.met (current a) 1 ∙ ready.long-met;
-                long-left = ready.long-left;
+                long_met = length-set a.met (current a) 1 ∙ ready.long_met;
+                long_left = ready.long_left;
                 deep = q.deep ∙ ready.deep;
                 small = q.small;
                 blocks = q.blocks;

@@ -69,8 +69,8 @@ size n a = a.top + 3 * waiting (take n a.met)
 -- of the blocks left for each block that is still to be left.
 pub record Ready (n : ℕ) (a : State) : Type 0 where
   pub few : n ≤ 256
-  pub long-met : length a.met ≡ 256
-  pub long-left : length a.left ≡ 256
+  pub long_met : length a.met ≡ 256
+  pub long_left : length a.left ≡ 256
   pub deep : length a.entries ≡ 513
   pub small : (k : ℕ) → k < a.top → get_or a.entries k 0 < 512
   pub blocks : (k : ℕ) → k < a.top → get_or a.entries k 0 < 256 → get_or a.entries k 0 < n
@@ -86,7 +86,7 @@ pub record Turned (successors : ℕ → List ℕ) (n : ℕ) (a a' : State) : Typ
 
 -- The arrays hold the walk s.
 pub record Holds (s : Walk) (n : ℕ) (met left : List ℕ) (at : ℕ) : Type 0 where
-  pub long-met : length met ≡ 256
-  pub long-left : length left ≡ 256
+  pub long_met : length met ≡ 256
+  pub long_left : length left ≡ 256
   pub within : at ≤ 256
   pub same : here n met left at ≡ s

@@ -59,8 +59,8 @@ pub record Loaded (cells : List ℕ) (first n : ℕ) (rows₀ rows : List (List 
   pub pairs : (v : ℕ) → v < n
       → get_or rows v [] ≡ (block_at cells (first + v)).to.0 ∷ (block_at cells (first + v)).other.0 ∷ []
   pub counted_so : (v : ℕ) → v < n → get_or counts v 0 ≡ (block_at cells (first + v)).successors
-  pub other-pairs : (v : ℕ) → n ≤ v → get_or rows v [] ≡ get_or rows₀ v []
-  pub other-counts : (v : ℕ) → n ≤ v → get_or counts v 0 ≡ get_or counts₀ v 0
+  pub other_pairs : (v : ℕ) → n ≤ v → get_or rows v [] ≡ get_or rows₀ v []
+  pub other_counts : (v : ℕ) → n ≤ v → get_or counts v 0 ≡ get_or counts₀ v 0
 
 -- How many blocks are looked at, of so many.
 unfoldable pub at_most256 : ℕ → ℕ

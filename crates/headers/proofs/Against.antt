@@ -20,9 +20,9 @@ use Rattle.headers.specs.Brought.{cells_from}
 use Rattle.headers.proofs.Brought.{RowSame, cell_same, types_same, at_most, cells_at_lem, length-cells}
 
 -- the token before the end token, counted in cells
-pub last-token : (cells : List ℕ) (n : ℕ) → n ≡ length cells / 4 - 2 → token_at (tokens_of cells) n
+pub last_token : (cells : List ℕ) (n : ℕ) → n ≡ length cells / 4 - 2 → token_at (tokens_of cells) n
     ≡ token_at (tokens_of cells) (length (tokens_of cells) - 2)
-last-token cells n e =
+last_token cells n e =
     let m : n ≡ length (tokens_of cells) - 2 = omega (arith, e, tokens-count cells) in
     ap (λ (k : ℕ). token_at (tokens_of cells) k) m
 

@@ -284,7 +284,7 @@ row_named old rows i r =
     let len = get_or rows (length_at i) 0 in
     let l : length (slice place (place + len) old) ≡ place + len - place =
     length-slice place (place + len) old r.name in
-    rw (row_name-part old rows i r) (omega (arith, r.name-length.0))
+    rw (row_name-part old rows i r) (omega (arith, r.name_length.0))
 
 module _ (old rows new names : List ℕ) (known number : ℕ) (out₀ : List ℕ) (r : Placed) (out : List ℕ)
     (t : Tabled old rows number) (v : Named new names known) (room : 2881 ≤ length out₀)

@@ -81,13 +81,13 @@ module _ (old rows : List ℕ) where
       record {
         name = leb-true _ _ n3.0;
         place = leb-true _ _ n1.0;
-        name-length = between_in _ _ _ n2.0;
+        name_length = between_in _ _ _ n2.0;
         line = between_in _ _ _ n3.1;
         ret = between_in _ _ _ t1.0;
         type = ltb-true _ _ t2.0;
         blocks = between_in _ _ _ t2.1;
         formals = leb-true _ _ f.0;
-        formal_types_lem = λ k l. rw zero-add at (formals_in_lem rows i _ 0 f.1 k l);
+        types_are = λ k l. rw zero-add at (formals_in_lem rows i _ 0 f.1 k l);
       }
 
   in_row : (i : ℕ) → RowInRange old rows i → row_fits old rows i ≡ true
@@ -95,11 +95,11 @@ module _ (old rows : List ℕ) where
   in_row i r =
       and_both
       (and_both (le-leb _ _ r.place)
-      (and_both (in_between _ _ _ r.name-length)
+      (and_both (in_between _ _ _ r.name_length)
       (and_both (le-leb _ _ r.name) (in_between _ _ _ r.line))))
       (and_both
       (and_both (in_between _ _ _ r.ret) (and_both (lt-ltb _ _ r.type) (in_between _ _ _ r.blocks)))
-      (and_both (le-leb _ _ r.formals) (in_formals rows i _ 0 (λ j l. rw zero-add (r.formal_types_lem j l)))))
+      (and_both (le-leb _ _ r.formals) (in_formals rows i _ 0 (λ j l. rw zero-add (r.types_are j l)))))
 
   rows_in : (n i : ℕ) → rows_fit old rows i n ≡ true → (j : ℕ) → j < n → RowInRange old rows (i + j)
   unfolding rows_fit

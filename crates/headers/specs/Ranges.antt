@@ -13,13 +13,13 @@ pub record RowInRange (text rows : List ℕ) (i : ℕ) : Type 0 where
   -- the name lies in the text
   pub name : get_or rows (place_at i) 0 + get_or rows (length_at i) 0 ≤ length text
   pub place : get_or rows (place_at i) 0 ≤ most_bytes
-  pub name-length : Between 2 most_name_bytes (get_or rows (length_at i) 0)
+  pub name_length : Between 2 most_name_bytes (get_or rows (length_at i) 0)
   pub line : Between 1 most_lines (get_or rows (line_at i) 0)
   pub ret : Between Types.int Types.void (get_or rows (ret_at i) 0)
   pub type : get_or rows (type_at i) 0 < most_functions
   pub blocks : Between 1 most_blocks (get_or rows (block_count_at i) 0)
   pub formals : get_or rows (count_at i) 0 ≤ most_formals
-  pub formal_types_lem : (k : ℕ) → k < get_or rows (count_at i) 0
+  pub types_are : (k : ℕ) → k < get_or rows (count_at i) 0
       → Between Types.int Types.bool (get_or rows (formal_type_at i k) 0)
 
 pub record TableInRange (text rows : List ℕ) : Type 0 where

@@ -52,7 +52,7 @@ pub record Braced (s : List ℕ) (line : ℕ) : Type 0 where
 pub braced : {s : List ℕ} {line : ℕ} {ts : List Token} {ns : List Part} → Lexes s line ts ns → (i : ℕ)
     → BraceIn s ts i (length s) → Braced s line
 braced {s} {line} {ts} v i b =
-    let c = cut_at v i b.before-end in
+    let c = cut_at v i b.before_end in
     record {
       front = c.front;
       place = (get_or ts i no_token).place;
@@ -77,10 +77,10 @@ pub record Known (pre f post new : List ℕ) (line first : ℕ) (e : Edit pre f 
   pub behind : ℕ
   pub counted : length front ≡ e.opening
   pub old : Lexes (pre ++ (f ++ post)) line e.old_tokens e.old_names
-  pub alone-new : Lexes new first e.new_tokens_lem e.new-names
+  pub alone_new : Lexes new first e.tokens_new e.new_names
   pub braced_new : Braced new first
-  pub behind-is : behind ≡ (get_or e.old_tokens e.closing no_token).line.0
-  pub here-is : braced_new.here ≡ (get_or e.new_tokens_lem e.new-closing no_token).line.0
+  pub behind_is : behind ≡ (get_or e.old_tokens e.closing no_token).line.0
+  pub here_is : braced_new.here ≡ (get_or e.tokens_new e.new_closing no_token).line.0
   pub through : List Item
   pub counted_through : length through ≡ e.closing + 1
   pub old_front : Run (pre ++ (f ++ post)) 0 line front (length pre) first
@@ -90,21 +90,21 @@ pub record Known (pre f post new : List ℕ) (line first : ℕ) (e : Edit pre f 
 pub known : {pre f post new : List ℕ} {line first : ℕ} (e : Edit pre f post new line first)
     → Known pre f post new line first e
 unfolding braced
-known {pre} {f} {post} {new} {line} {first} e = from old (cut_at old e.opening e.opens.before-end)
-    (cut_at old e.closing e.closes.before-end)
+known {pre} {f} {post} {new} {line} {first} e = from old (cut_at old e.opening e.opens.before_end)
+    (cut_at old e.closing e.closes.before_end)
   where
     old : Lexes (pre ++ (f ++ post)) line e.old_tokens e.old_names
     old = lexes-of (pre ++ (f ++ post)) line e.old_tokens e.old_names e.old_lexes
 
-    new-read : Lexes new first e.new_tokens_lem e.new-names
-    new-read = lexes-of new first e.new_tokens_lem e.new-names e.new-lexes
+    new-read : Lexes new first e.tokens_new e.new_names
+    new-read = lexes-of new first e.tokens_new e.new_names e.new_lexes
 
     in_old : (get_or e.old_tokens e.closing no_token).place < length (pre ++ (f ++ post))
     in_old =
         omega (arith, e.closes.ends_at, length-append pre (f ++ post), length-append f post)
 
-    last-token : Token
-    last-token =
+    last_token : Token
+    last_token =
         token X.RightBrace (get_or e.old_tokens e.closing no_token).line.0
         (get_or e.old_tokens e.closing no_token).place
 
@@ -121,12 +121,12 @@ known {pre} {f} {post} {new} {line} {first} e = from old (cut_at old e.opening e
           behind = (get_or e.old_tokens e.closing no_token).line.0;
           counted = c.counted;
           old = o;
-          alone-new = new-read;
-          braced_new = braced new-read e.new-closing e.new-closes;
-          behind-is = refl;
-          here-is = refl;
-          through = d.front ++ (Item.plain last-token ∷ []);
-          counted_through = omega (arith, length-append d.front (Item.plain last-token ∷ []), d.counted);
+          alone_new = new-read;
+          braced_new = braced new-read e.new_closing e.new_closes;
+          behind_is = refl;
+          here_is = refl;
+          through = d.front ++ (Item.plain last_token ∷ []);
+          counted_through = omega (arith, length-append d.front (Item.plain last_token ∷ []), d.counted);
           old_through = run_join d.until (Run.plain
               (symbol_piece (pre ++ (f ++ post)) _ _ X.RightBrace in_old (brace-symbol _ e.closes.brace))
               (stop-at e.closes.ends_at refl));
@@ -139,52 +139,52 @@ module _ {pre f post new : List ℕ} {line first : ℕ} {e : Edit pre f post new
     (k : Known pre f post new line first e) where
   -- post alone, read from line 0
   abbrev pub tail : Back (pre ++ f) post k.behind 0 0 k.back (length (pre ++ f ++ post)) k.old.last
-  tail = post_alone pre f post e.f-begins k.old_front k.old_back
+  tail = post_alone pre f post e.f_begins k.old_front k.old_back
 
   -- The pieces of the edited text: those of pre, those of the new text, moved, and those of post, moved.
   pub edited_items : Run (pre ++ (new ++ post)) 0 line
-      (k.front ++ (move_items (length pre) 0 k.alone-new.items
+      (k.front ++ (move_items (length pre) 0 k.alone_new.items
       ++ move_items (length pre + length new) (0 + k.braced_new.here) tail.items))
       (length (pre ++ (new ++ post))) (0 + (k.braced_new.here + tail.last))
   edited_items =
-      rw (braced_items k.alone-new k.braced_new).0
-      (edited_run pre f post e.f-begins k.old_front k.old_back new e.new-begins 0 first X.RightBrace
+      rw (braced_items k.alone_new k.braced_new).0
+      (edited_run pre f post e.f_begins k.old_front k.old_back new e.new_begins 0 first X.RightBrace
       (omega arith) k.braced_new.run k.braced_new.one k.braced_new.brace)
 
   -- the new text's last token is a closing brace
-  new-brace : (i : ℕ) → i + 1 ≡ length k.alone-new.toks → kind_of (get_or k.alone-new.toks i no_token).value ≡ 28
+  new-brace : (i : ℕ) → i + 1 ≡ length k.alone_new.toks → kind_of (get_or k.alone_new.toks i no_token).value ≡ 28
   new-brace i h =
-      let b = (braced_items k.alone-new k.braced_new).0 in
+      let b = (braced_items k.alone_new k.braced_new).0 in
       let B = Item.plain (token X.RightBrace k.braced_new.here k.braced_new.place) in
       let n : length k.braced_new.front ≡ i =
-      omega (arith, ap length b, length-append k.braced_new.front (B ∷ []), both-length k.alone-new.stand) in
-      let g : get_or k.alone-new.items i no_item ≡ B =
+      omega (arith, ap length b, length-append k.braced_new.front (B ∷ []), both-length k.alone_new.stand) in
+      let g : get_or k.alone_new.items i no_item ≡ B =
       ap (λ (l : List Item). get_or l i no_item) b ∙ get_or_at k.braced_new.front B [] no_item i n in
-      let s : Stands new (spellings new e.new-names) (get_or k.alone-new.items i no_item)
-      (get_or k.alone-new.toks i no_token) =
-      both_at no_item no_token k.alone-new.stand i (omega arith) in
-      let t : get_or k.alone-new.toks i no_token ≡ token X.RightBrace k.braced_new.here k.braced_new.place =
+      let s : Stands new (spellings new e.new_names) (get_or k.alone_new.items i no_item)
+      (get_or k.alone_new.toks i no_token) =
+      both_at no_item no_token k.alone_new.stand i (omega arith) in
+      let t : get_or k.alone_new.toks i no_token ≡ token X.RightBrace k.braced_new.here k.braced_new.place =
       rw g at s in
       ap (λ (u : Token). kind_of u.value) t
 
-  pub new-distinct : Distinct (spellings new e.new-names)
-  new-distinct = names-distinct new e.new-names k.alone-new.sound.distinct
+  pub new-distinct : Distinct (spellings new e.new_names)
+  new-distinct = names-distinct new e.new_names k.alone_new.sound.distinct
 
   -- THE NEW PART, in an accepted edited text.
   module _ {ts : List Token} {ns : List Part} (v : Lexes (pre ++ (new ++ post)) line ts ns) where
-    abbrev pub here : Placed (pre ++ (new ++ post)) ts ns k.front (move_items (length pre) 0 k.alone-new.items)
-    here = placed v k.front (move_items (length pre) 0 k.alone-new.items) _ (run-all v edited_items).0
+    abbrev pub here : Placed (pre ++ (new ++ post)) ts ns k.front (move_items (length pre) 0 k.alone_new.items)
+    here = placed v k.front (move_items (length pre) 0 k.alone_new.items) _ (run-all v edited_items).0
 
     pub new_related : (w w' : ℕ)
         → Sim (move_of (length k.front) 0 (length pre) (spellings (pre ++ (new ++ post)) ns)
-        (spellings new e.new-names)
-        (renamed-apart (spellings (pre ++ (new ++ post)) ns) (spellings new e.new-names) new-distinct))
-        (length k.alone-new.toks) (tokens_of (pad_to w (tokens_cells ts)))
-        (tokens_of (pad_to w' (tokens_cells e.new_tokens_lem)))
+        (spellings new e.new_names)
+        (renamed-apart (spellings (pre ++ (new ++ post)) ns) (spellings new e.new_names) new-distinct))
+        (length k.alone_new.toks) (tokens_of (pad_to w (tokens_cells ts)))
+        (tokens_of (pad_to w' (tokens_cells e.tokens_new)))
     new_related w w' =
-        part_related v new (length pre) 0 (slice-part pre new post) k.front k.alone-new.items
-        (run_inside k.alone-new.run (omega arith)) (spellings new e.new-names) new-distinct k.alone-new.toks
-        k.alone-new.stand here w w' e.new_tokens_lem _ k.alone-new.tokens new-brace
+        part_related v new (length pre) 0 (slice-part pre new post) k.front k.alone_new.items
+        (run_inside k.alone_new.run (omega arith)) (spellings new e.new_names) new-distinct k.alone_new.toks
+        k.alone_new.stand here w w' e.tokens_new _ k.alone_new.tokens new-brace
 
 -- THE REST, behind the replaced function: in the old text and in an accepted edited text its tokens are the same tokens
 -- of post alone, with its own names, moved and renamed to the one place and to the other.
@@ -198,7 +198,7 @@ end_of s last = token X.EndOfFile last (length s) ∷ []
 module _ {pre f post new : List ℕ} {line first : ℕ} {e : Edit pre f post new line first}
     (k : Known pre f post new line first e) where
   rest-inside : AllInside (length post) (tail k).items
-  rest-inside = run_inside (post_run pre f post e.f-begins k.old_front k.old_back) (omega arith)
+  rest-inside = run_inside (post_run pre f post e.f_begins k.old_front k.old_back) (omega arith)
 
   old_spelled : (a b : ℕ) → b ≤ length post
       → slice (length (pre ++ f) + a) (length (pre ++ f) + b) (pre ++ (f ++ post)) ≡ slice a b post
@@ -210,7 +210,7 @@ module _ {pre f post new : List ℕ} {line first : ℕ} {e : Edit pre f post new
 
   pub old_items : k.old.items ≡ k.through ++ move_items (length (pre ++ f)) k.behind (tail k).items
   old_items = (run-all k.old (run_join k.old_through k.old_back)).0 ∙ ap (λ (l : List Item). k.through ++ l)
-      (tail k).same-items
+      (tail k).same_items
 
   old_placed : (z : Placed (pre ++ (f ++ post)) e.old_tokens e.old_names k.through
       (move_items (length (pre ++ f)) k.behind (tail k).items))
@@ -273,12 +273,12 @@ module _ {pre f post new : List ℕ} {line first : ℕ} {e : Edit pre f post new
   module _ {ts : List Token} {ns : List Part} (v : Lexes (pre ++ (new ++ post)) line ts ns) where
     -- the items of the edited text up to post
     abbrev pub upto : List Item
-    upto = k.front ++ move_items (length pre) 0 k.alone-new.items
+    upto = k.front ++ move_items (length pre) 0 k.alone_new.items
 
     pub new_items : v.items ≡ upto ++ move_items (length pre + length new) (0 + k.braced_new.here) (tail k).items
     new_items =
         (run-all v (edited_items k)).0
-        ∙ sym (append_assoc k.front (move_items (length pre) 0 k.alone-new.items) _)
+        ∙ sym (append_assoc k.front (move_items (length pre) 0 k.alone_new.items) _)
 
     new_placed : (z : Placed (pre ++ (new ++ post)) ts ns upto
         (move_items (length pre + length new) (0 + k.braced_new.here) (tail k).items))
@@ -426,18 +426,18 @@ module _ {pre f post new : List ℕ} {line first : ℕ} {e : Edit pre f post new
         (tokens_of (pad_to w' (tokens_cells e.old_tokens)))
     pre_related w w' brace =
         part_sim (still (length front-table)) e.opening w w' ts e.old_tokens
-        (λ i h. rw (zero-add i) (pre_same i h).0) (omega (arith, e.opens.before-end))
+        (λ i h. rw (zero-add i) (pre_same i h).0) (omega (arith, e.opens.before_end))
         (λ i h. rw (zero-add i) (ap tok_of (pre_same i h).1 ∙ tok-still (tok_of (get_or e.old_tokens i no_token))))
         pre_fit
         (λ i h n. absurd (n (brace i h)))
 
     -- the names of the edited text, by spelling: those of pre, then what is new in the new text, then in post
     pub edited_names : spellings (pre ++ (new ++ post)) ns
-        ≡ entered (entered (entered [] (words_of pre k.front)) (words_of new k.alone-new.items))
+        ≡ entered (entered (entered [] (words_of pre k.front)) (words_of new k.alone_new.items))
         (words_of post (tail k).items)
     edited_names =
         let A = k.front in
-        let N = k.alone-new.items in
+        let N = k.alone_new.items in
         let M = move_items (length pre) 0 N in
         let Q = move_items (length pre + length new) (0 + k.braced_new.here) (tail k).items in
         let s = pre ++ (new ++ post) in
@@ -446,7 +446,7 @@ module _ {pre f post new : List ℕ} {line first : ℕ} {e : Edit pre f post new
           words_append s A (M ++ Q),
           words_append s M Q,
           words-front pre (new ++ post) A pre_inside,
-          words-moved s new (length pre) 0 (slice-part pre new post) N (run_inside k.alone-new.run (omega arith)),
+          words-moved s new (length pre) 0 (slice-part pre new post) N (run_inside k.alone_new.run (omega arith)),
           words-moved s post (length pre + length new) (0 + k.braced_new.here) (new-spelled k) (tail k).items
               (rest-inside k),
           entered_append [] (words_of pre A) (words_of new N ++ words_of post (tail k).items),
@@ -454,27 +454,27 @@ module _ {pre f post new : List ℕ} {line first : ℕ} {e : Edit pre f post new
         )
 
     -- so every word of the new text and of post is in the table
-    new-words : AllIn (spellings (pre ++ (new ++ post)) ns) (words_of new k.alone-new.items)
+    new-words : AllIn (spellings (pre ++ (new ++ post)) ns) (words_of new k.alone_new.items)
     new-words =
         let a = entered [] (words_of pre k.front) in
-        let b = entered a (words_of new k.alone-new.items) in
+        let b = entered a (words_of new k.alone_new.items) in
         rw edited_names
-        (all_grown (entered-grown b (words_of post (tail k).items)) (words_of new k.alone-new.items)
-        (entered_all a (words_of new k.alone-new.items)))
+        (all_grown (entered-grown b (words_of post (tail k).items)) (words_of new k.alone_new.items)
+        (entered_all a (words_of new k.alone_new.items)))
 
     rest-words : AllIn (spellings (pre ++ (new ++ post)) ns) (words_of post (tail k).items)
     rest-words =
         rw edited_names
-        (entered_all (entered (entered [] (words_of pre k.front)) (words_of new k.alone-new.items))
+        (entered_all (entered (entered [] (words_of pre k.front)) (words_of new k.alone_new.items))
         (words_of post (tail k).items))
 
     -- the new text's names are names of the edited text
-    pub new-named : (x : ℕ) → x < length (spellings new e.new-names)
-        → In (spellings (pre ++ (new ++ post)) ns) (get_or (spellings new e.new-names) x [])
+    pub new-named : (x : ℕ) → x < length (spellings new e.new_names)
+        → In (spellings (pre ++ (new ++ post)) ns) (get_or (spellings new e.new_names) x [])
     new-named x h =
-        let f = entered_only (spellings (pre ++ (new ++ post)) ns) [] (words_of new k.alone-new.items)
+        let f = entered_only (spellings (pre ++ (new ++ post)) ns) [] (words_of new k.alone_new.items)
         (λ i m. absurd (omega arith)) new-words x in
-        (rw (← k.alone-new.table) at f) h
+        (rw (← k.alone_new.table) at f) h
 
     -- and so are the names of post
     pub rest-named : (x : ℕ) → x < length (rest-table k).words

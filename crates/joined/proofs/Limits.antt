@@ -151,17 +151,17 @@ edited_limited {pre} {f} {post} {new} {line} {first} e = from (known e)
         let old : AllShort k.old.items = stands_short _ _ k.old.stand in
         let front = run-first k.old k.old_front in
         let a : AllShort k.front = short-front k.front front.later (rw front.whole at old) in
-        let n : AllShort k.alone-new.items = stands_short _ _ k.alone-new.stand in
+        let n : AllShort k.alone_new.items = stands_short _ _ k.alone_new.stand in
         let c : AllShort (tail k).items =
         short_unmoved (length (pre ++ f)) k.behind (tail k).items
         (short_back k.through _ (rw (old_items k) at old)) in
         let b = ascii_parts pre (f ++ post) k.old.sound.ascii in
         let d = ascii_parts f post b.1 in
         run_limited (pre ++ (new ++ post)) line _ _ (edited_items k)
-        (short-join k.front _ a (short-join (move_items (length pre) 0 k.alone-new.items) _
-        (short-moved (length pre) 0 k.alone-new.items n)
+        (short-join k.front _ a (short-join (move_items (length pre) 0 k.alone_new.items) _
+        (short-moved (length pre) 0 k.alone_new.items n)
         (short-moved (length pre + length new) (0 + k.braced_new.here) (tail k).items c)))
-        (ascii-join pre (new ++ post) b.0 (ascii-join new post k.alone-new.sound.ascii d.1))
+        (ascii-join pre (new ++ post) b.0 (ascii-join new post k.alone_new.sound.ascii d.1))
 
 -- its tokens and names, where it has not
 pub edited_lexes : {pre f post new : List ℕ} {line first : ℕ} → Edit pre f post new line first

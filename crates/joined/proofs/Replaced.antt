@@ -43,39 +43,39 @@ edit_of {pre} {f} {post} {new} {line} {first} r =
       old_tokens = r.old_tokens;
       old_names = r.old_names;
       old_lexes = r.old_lexes;
-      f-rest = drop 1 f;
-      f-begins = begins_with f 64 some (sym (first_of pre f post some) ∙ at_pre);
+      f_rest = drop 1 f;
+      f_begins = begins_with f 64 some (sym (first_of pre f post some) ∙ at_pre);
       opening = r.opening;
       opens = record {
-        before-end = omega (arith, r.order, r.inner);
+        before_end = omega (arith, r.order, r.inner);
         stands_at = r.opens_at;
         on_line =
-            r.opens-line;
+            r.opens_line;
       };
       closing = r.closing;
       closes = record {
-        before-end = r.inner;
+        before_end = r.inner;
         ends_at = r.closes_at;
-        brace = (token-says old r.closing r.inner).1 r.closes-kind;
+        brace = (token-says old r.closing r.inner).1 r.closes_kind;
       };
-      new_tokens_lem = r.new_tokens_lem;
-      new-names = r.new-names;
-      new-lexes = r.new-lexes;
-      new-rest = drop 1 new;
-      new-begins = begins_with new 64 (omega (arith, r.new-closes_at)) at_zero;
-      new-closing = r.new-closing;
-      new-closes = record {
-        before-end = r.new-inner;
-        ends_at = r.new-closes_at;
-        brace = (token-says alone r.new-closing r.new-inner).1 r.new-closes-kind;
+      tokens_new = r.tokens_new;
+      new_names = r.new_names;
+      new_lexes = r.new_lexes;
+      new_rest = drop 1 new;
+      new_begins = begins_with new 64 (omega (arith, r.new_closes_at)) at_zero;
+      new_closing = r.new_closing;
+      new_closes = record {
+        before_end = r.new_inner;
+        ends_at = r.new_closes_at;
+        brace = (token-says alone r.new_closing r.new_inner).1 r.new_closes_kind;
       };
     }
   where
     old : Lexes (pre ++ (f ++ post)) line r.old_tokens r.old_names
     old = lexes-of (pre ++ (f ++ post)) line r.old_tokens r.old_names r.old_lexes
 
-    alone : Lexes new first r.new_tokens_lem r.new-names
-    alone = lexes-of new first r.new_tokens_lem r.new-names r.new-lexes
+    alone : Lexes new first r.tokens_new r.new_names
+    alone = lexes-of new first r.tokens_new r.new_names r.new_lexes
 
     some : 0 < length f
     some =
@@ -90,12 +90,12 @@ edit_of {pre} {f} {post} {new} {line} {first} r =
     at_pre : get_or (pre ++ (f ++ post)) (length pre) 0 ≡ 64
     at_pre =
         ap (λ (x : ℕ). get_or (pre ++ (f ++ post)) x 0) (sym r.opens_at)
-        ∙ (token-says old r.opening (omega (arith, r.order, r.inner))).0 r.opens-kind
+        ∙ (token-says old r.opening (omega (arith, r.order, r.inner))).0 r.opens_kind
 
     at_zero : get_or new 0 0 ≡ 64
     at_zero =
-        ap (λ (x : ℕ). get_or new x 0) (sym r.new-opens_at)
-        ∙ (token-says alone 0 (omega (arith, r.new-inner))).0 r.new-opens-kind
+        ap (λ (x : ℕ). get_or new x 0) (sym r.new_opens_at)
+        ∙ (token-says alone 0 (omega (arith, r.new_inner))).0 r.new_opens_kind
 
 -- What is the same in the old text, the new text and the edited text, where that is accepted. ----------------------
 
@@ -108,30 +108,30 @@ module _ {pre f post new : List ℕ} {line first : ℕ} {e : Edit pre f post new
     (k : Known pre f post new line first e) {ts : List Token} {ns : List Part}
     (v : Lexes (pre ++ (new ++ post)) line ts ns) where
   -- how many tokens there are in each part
-  new-count : length k.alone-new.toks ≡ length e.new_tokens_lem - 1
+  new-count : length k.alone_new.toks ≡ length e.tokens_new - 1
   new-count =
       omega (
         arith,
-        ap length k.alone-new.tokens,
-        length-append k.alone-new.toks
-            (end_of new k.alone-new.last),
+        ap length k.alone_new.tokens,
+        length-append k.alone_new.toks
+            (end_of new k.alone_new.last),
       )
 
   rest-count : length (rest-alone k).toks + 1 ≡ length ((rest-alone k).toks ++ end_of post (tail k).last)
   rest-count = sym (length-append (rest-alone k).toks (end_of post (tail k).last))
 
-  upto_count : length (upto k v) ≡ e.opening + (length e.new_tokens_lem - 1)
+  upto_count : length (upto k v) ≡ e.opening + (length e.tokens_new - 1)
   upto_count =
       omega (
         arith,
-        length-append k.front (move_items (length pre) 0 k.alone-new.items),
-        length_moved (length pre) 0 k.alone-new.items,
-        both-length k.alone-new.stand,
+        length-append k.front (move_items (length pre) 0 k.alone_new.items),
+        length_moved (length pre) 0 k.alone_new.items,
+        both-length k.alone_new.stand,
         new-count,
         k.counted,
       )
 
-  all-count : length ts ≡ e.opening + (length e.new_tokens_lem - 1) + length
+  all-count : length ts ≡ e.opening + (length e.tokens_new - 1) + length
       ((rest-alone k).toks ++ end_of post (tail k).last)
   all-count =
       let M = move_items (length pre + length new) (0 + k.braced_new.here) (tail k).items in
@@ -168,7 +168,7 @@ module _ {pre f post new : List ℕ} {line first : ℕ} {e : Edit pre f post new
   readings_known =
       let W = spellings (pre ++ (new ++ post)) ns in
       let old = spellings (pre ++ (f ++ post)) e.old_names in
-      let alone = spellings new e.new-names in
+      let alone = spellings new e.new_names in
       let P = (rest-table k).words in
       record {
         distinct = edited_distinct k v;
@@ -183,7 +183,7 @@ module _ {pre f post new : List ℕ} {line first : ℕ} {e : Edit pre f post new
             sim_same W alone (renamed-apart W alone (new-distinct k)) k.counted refl refl new-count
             (new_related k v w w');
         new-spelled = λ x h.
-            renamed-spelled W alone x (new-named k v x (omega (arith, length-spellings new e.new-names)));
+            renamed-spelled W alone x (new-named k v x (omega (arith, length-spellings new e.new_names)));
         rest = (rest-alone k).toks ++ end_of post (tail k).last;
         rest-words = P;
         rest-few = omega (
@@ -195,14 +195,14 @@ module _ {pre f post new : List ℕ} {line first : ℕ} {e : Edit pre f post new
         counted_old = old_count;
         old_apart = renamed-apart old P (rest-distinct k);
         rest_old = λ w w'.
-            sim_same old P (renamed-apart old P (rest-distinct k)) k.counted_through k.behind-is
+            sim_same old P (renamed-apart old P (rest-distinct k)) k.counted_through k.behind_is
             (length-append pre f)
             rest-count (rest_in_old k w w');
         old_spelled = λ x h. renamed-spelled old P x ((rest-table k).in_table x h);
         rest-apart = renamed-apart W P (rest-distinct k);
         rest-new = λ w w'.
             sim_same W P (renamed-apart W P (rest-distinct k)) upto_count
-            (zero-add k.braced_new.here ∙ k.here-is) refl
+            (zero-add k.braced_new.here ∙ k.here_is) refl
             rest-count (rest_in_edited k v w w');
         rest-spelled = λ x h. renamed-spelled W P x (rest-named k v x h);
       }

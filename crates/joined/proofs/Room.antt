@@ -112,18 +112,18 @@ done_as (Outcome.done ts ns) h = (ts, ns, refl)
 done_as (Outcome.refused r) h = absurd h
 done_as Outcome.cut h = absurd h
 
-room-is : (ts : List Token) (t : Token) (more : Outcome) → length ts < 4096 → IsDone more → IsDone (then_room ts t more)
+room_is : (ts : List Token) (t : Token) (more : Outcome) → length ts < 4096 → IsDone more → IsDone (then_room ts t more)
 unfolding then_room pick
-room-is ts t more l h = rw (lt-ltb (length ts) 4096 l) h
+room_is ts t more l h = rw (lt-ltb (length ts) 4096 l) h
 
 -- 4,096 tokens with the end token, and 1,024 names
 numbered-done : (s : List ℕ) (ts : List Token) (ns : List Part) (is : List Item) (c : Cursor) → AllShort is
     → length ts + length is < 4096 → length (entered (spellings s ns) (words_of s is)) ≤ 1024
     → IsDone (numbered_from s ts ns (before is (Pieces.end c)))
 unfolding numbered_from before words_of entered identified then_identified pick
-numbered-done s ts ns [] c h l n = room-is ts _ _ (omega arith) tt
+numbered-done s ts ns [] c h l n = room_is ts _ _ (omega arith) tt
 numbered-done s ts ns (Item.plain t ∷ is) c h l n =
-    room-is ts t _ (omega arith)
+    room_is ts t _ (omega arith)
     (numbered-done s (ts ++ (t ∷ [])) ns is c h.1 (omega (arith, length-append ts (t ∷ []))) n)
 numbered-done s ts ns (Item.spelled x ∷ is) c h l n =
     rw (le-ltb 64 x.len h.0)
@@ -135,7 +135,7 @@ numbered-done s ts ns (Item.spelled x ∷ is) c h l n =
         → length (entered (with_word (spellings s ns) (spelling_of s x) f) (words_of s is)) ≤ 1024
         → IsDone (then_identified ns x (on_found (length ns) x f) (λ i ms. then_room ts (named x i)
         (numbered_from s (ts ++ (named x i ∷ [])) ms (before is (Pieces.end c)))))
-    by later (F.At i) m = room-is ts (named x i) _ (omega arith) (later (named x i) ns m)
+    by later (F.At i) m = room_is ts (named x i) _ (omega arith) (later (named x i) ns m)
     by later F.Nothing m =
         let ws = spellings s ns ++ (spelling_of s x ∷ []) in
         let few : length ns < 1024 =
@@ -147,7 +147,7 @@ numbered-done s ts ns (Item.spelled x ∷ is) c h l n =
         ) in
         let t = named x (record { 0 = length ns }) in
         rw (lt-ltb (length ns) 1024 few)
-        (room-is ts t _ (omega arith)
+        (room_is ts t _ (omega arith)
         (later t (ns ++ (part x.place x.len ∷ [])) (rw (spellings_snoc s ns (part x.place x.len)) m)))
 
 -- A TEXT WITHIN THE LIMITS IS ACCEPTED

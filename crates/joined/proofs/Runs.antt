@@ -168,7 +168,7 @@ run_of-pieces (suc n) s at line is c h e =
         (Run.plain (q ∙ ap (λ (z : Token). L.Token z d) f) z.0, z.1)
     on later (L.End d) q p [] e =
         let f : d ≡ c = cc in
-        let g : at ≡ length s = omega (arith, p.at-end) in
+        let g : at ≡ length s = omega (arith, p.at_end) in
         let l : line ≡ c.line = sym p.same_line ∙ ap (λ (x : Cursor). x.line) f in
         (stop-at g l, sym (ap (λ (x : Cursor). x.place) f) ∙ p.same_place ∙ g)
     on later (L.End d) q p (Item.spelled y ∷ is) e = absurd (let z : ◌≡◌ {A = ℕ} 0 1 = cc in omega arith)
@@ -193,8 +193,8 @@ split_from {s} {at} {line} (Run.spelled {a = a} {l = l} {n = n} {is = ks} e r) h
     let f : Item.spelled n ≡ i = cc in
     let g : ks ≡ js = cc in
     rw (← f, ← g) (
-      stop-at (sym p.name-place) (sym p.name-line),
-      start-at (sym p.name-place) (sym p.name-line)
+      stop-at (sym p.name_place) (sym p.name_line),
+      start-at (sym p.name_place) (sym p.name_line)
           (Run.spelled e r),
     )
 split_from {s} {at} {line} (Run.spelled {a = a} {l = l} {n = n} {is = ks} e r) h (k ∷ is) i js q =
@@ -207,8 +207,8 @@ split_from {s} {at} {line} (Run.plain {a = a} {l = l} {t = t} {is = ks} e r) h [
     let f : Item.plain t ≡ i = cc in
     let g : ks ≡ js = cc in
     rw (← f, ← g) (
-      stop-at (sym p.token-place) (sym p.token-line),
-      start-at (sym p.token-place) (sym p.token-line)
+      stop-at (sym p.token_place) (sym p.token_line),
+      start-at (sym p.token_place) (sym p.token_line)
           (Run.plain e r),
     )
 split_from {s} {at} {line} (Run.plain {a = a} {l = l} {t = t} {is = ks} e r) h (k ∷ is) i js q =
@@ -230,7 +230,7 @@ pub record Back (p s : List ℕ) (down at line : ℕ) (is : List Item) (a l : �
   pub place : ℕ
   pub last : ℕ
   pub run : Run s at line items place last
-  pub same-items : is ≡ move_items (length p) down items
+  pub same_items : is ≡ move_items (length p) down items
   pub same_place : a ≡ length p + place
   pub same_line : l ≡ down + last
 
@@ -243,7 +243,7 @@ module _ (p s : List ℕ) (down : ℕ) {at line a l : ℕ} {is : List Item} {c :
         place = z.place;
         last = z.last;
         run = Run.skip g z.run;
-        same-items = z.same-items;
+        same_items = z.same_items;
         same_place = z.same_place;
         same_line = z.same_line;
       }
@@ -257,7 +257,7 @@ module _ (p s : List ℕ) (down : ℕ) {at line a l : ℕ} {is : List Item} {c :
         place = z.place;
         last = z.last;
         run = Run.spelled g z.run;
-        same-items = rw (h, ← z.same-items);
+        same_items = rw (h, ← z.same_items);
         same_place = z.same_place;
         same_line = z.same_line;
       }
@@ -271,7 +271,7 @@ module _ (p s : List ℕ) (down : ℕ) {at line a l : ℕ} {is : List Item} {c :
         place = z.place;
         last = z.last;
         run = Run.plain g z.run;
-        same-items = rw (h, ← z.same-items);
+        same_items = rw (h, ← z.same_items);
         same_place = z.same_place;
         same_line = z.same_line;
       }
@@ -285,7 +285,7 @@ module _ (p s : List ℕ) (down : ℕ) where
       → a ≡ length p + at → l ≡ down + line → Back p s down at line is a'' l''
   unfolding move_items
   back_from Run.stop at line e f =
-      record { items = []; place = at; last = line; run = Run.stop; same-items = refl; same_place = e; same_line = f }
+      record { items = []; place = at; last = line; run = Run.stop; same_items = refl; same_place = e; same_line = f }
   back_from {a} {l} {a''} {l''} {is} (Run.skip {a = b} {l = m} q r) at line e f =
       on (λ at' line'. back_from r at' line') (piece_at s at line) refl (known at line e f q)
     where

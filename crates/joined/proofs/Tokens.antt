@@ -34,14 +34,14 @@ run_inside {s} {at} {line} (Run.skip {a = a} {l = l} e r) h =
     run_inside r (past_of s at line (L.Skipped (cursor a l)) e h).within
 run_inside {s} {at} {line} (Run.spelled {a = a} {l = l} {n = n} e r) h =
     let p = past_of s at line (L.Name n (cursor a l)) e h in
-    ((omega (arith, p.name_end_lem, p.within), p.kind-from, p.kind-to), run_inside r p.within)
+    ((omega (arith, p.name_end_lem, p.within), p.kind_from, p.kind_to), run_inside r p.within)
 run_inside {s} {at} {line} (Run.plain {a = a} {l = l} {t = t} e r) h =
     let p = past_of s at line (L.Token t (cursor a l)) e h in
-    ((p.kind-from, p.kind-to), run_inside r p.within)
+    ((p.kind_from, p.kind_to), run_inside r p.within)
 
-name-is : (k : ℕ) → 1 ≤ k → k ≤ 3 → is_name k ≡ true
+name_is : (k : ℕ) → 1 ≤ k → k ≤ 3 → is_name k ≡ true
 unfolding is_name pick
-name-is k h g = rw (lt-leb k 0 h, le-leb k 3 g)
+name_is k h g = rw (lt-leb k 0 h, le-leb k 3 g)
 
 name-not : (k : ℕ) → 4 ≤ k → is_name k ≡ false
 unfolding is_name pick
@@ -76,7 +76,7 @@ module _ (s s' : List ℕ) (on down : ℕ) (W W' : List (List ℕ)) (distinct : 
       let k' = name-kind n.kind p'.0 h.1 h.2 in
       let c = name-carried n.kind p.0 h.1 h.2 in
       let c' = name-carried n.kind p'.0 h.1 h.2 in
-      rw (p.4, p'.4, k, k', c, c', name-is n.kind h.1 h.2, r)
+      rw (p.4, p'.4, k, k', c, c', name_is n.kind h.1 h.2, r)
   token-moved (Item.plain u) t t' h p p' = rw (p, p', name-not (kind_of u.value) h.0)
 
   pub tokens-moved : (is : List Item) (T T' : List Token) → AllInside (length s') is → Both (Stands s W)

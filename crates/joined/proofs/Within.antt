@@ -51,7 +51,7 @@ pub record FromTo (pre f post : List ℕ) (line : ℕ) (ts : List Token) (ns : L
   pub order : i < j
   pub inner : j + 1 < length ts
   pub opens_at : (get_or ts i no_token).place ≡ length pre
-  pub closes-kind : kind_of (get_or ts j no_token).value ≡ 28
+  pub closes_kind : kind_of (get_or ts j no_token).value ≡ 28
   pub closes_at : (get_or ts j no_token).place + 1 ≡ length pre + length f
 
 module _ {pre f post : List ℕ} {line : ℕ} {ts : List Token} {ns : List Part} {i j : ℕ}
@@ -122,7 +122,7 @@ module _ {pre f post : List ℕ} {line : ℕ} {ts : List Token} {ns : List Part}
   stands_there = rw brace-item (stands_place s (spellings s ns) cut-brace.item brace cut-brace.stand)
 
   is-brace : symbol (get_or s brace.place 0) ≡ O.Some X.RightBrace
-  is-brace = brace-symbol _ ((token-says v j b.inner).1 b.closes-kind)
+  is-brace = brace-symbol _ ((token-says v j b.inner).1 b.closes_kind)
 
   in_text : brace.place < length s
   in_text = omega (arith, b.closes_at, length-append pre (f ++ post), length-append f post)
@@ -163,11 +163,11 @@ module _ {pre f post : List ℕ} {line : ℕ} {ts : List Token} {ns : List Part}
         whole =
             (run-all v (run_join cut-first.until
             (start-at (omega (arith, b.opens_at)) (omega arith) (run_join through rest)))).0
-            ∙ ap (λ (l : List Item). cut-first.front ++ (l ++ behind)) moved_back.same-items;
+            ∙ ap (λ (l : List Item). cut-first.front ++ (l ++ behind)) moved_back.same_items;
         counted = cut-first.counted;
         long =
             let taken = length-take-le (j - i) later (omega (arith, enough)) in
-            sym (length_moved (length pre) 0 moved_back.items) ∙ ap length (sym moved_back.same-items)
+            sym (length_moved (length pre) 0 moved_back.items) ∙ ap length (sym moved_back.same_items)
             ∙ omega (arith, length-append middle (last-item ∷ []), taken);
       }
 
@@ -202,8 +202,8 @@ module _ {pre f post : List ℕ} {line : ℕ} {ts : List Token} {ns : List Part}
   each-named =
       entered_only (spellings s ns) [] (words_of f stretch.own) (λ k h. absurd (omega arith)) words-named
 
-  names-few : length (entered [] (words_of f stretch.own)) ≤ length (spellings s ns)
-  names-few =
+  names_few : length (entered [] (words_of f stretch.own)) ≤ length (spellings s ns)
+  names_few =
       no_more (entered [] (words_of f stretch.own)) (spellings s ns)
       (entered-distinct [] (words_of f stretch.own) (λ i j h. absurd (omega arith))) each-named
 
@@ -214,7 +214,7 @@ module _ {pre f post : List ℕ} {line : ℕ} {ts : List Token} {ns : List Part}
       (ascii_parts f post (ascii_parts pre (f ++ post) v.sound.ascii).1).0
       (omega (arith, v.sound.short, length-append pre (f ++ post), length-append f post))
       (omega (arith, stretch.long, b.order, b.inner, v.sound.few))
-      (omega (arith, names-few, length-spellings s ns, v.sound.few-names))
+      (omega (arith, names_few, length-spellings s ns, v.sound.few_names))
 
   -- Its tokens and names. ------------------------------------------------------------------------------------------
 
@@ -246,7 +246,7 @@ module _ {pre f post : List ℕ} {line : ℕ} {ts : List Token} {ns : List Part}
         (run_inside own.run (omega arith)) (spellings f ns') own-distinct own.toks own.stand there n
         (omega arith) in
         sym (ap (λ (t : Tok). t.kind) same)
-        ∙ ap (λ (m : ℕ). kind_of (get_or ts m no_token).value) at ∙ b.closes-kind
+        ∙ ap (λ (m : ℕ). kind_of (get_or ts m no_token).value) at ∙ b.closes_kind
 
     pub own-apart : Apart (spellings s ns) (spellings f ns')
     own-apart = renamed-apart (spellings s ns) (spellings f ns') own-distinct

@@ -38,19 +38,19 @@ pub record Readings (pre f post new : List ℕ) (line first : ℕ) (e : Edit pre
       → Sim (still front-names) e.opening (held w ts) (held w' e.old_tokens)
   -- then the new text's, without its end token: moved by the tokens and the bytes of pre, on the same lines, and
   -- renamed by spelling
-  pub new_apart : Apart (spellings (pre ++ (new ++ post)) ns) (spellings new e.new-names)
+  pub new_apart : Apart (spellings (pre ++ (new ++ post)) ns) (spellings new e.new_names)
   pub new-moved : (w w' : ℕ)
       → Sim (move_of e.opening 0 (length pre) (spellings (pre ++ (new ++ post)) ns)
-      (spellings new e.new-names) new_apart)
-      (length e.new_tokens_lem - 1) (held w ts) (held w' e.new_tokens_lem)
-  pub new-spelled : (x : ℕ) → x < length e.new-names
-      → SameWord (spellings (pre ++ (new ++ post)) ns) (spellings new e.new-names) x
+      (spellings new e.new_names) new_apart)
+      (length e.tokens_new - 1) (held w ts) (held w' e.tokens_new)
+  pub new-spelled : (x : ℕ) → x < length e.new_names
+      → SameWord (spellings (pre ++ (new ++ post)) ns) (spellings new e.new_names) x
   -- then the rest's, with the end token: the tokens of post alone from line 0, with its own names, which are names of
   -- the old text, are moved and renamed to their place in the old text and to their place in the edited one
   pub rest : List Token
   pub rest-words : List (List ℕ)
   pub rest-few : length rest-words ≤ length e.old_names
-  pub counted : length ts ≡ e.opening + (length e.new_tokens_lem - 1) + length rest
+  pub counted : length ts ≡ e.opening + (length e.tokens_new - 1) + length rest
   pub counted_old : length e.old_tokens ≡ e.closing + 1 + length rest
   pub old_apart : Apart (spellings (pre ++ (f ++ post)) e.old_names) rest-words
   pub rest_old : (w w' : ℕ)
@@ -61,7 +61,7 @@ pub record Readings (pre f post new : List ℕ) (line first : ℕ) (e : Edit pre
       → SameWord (spellings (pre ++ (f ++ post)) e.old_names) rest-words x
   pub rest-apart : Apart (spellings (pre ++ (new ++ post)) ns) rest-words
   pub rest-new : (w w' : ℕ)
-      → Sim (move_of (e.opening + (length e.new_tokens_lem - 1)) (get_or e.new_tokens_lem e.new-closing no_token).line.0
+      → Sim (move_of (e.opening + (length e.tokens_new - 1)) (get_or e.tokens_new e.new_closing no_token).line.0
       (length pre + length new) (spellings (pre ++ (new ++ post)) ns) rest-words rest-apart)
       (length rest) (held w ts) (held w' rest)
   pub rest-spelled : (x : ℕ) → x < length rest-words → SameWord (spellings (pre ++ (new ++ post)) ns) rest-words x

@@ -24,7 +24,7 @@ pub record Done (s : List ℕ) (line count known : ℕ) : Type 0 where
   pub ns : List Part
   pub lexed : lexed_from line s ≡ Outcome.done ts ns
   pub counted : count ≡ length ts
-  pub counted-names : known ≡ length ns
+  pub counted_names : known ≡ length ns
   pub sound : Sound s line ts ns
 
 pub result-done : (line : ℕ) (s : List ℕ) (count known : ℕ)
@@ -33,7 +33,7 @@ result-done line s count known e = from (lexed_from line s) refl e
   where
     from : (o : Outcome) → lexed_from line s ≡ o → X.Done count known ≡ result_of o → Done s line count known
     from (Outcome.done ts ns) p q =
-        record { ts = ts; ns = ns; lexed = p; counted = cc; counted-names = cc; sound = read_sound line s ts ns p }
+        record { ts = ts; ns = ns; lexed = p; counted = cc; counted_names = cc; sound = read_sound line s ts ns p }
     from (Outcome.refused r) p q = absurd (let z : ◌≡◌ {A = ℕ} 0 1 = cc in omega arith)
     from Outcome.cut p q = absurd (never_cut line s p)
 
@@ -66,7 +66,7 @@ read-accepted s t₀ n₀ m₀ r t n m v z = gate (sized (length t₀) (length n
             ns = ns;
             lexed = p;
             counted = rw (v.answer, q);
-            counted-names = rw (v.answer, q);
+            counted_names = rw (v.answer, q);
             sound = read_sound 1 s ts ns p;
           };
           tokens = rw (v.tokens, q);

@@ -65,16 +65,16 @@ pub found_as : (count : ℕ) (n : Name) (f : Found) {r g : Found} {a : Identifie
 found_as count n f t e h = rw (← t, e) h
 
 module _ (n : ℕ) (cells : List ℕ) {s : List ℕ} (table : Table s cells n) where
-  names-counted : length (parts_of (take (n * 2) cells)) ≡ n
-  names-counted =
+  names_counted : length (parts_of (take (n * 2) cells)) ≡ n
+  names_counted =
       parts_count (take (n * 2) cells) n
       (length-take-le (n * 2) cells (omega (arith, table.few, table.room)))
 
-  pub names-few : n < 1024 → ltb (length (parts_of (take (n * 2) cells))) 1024 ≡ true
-  names-few h = rw names-counted (lt-ltb n 1024 h)
+  pub names_few : n < 1024 → ltb (length (parts_of (take (n * 2) cells))) 1024 ≡ true
+  names_few h = rw names_counted (lt-ltb n 1024 h)
 
   pub names_full : 1024 ≤ n → ltb (length (parts_of (take (n * 2) cells))) 1024 ≡ false
-  names_full h = rw names-counted (le-ltb n 1024 h)
+  names_full h = rw names_counted (le-ltb n 1024 h)
 
   pub new-number : I.New (record { 0 = n }) ≡ I.New (record { 0 = length (parts_of (take (n * 2) cells)) })
-  new-number = rw names-counted
+  new-number = rw names_counted

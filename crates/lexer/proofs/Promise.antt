@@ -58,7 +58,7 @@ answered-result Outcome.cut = refl
 -- what an accepted text reads as, by the counts that were answered
 pub done-reading : {s : List ℕ} {line count known : ℕ} (d : Done s line count known)
     → read_from line s ≡ reading (accepted count known) (tokens_cells d.ts) (names_cells d.ns) []
-done-reading d = rw (d.lexed, d.counted, d.counted-names)
+done-reading d = rw (d.lexed, d.counted, d.counted_names)
 
 -- Before the rest is cleared. ---------------------------------------------------------------------------------------
 
@@ -70,7 +70,7 @@ into-done d t₀ n₀ t n m₀ m h =
     rw (done-reading d) (record {
       answer = refl;
       tokens = rw (held.0, d.counted) (take_at (tokens_cells d.ts) _ _ (length-tokens_cells d.ts));
-      names = rw (held.1, d.counted-names) (take_at (names_cells d.ns) _ _ (length-names_cells d.ns));
+      names = rw (held.1, d.counted_names) (take_at (names_cells d.ns) _ _ (length-names_cells d.ns));
       message = λ f. absurd (f refl);
     })
 

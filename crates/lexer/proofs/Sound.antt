@@ -89,8 +89,8 @@ same_length s p q h g e =
 
 -- a token before a place, at a line or below it
 record Before (s : List ℕ) (first : ℕ) (ns : List Part) (at line : ℕ) (t : Token) : Type 0 where
-  place-before : t.place < at
-  line-to : t.line.0 ≤ line
+  place_before : t.place < at
+  line_to : t.line.0 ≤ line
   range : InRange s first t
   number : HasNumber ns t
   bytes : HasSpelling s ns t
@@ -99,11 +99,11 @@ record Before (s : List ℕ) (first : ℕ) (ns : List Part) (at line : ℕ) (t :
 record Going (s : List ℕ) (first : ℕ) (ts : List Token) (ns : List Part) (at line : ℕ) : Type 0 where
   at_in : at ≤ length s
   line_first : first ≤ line
-  line-place : line ≤ first + at
+  line_place : line ≤ first + at
   inner : Each no_token (λ t. kind_of t.value < 38) ts
   before : Each no_token (Before s first ns at line) ts
   rise : Pairs no_token Rises ts
-  few-names : length ns ≤ 1024
+  few_names : length ns ≤ 1024
   within : Each no_part (InText s) ns
   distinct : Pairs no_part (Differ s) ns
 
@@ -112,8 +112,8 @@ module _ {s : List ℕ} {first : ℕ} {ns : List Part} {at line : ℕ} {t : Toke
   before-later : (at' line' : ℕ) → at ≤ at' → line ≤ line' → Before s first ns at' line' t
   before-later at' line' h g =
       record {
-        place-before = omega arith;
-        line-to = omega arith;
+        place_before = omega arith;
+        line_to = omega arith;
         range = b.range;
         number = b.number;
         bytes = b.bytes;
@@ -124,8 +124,8 @@ module _ {s : List ℕ} {first : ℕ} {ns : List Part} {at line : ℕ} {t : Toke
   before-named : (p : Part) → Before s first (ns ++ (p ∷ [])) at line t
   before-named p =
       record {
-        place-before = b.place-before;
-        line-to = b.line-to;
+        place_before = b.place_before;
+        line_to = b.line_to;
         range = b.range;
         number = λ k. omega (arith, b.number k, length-append ns (p ∷ []));
         bytes = λ k. rw (get_or-append ns (p ∷ []) no_part (carried t.value) (b.number k)) (b.bytes k);
@@ -140,11 +140,11 @@ module _ {s : List ℕ} {first : ℕ} {ts : List Token} {ns : List Part} {at lin
       record {
         at_in = p.within;
         line_first = omega arith;
-        line-place = omega arith;
+        line_place = omega arith;
         inner = g.inner;
         before = λ i h. before-later (g.before i h) c.place c.line (omega arith) (omega arith);
         rise = g.rise;
-        few-names = g.few-names;
+        few_names = g.few_names;
         within = g.within;
         distinct = g.distinct;
       }
@@ -157,21 +157,21 @@ module _ {s : List ℕ} {first : ℕ} {ts : List Token} {ns : List Part} {at lin
       record {
         at_in = w;
         line_first = g.line_first;
-        line-place = omega arith;
+        line_place = omega arith;
         inner = each_snoc no_token ts t (λ u. kind_of u.value < 38) g.inner k;
         before =
             each_snoc no_token ts t (Before s first ns next line)
             (λ i b. before-later (g.before i b) next line (omega arith) (omega arith))
             (record {
-              place-before = omega arith;
-              line-to = omega arith;
+              place_before = omega arith;
+              line_to = omega arith;
               range = omega arith;
               number = number;
               bytes = bytes;
               letter = letter;
             });
         rise = pairs_snoc no_token ts t Rises g.rise (λ i b. omega (arith, g.before i b));
-        few-names = g.few-names;
+        few_names = g.few_names;
         within = g.within;
         distinct = g.distinct;
       }
@@ -183,11 +183,11 @@ module _ {s : List ℕ} {first : ℕ} {ts : List Token} {ns : List Part} {at lin
       record {
         at_in = g.at_in;
         line_first = g.line_first;
-        line-place = g.line-place;
+        line_place = g.line_place;
         inner = g.inner;
         before = λ i h. before-named (g.before i h) p;
         rise = g.rise;
-        few-names = omega (arith, length-append ns (p ∷ []));
+        few_names = omega (arith, length-append ns (p ∷ []));
         within = each_snoc no_part ns p (InText s) g.within (one, short, fits);
         distinct = pairs_snoc no_part ns p (Differ s) g.distinct new;
       }
@@ -198,12 +198,12 @@ module _ {s : List ℕ} {first : ℕ} {ts : List Token} {ns : List Part} {at lin
       → Going s first (ts ++ (named n (record { 0 = k }) ∷ [])) ns c.place c.line
   going_name n c k p h e =
       let t = named n (record { 0 = k }) in
-      let kind = name-kind n.kind k p.kind-from p.kind-to in
-      let number : carried t.value ≡ k = name-carried n.kind k p.kind-from p.kind-to in
+      let kind = name-kind n.kind k p.kind_from p.kind_to in
+      let number : carried t.value ≡ k = name-carried n.kind k p.kind_from p.kind_to in
       let q = get_or ns k no_part in
       let l : q.len ≡ n.len = same_length s q (part n.place n.len) (g.within k h).2 (omega arith) e in
       rw p.same_line
-      (going_token t c.place p.on p.within p.name-place p.name-line (omega arith) (λ _. omega arith)
+      (going_token t c.place p.on p.within p.name_place p.name_line (omega arith) (λ _. omega arith)
       (λ _. rw number (ap (λ (m : ℕ). spelling s (part n.place m)) l ∙ sym e))
       (λ h _. rw number (omega (arith, p.lettered (omega arith)))))
 
@@ -250,7 +250,7 @@ module _ (s : List ℕ) (first : ℕ) (short : length s ≤ 16384) (ascii : is_a
         inner = g.inner;
         some = omega arith;
         few = omega arith;
-        few-names = g.few-names;
+        few_names = g.few_names;
         numbered = each_snoc no_token ts t (HasNumber ns) (λ i h. (g.before i h).number) (λ k. absurd (omega arith));
         spelled = each_snoc no_token ts t (HasSpelling s ns) (λ i h. (g.before i h).bytes) (λ k. absurd (omega arith));
         lettered = each_snoc no_token ts t (HasLetter ns) (λ i h. (g.before i h).letter) (λ _ k. absurd (omega arith));
@@ -289,7 +289,7 @@ module _ (s : List ℕ) (first : ℕ) (short : length s ≤ 16384) (ascii : is_a
         room-good ts t _ (omega arith) (omega arith)
         (λ _. later (ts ++ (t ∷ [])) ns c.place c.line (omega arith)
         (rw p.same_line
-        (going_token g t c.place p.on p.within p.token-place p.token-line p.kind-to
+        (going_token g t c.place p.on p.within p.token_place p.token_line p.kind_to
         (λ k. absurd (omega arith)) (λ k. absurd (omega arith)) (λ _ k. absurd (omega arith)))))
     turn_good (L.End c) p =
         room-good ts _ _ (omega arith) (omega arith) (end_sound ts ns at line c g p)
@@ -309,11 +309,11 @@ module _ (s : List ℕ) (first : ℕ) (short : length s ≤ 16384) (ascii : is_a
       (record {
         at_in = omega arith;
         line_first = omega arith;
-        line-place = omega arith;
+        line_place = omega arith;
         inner = λ i h. absurd (omega arith);
         before = λ i h. absurd (omega arith);
         rise = λ i j h k. absurd (omega arith);
-        few-names = omega arith;
+        few_names = omega arith;
         within = λ i h. absurd (omega arith);
         distinct = λ i j h k. absurd (omega arith);
       })

@@ -62,11 +62,11 @@ pub record Lexing (s : List ℕ) (first : ℕ) (t₀ n₀ t n : List ℕ) (count
   pub small : length s ≤ 16384
   pub early : first ≤ 2147483648
   pub sized : 16384 ≤ length t₀
-  pub sized-names : 2048 ≤ length n₀
+  pub sized_names : 2048 ≤ length n₀
   pub within : at.place ≤ length s
   pub lines : at.line ≤ first + at.place
   pub long : length t ≡ length t₀
-  pub long-names : length n ≡ length n₀
+  pub long_names : length n ≡ length n₀
   pub turns : ℕ
   pub enough : length s - at.place ≤ turns
   pub found : List Token
@@ -84,16 +84,16 @@ pub start : (s : List ℕ) (first : ℕ) (t n : List ℕ)
     → length s ≤ 16384 → first ≤ 2147483648 → 16384 ≤ length t → 2048 ≤ length n
     → Lexing s first t n t n 0 0 (record { place = 0; line = first })
 unfolding numbered tokens_cells names_cells
-start s first t n small early sized sized-names =
+start s first t n small early sized sized_names =
     record {
       small = small;
       early = early;
       sized = sized;
-      sized-names = sized-names;
+      sized_names = sized_names;
       within = omega arith;
       lines = omega arith;
       long = refl;
-      long-names = refl;
+      long_names = refl;
       turns = length s;
       enough = omega arith;
       found = [];
@@ -124,9 +124,9 @@ pub record Ended (s : List ℕ) (first : ℕ) (t₀ n₀ t n : List ℕ) (count 
   pub names : List Part
   pub whole : numbered s first ≡ Outcome.done tokens names
   pub counted : length tokens ≡ count
-  pub names-counted : length names ≡ known
+  pub names_counted : length names ≡ known
   pub held : t ≡ over t₀ (tokens_cells tokens)
-  pub names-held : n ≡ over n₀ (names_cells names)
+  pub names_held : n ≡ over n₀ (names_cells names)
 
 -- the end token made
 pub record Closed (s : List ℕ) (first : ℕ) (t₀ n₀ t n : List ℕ) (count known : ℕ) (u : Token) : Type 0 where
@@ -183,11 +183,11 @@ module _ {s : List ℕ} {first : ℕ} {t₀ n₀ t n : List ℕ} {count known : 
               small = v.small;
               early = v.early;
               sized = v.sized;
-              sized-names = v.sized-names;
+              sized_names = v.sized_names;
               within = inside;
               lines = omega (arith, v.lines);
               long = rw e (length-sets t _ (token_cells u) ∙ v.long);
-              long-names = long;
+              long_names = long;
               turns = v.turns - 1;
               enough = omega (arith, v.enough);
               found = v.found ++ (u ∷ []);
@@ -223,8 +223,8 @@ module _ {s : List ℕ} {first : ℕ} {t₀ n₀ t n : List ℕ} {count known : 
       → After s first t₀ n₀ t n' count known at (next_name known m c i)
   unfolding numbered_from then_identified
   of-name m c (I.Known i) n' past e r whole d =
-      made (named m i) c v.parts known n' past.on past.within past.same_line past.name-place
-      v.parts_counted v.parts_room (rw d v.long-names) (kept n' d) v.parts_within (whole ∙ rw e)
+      made (named m i) c v.parts known n' past.on past.within past.same_line past.name_place
+      v.parts_counted v.parts_room (rw d v.long_names) (kept n' d) v.parts_within (whole ∙ rw e)
   of-name m c (I.New i) n' past e r whole d =
       let p = part m.place m.len in
       let l : length (names_cells v.parts) ≡ known * 2 =
@@ -235,12 +235,12 @@ module _ {s : List ℕ} {first : ℕ} {t₀ n₀ t n : List ℕ} {count known : 
       let cells : List ℕ = m.place ∷ m.len ∷ [] in
       let held : n' ≡ over n₀ (names_cells (v.parts ++ (p ∷ []))) =
       d ∙ rw (v.parts_held, names_cells_snoc)
-      (sets_over n₀ (names_cells v.parts) cells (known * 2) l (omega (arith, v.sized-names))) in
+      (sets_over n₀ (names_cells v.parts) cells (known * 2) l (omega (arith, v.sized_names))) in
       made (named m i) c (v.parts ++ (p ∷ [])) (known + 1) n' past.on past.within past.same_line
-      past.name-place q (omega arith) (rw d (length-sets n _ cells ∙ v.long-names)) held
+      past.name_place q (omega arith) (rw d (length-sets n _ cells ∙ v.long_names)) held
       (within_snoc (length s) v.parts p v.parts_within (omega (arith, past.name_end_lem, past.within)))
       (whole ∙ rw e)
-  of-name m c (I.Refused x) n' past e r whole d = (whole ∙ rw e, omega (arith, r, past.name-place, v.within))
+  of-name m c (I.Refused x) n' past e r whole d = (whole ∙ rw e, omega (arith, r, past.name_place, v.within))
 
   of_piece : (p : Lexed) (n' : List ℕ)
       → piece_at s at.place at.line ≡ p → Past (length s) at.place at.line p
@@ -252,11 +252,11 @@ module _ {s : List ℕ} {first : ℕ} {t₀ n₀ t n : List ℕ} {count known : 
       small = v.small;
       early = v.early;
       sized = v.sized;
-      sized-names = v.sized-names;
+      sized_names = v.sized_names;
       within = past.within;
-      lines = omega (arith, v.lines, past.line-to);
+      lines = omega (arith, v.lines, past.line_to);
       long = v.long;
-      long-names = rw d v.long-names;
+      long_names = rw d v.long_names;
       turns = v.turns - 1;
       enough = omega (arith, v.enough, past.on);
       found = v.found;
@@ -277,8 +277,8 @@ module _ {s : List ℕ} {first : ℕ} {t₀ n₀ t n : List ℕ} {count known : 
       of-name m c (identified s v.parts m) n' past refl (identified-room s v.parts m)
       (unfolded (L.Name m c) e) d
   of_piece (L.Token u c) n' e past d =
-      made u c v.parts known n' past.on past.within past.same_line past.token-place
-      v.parts_counted v.parts_room (rw d v.long-names) (kept n' d) v.parts_within
+      made u c v.parts known n' past.on past.within past.same_line past.token_place
+      v.parts_counted v.parts_room (rw d v.long_names) (kept n' d) v.parts_within
       (unfolded (L.Token u c) e)
   of_piece (L.End c) n' e past d =
       let u = token T.EndOfFile c.line c.place in
@@ -291,9 +291,9 @@ module _ {s : List ℕ} {first : ℕ} {t₀ n₀ t n : List ℕ} {count known : 
               names = v.parts;
               whole = unfolded (L.End c) e ∙ rw (v.counted, lt-ltb count 4096 f);
               counted = length-append v.found (u ∷ []) ∙ omega (arith, v.counted);
-              names-counted = v.parts_counted;
+              names_counted = v.parts_counted;
               held = stored u t' f h;
-              names-held = kept n' d;
+              names_held = kept n' d;
             };
       }
   of_piece (L.Refused r) n' e past d = (unfolded (L.Refused r) e, omega (arith, past.place, v.within))
@@ -312,7 +312,7 @@ module _ {s : List ℕ} {first : ℕ} {t₀ n₀ t n : List ℕ} {count known : 
   ready = (
     record {
       few = v.parts_room;
-      room = omega (arith, v.long-names, v.sized-names);
+      room = omega (arith, v.long_names, v.sized_names);
       small = omega (arith, v.small);
       within = rw taken v.parts_within;
     },
@@ -334,11 +334,11 @@ module _ {s : List ℕ} {first : ℕ} {t₀ n₀ t n : List ℕ} {count known : 
   tokens-room = omega (arith, v.long, v.sized)
 
   -- the slices' lengths, for slices that were lent with these
-  pub tokens-long : (e t' : List ℕ) → length t₀ ≡ length e → length t' ≡ length t → length t' ≡ length e
-  tokens-long e t' h g = g ∙ v.long ∙ h
+  pub tokens_long : (e t' : List ℕ) → length t₀ ≡ length e → length t' ≡ length t → length t' ≡ length e
+  tokens_long e t' h g = g ∙ v.long ∙ h
 
-  pub names-long : (e n' : List ℕ) → length n₀ ≡ length e → length n' ≡ length n → length n' ≡ length e
-  names-long e n' h g = g ∙ v.long-names ∙ h
+  pub names_long : (e n' : List ℕ) → length n₀ ≡ length e → length n' ≡ length n → length n' ≡ length e
+  names_long e n' h g = g ∙ v.long_names ∙ h
 
 -- A turn by next_token's answer, from what its call ensures: each need of the loop is one of these.
 module _ {s : List ℕ} {first : ℕ} {t₀ n₀ t n : List ℕ} {count known : ℕ} {at : Cursor} {r : Next} {n' : List ℕ}
@@ -362,8 +362,8 @@ module _ {s : List ℕ} {first : ℕ} {t₀ n₀ t n : List ℕ} {count known : 
 
   -- a token: the code has asked whether there is room for it
   module _ {u : Token} {c : Cursor} {k : ℕ} (e : r ≡ N.Token u c k) where
-    pub token-place : u.place < 4294967296
-    token-place = omega (arith, (after e).place, v.small)
+    pub token_place : u.place < 4294967296
+    token_place = omega (arith, (after e).place, v.small)
 
     pub token-less : length s - c.place < length s - at.place
     token-less = omega (arith, (after e).later, (after e).inside)
@@ -410,7 +410,7 @@ module _ {s : List ℕ} {first : ℕ} {t₀ n₀ t n : List ℕ} {count known : 
       ended = let room = sym h ∙ not-false _ g in (after e).done (ltb-true _ _ room) _ (rw room at d)
 
       pub end-done : X.Done (count + 1) known ≡ result_of (numbered s first)
-      end-done = rw (ended.whole, ended.counted, ended.names-counted)
+      end-done = rw (ended.whole, ended.counted, ended.names_counted)
 
       pub end-held : Held (numbered s first) t₀ n₀ t' n'
-      end-held = rw ended.whole (ended.held, ended.names-held)
+      end-held = rw ended.whole (ended.held, ended.names_held)

@@ -72,7 +72,7 @@ pub record Sound (s : List ℕ) (line : ℕ) (ts : List Token) (ns : List Part) 
   pub inner : Each no_token (λ t. kind_of t.value < K.end_of_file) front
   pub some : 1 ≤ length ts
   pub few : length ts ≤ most_tokens
-  pub few-names : length ns ≤ most_names
+  pub few_names : length ns ≤ most_names
   pub numbered : Each no_token (HasNumber ns) ts
   pub spelled : Each no_token (HasSpelling s ns) ts
   pub lettered : Each no_token (HasLetter ns) ts
@@ -84,5 +84,5 @@ pub record Sound (s : List ℕ) (line : ℕ) (ts : List Token) (ns : List Part) 
 -- Of a refusal: where it stands.
 pub record SoundRefusal (s : List ℕ) (line : ℕ) (r : Refusal) : Type 0 where
   pub place_in : (facts_of r).place ≤ length s
-  pub place-small : (facts_of r).place ≤ most_bytes
-  pub line-to : (facts_of r).line ≤ line + (facts_of r).place
+  pub place_small : (facts_of r).place ≤ most_bytes
+  pub line_to : (facts_of r).line ≤ line + (facts_of r).place

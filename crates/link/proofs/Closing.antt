@@ -110,9 +110,9 @@ operation-is false a w w' g g' h = (cc, cc)
 -- what a block has of the last of its n operations
 pub record Closed (cells : List ℕ) (from : ℕ) (b x : Block) (n : ℕ) : Type 0 where
   pub begins : x.first ≡ b.first
-  pub has-operations : x.operations ≡ b.operations + n
+  pub has_operations : x.operations ≡ b.operations + n
   pub none : n ≡ 0 → x ≡ b
-  pub last-token : 0 < n → x.token ≡ (record_at cells (from + n - 1)).token
+  pub last_token : 0 < n → x.token ≡ (record_at cells (from + n - 1)).token
   pub last_goes : 0 < n → x.goes ≡ goes_of (record_at cells (from + n - 1))
 
 closed-one : (cells : List ℕ) (from : ℕ) (b : Block) (rest : List Shape) (p : Shape)
@@ -122,18 +122,18 @@ unfolding run record_part
 closed-one cells from b rest (name l) e ih =
     record {
       begins = refl;
-      has-operations = omega arith;
+      has_operations = omega arith;
       none = λ h. refl;
-      last-token = λ h. absurd (omega arith);
+      last_token = λ h. absurd (omega arith);
       last_goes = λ h. absurd (omega arith);
     }
 closed-one cells from b rest (operation w goes) e ih =
     let i = ih (grown b w goes) in
     record {
       begins = i.begins;
-      has-operations = omega (arith, i.has-operations);
+      has_operations = omega (arith, i.has_operations);
       none = λ h. absurd (omega arith);
-      last-token = λ h. by_token (run rest) refl;
+      last_token = λ h. by_token (run rest) refl;
       last_goes = λ h. by-goes (run rest) refl;
     }
   where
@@ -147,7 +147,7 @@ closed-one cells from b rest (operation w goes) e ih =
         rw u (v ∙ is.0)
     by_token (suc n) z =
         let u : from + (run rest + 1) - 1 ≡ from + 1 + run rest - 1 = omega arith in
-        rw u ((ih (grown b w goes)).last-token (omega arith))
+        rw u ((ih (grown b w goes)).last_token (omega arith))
 
     by-goes : (n : ℕ) → run rest ≡ n
         → (closing (grown b w goes) rest).goes ≡ goes_of (record_at cells (from + (run rest + 1) - 1))
@@ -168,9 +168,9 @@ unfolding run parts_at
 closed_at cells zero from b =
     record {
       begins = refl;
-      has-operations = omega arith;
+      has_operations = omega arith;
       none = λ h. refl;
-      last-token = λ h. absurd (omega arith);
+      last_token = λ h. absurd (omega arith);
       last_goes = λ h. absurd (omega arith);
     }
 closed_at cells (suc m) from b =

@@ -138,7 +138,7 @@ module _ (items : List ℕ) (all : List Block) (named first end base : ℕ) (cel
   unfolding resolve_from pick
   empty h =
       let n : run here ≡ 0 = omega arith in
-      let o : block.operations ≡ 0 = omega (arith, shut.has-operations) in
+      let o : block.operations ≡ 0 = omega (arith, shut.has_operations) in
       sym left_is.resolves ∙ rw (eq-eqb _ _ o)
 
   module _ (nonempty : from < stop) where
@@ -150,10 +150,10 @@ module _ (items : List ℕ) (all : List Block) (named first end base : ℕ) (cel
         (resolve_from all named more)
     unfolding resolve_from pick
     resolved =
-        let o : block.operations ≡ run here = omega (arith, shut.has-operations) in
+        let o : block.operations ≡ run here = omega (arith, shut.has_operations) in
         let n : block.operations ≡ 0 → ⊥ = λ z. omega (arith, some, o, z) in
         let e : from + run here - 1 ≡ stop - 1 = omega arith in
-        let t = rw e at (shut.last-token some) in
+        let t = rw e at (shut.last_token some) in
         let g = rw e at (shut.last_goes some) in
         sym left_is.resolves ∙ rw (ne_eqb _ _ n, t, g)
 
@@ -179,7 +179,7 @@ module _ (items : List ℕ) (all : List Block) (named first end base : ℕ) (cel
         let e : from + run here - 1 ≡ stop - 1 = omega arith in
         let l : block.goes ≡ goes_of r = rw e at (shut.last_goes some) in
         let f : first + block.first ≡ from = omega (arith, shut.begins, cut.low) in
-        let o : block.operations ≡ stop - from = omega (arith, shut.has-operations, ends) in
+        let o : block.operations ≡ stop - from = omega (arith, shut.has_operations, ends) in
         let now-closed : closed_of first block (places all block.goes)
         ≡ block_record from (stop - from) c x.0 y.0 0 0 0 = rw (l, f, o, g.1, g.2, g.3) in
         let s : put_closed all first (sets cells (k * 8) (cells_of (closed_of first block (places all block.goes))))

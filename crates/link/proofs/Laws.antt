@@ -82,12 +82,12 @@ blocks_after_lem (operation w goes ∷ ps) here ls =
     omega (arith, blocks_from_lem (operation w goes ∷ ps) here (fresh ls here))
 
 -- A function has at most one block more than labels.
-pub few-blocks : (ps : List Shape) → length (blocks_of ps) ≤ length (names_in ps) + 1
-few-blocks ps = blocks_after_lem ps 0 []
+pub few_blocks : (ps : List Shape) → length (blocks_of ps) ≤ length (names_in ps) + 1
+few_blocks ps = blocks_after_lem ps 0 []
 
 -- A function of at most 255 labels has at most 256 blocks.
 pub at_most_256 : (ps : List Shape) → length (names_in ps) ≤ 255 → length (blocks_of ps) ≤ 256
-at_most_256 ps h = omega (arith, few-blocks ps)
+at_most_256 ps h = omega (arith, few_blocks ps)
 
 some-from : (ps : List Shape) (here : ℕ) (ls : List ℕ) → 1 ≤ length (blocks_after here ls ps)
 unfolding blocks_after
@@ -221,5 +221,5 @@ leading_are (l ∷ ls) rest h =
 pub blocks_partition : (ps : List Shape) → Parted (leading ps) (length ps) (blocks_of ps)
 blocks_partition ps =
     let p = blocks_are ps in
-    let n = rw (← p.whole) at (leading_are p.labels p.rest p.all-leading) in
+    let n = rw (← p.whole) at (leading_are p.labels p.rest p.all_leading) in
     parted (leading ps) (length ps) _ p.labels p.rest _ p.blocked n.0 n.1

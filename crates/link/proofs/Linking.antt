@@ -58,7 +58,7 @@ module _ {items : List ℕ} {first count : ℕ} {labels : List ℕ} {labelled : 
     closed = subst (λ (x : Numbered). ClosedHeld all first base cells₀ cells x) f h
 
     few : base + filled true ps ≤ 1024
-    few = ready.few-blocks
+    few = ready.few_blocks
 
     room : 8192 ≤ length cells₀
     room = ready.blocks_there

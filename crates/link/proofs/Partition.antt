@@ -36,7 +36,7 @@ pub record Partition (ps : List Shape) (bs : List Block) : Type 0 where
   pub labels : List ℕ
   pub rest : List Shape
   pub whole : ps ≡ map name labels ++ rest
-  pub all-leading : leading rest ≡ 0
+  pub all_leading : leading rest ≡ 0
   pub blocked : Blocked labels (length labels) rest bs
 
 -- The proof goes along the parts with what was read so far: leading labels, then the open block's operations.
@@ -90,7 +90,7 @@ partition_after [] labels here e =
       labels = labels;
       rest = [];
       whole = refl;
-      all-leading = refl;
+      all_leading = refl;
       blocked = final (holds_none labels (length labels) here e);
     }
 partition_after (name l ∷ ps) labels here e =
@@ -101,7 +101,7 @@ partition_after (operation w goes ∷ ps) labels here e =
       labels = labels;
       rest = operation w goes ∷ ps;
       whole = refl;
-      all-leading = refl;
+      all_leading = refl;
       blocked =
           blocked_from (operation w goes ∷ ps) [] labels (length labels) here _
           (holds_none labels (length labels) here e) (omega arith);

@@ -44,7 +44,7 @@ pub record Ready (items : List ℕ) (first count : ℕ) (labels : List ℕ) (lab
   pub few-labels : labelled ≤ most_labels
   pub labels_there : labelled ≤ length labels
   pub labels_are : take labelled labels ≡ names_in (parts_at items first count)
-  pub few-blocks : base + filled true (parts_at items first count) ≤ 1024
+  pub few_blocks : base + filled true (parts_at items first count) ≤ 1024
   pub blocks_there : blocks_size ≤ length blocks
   pub few-before : used ≤ base * 2
   pub predecessors_there : predecessors_size ≤ length preds
@@ -59,7 +59,7 @@ pub record Cut (items : List ℕ) (first count : ℕ) (labels : List ℕ) (label
   pub labels_are : take labelled labels ≡ names_in (parts_at items first count)
   pub before_are : before ≡ leading (parts_at items first count)
   pub before-few : before ≤ count
-  pub few-blocks : base + filled true (parts_at items first count) ≤ 1024
+  pub few_blocks : base + filled true (parts_at items first count) ≤ 1024
   pub blocks_there : blocks_size ≤ length blocks
 
 -- Labels. -----------------------------------------------------------------------------------------------------------

@@ -16,9 +16,9 @@ use Rattle.pieces.specs.declared.Token.{Token}
 use Rattle.messages.specs.Messages.{ShortNames}
 
 -- a name is as long as its record says, or empty
-name-length : (s names : List ℕ) (i : ℕ) → length (name_of s names i) ≤ get_or names (i * 2 + 1) 0
+name_length : (s names : List ℕ) (i : ℕ) → length (name_of s names i) ≤ get_or names (i * 2 + 1) 0
 unfolding name_of pick
-name-length s names i = by_test (leb (place + len) (length s)) refl
+name_length s names i = by_test (leb (place + len) (length s)) refl
   where
     place : ℕ
     place = get_or names (i * 2) 0
@@ -52,6 +52,6 @@ short-names s line n ts ns w i =
     let names = pad_to n (names_cells ns) in
     omega (
       arith,
-      name-length s names i,
+      name_length s names i,
       cell_short s ns (n - length (names_cells ns)) w.within i,
     )

@@ -106,8 +106,8 @@ module _ (ts : List Tok) where
 pub labels_full : (n : ℕ) (ls : List ℕ) → n ≤ length ls → 255 ≤ n → leb 255 (length (take n ls)) ≡ true
 labels_full n ls h f = rw (length-take-le n ls h) (le-leb 255 n f)
 
-pub labels-few : (n : ℕ) (ls : List ℕ) → n ≤ length ls → n < 255 → leb 255 (length (take n ls)) ≡ false
-labels-few n ls h f = rw (length-take-le n ls h) (lt-leb 255 n f)
+pub labels_few : (n : ℕ) (ls : List ℕ) → n ≤ length ls → n < 255 → leb 255 (length (take n ls)) ≡ false
+labels_few n ls h f = rw (length-take-le n ls h) (lt-leb 255 n f)
 
 -- what a run's answer says of where it ended
 ended-done : (c : Consumed) (l n i : ℕ) → U.Done n i ≡ then_at U.Refused c (λ j. U.Done l j) → (c ≡ C.At i) × (l ≡ n)

@@ -41,8 +41,8 @@ module _ {A : Type 0} (f : List ℕ → ℕ → A) (s : List ℕ) (i : ℕ) {a w
   pub at_byte : i < length s → a ≡ f (get_or s i 0 ∷ drop (i + 1) s) i → a ≡ w
   at_byte h r = rw (add-one i) at r ∙ rw (drop-cons s i 0 h) at here
 
-  pub at-end : length s ≤ i → a ≡ f [] i → a ≡ w
-  at-end h r = r ∙ rw (drop_of_length-le s {i = i} h) at here
+  pub at_end : length s ≤ i → a ≡ f [] i → a ≡ w
+  at_end h r = r ∙ rw (drop_of_length-le s {i = i} h) at here
 
 -- the same for a scan that knows something of the byte before
 module _ {X A : Type 0} (f : X → List ℕ → ℕ → A) (x : X) (s : List ℕ) (i : ℕ) {a w : A} (here : f x (drop i s) i ≡ w)
@@ -51,4 +51,4 @@ module _ {X A : Type 0} (f : X → List ℕ → ℕ → A) (x : X) (s : List ℕ
     with_byte h r = at_byte (f x) s i here h r
 
     pub with_end : length s ≤ i → a ≡ f x [] i → a ≡ w
-    with_end h r = at-end (f x) s i here h r
+    with_end h r = at_end (f x) s i here h r

@@ -189,19 +189,19 @@ pub record SkippedPast (n at line : ℕ) (c : Cursor) : Type 0 where
   pub on : at < c.place
   pub within : c.place ≤ n
   -- a line for a byte at most
-  pub line-from : line ≤ c.line
-  pub line-to : c.line + at ≤ line + c.place
+  pub line_from : line ≤ c.line
+  pub line_to : c.line + at ≤ line + c.place
 
 pub record NamePast (n at line : ℕ) (m : Name) (c : Cursor) : Type 0 where
   pub on : at < c.place
   pub within : c.place ≤ n
   pub same_line : c.line ≡ line
   -- the name begins here and ends at the cursor
-  pub name-place : m.place ≡ at
+  pub name_place : m.place ≡ at
   pub name_end_lem : m.place + m.len ≡ c.place
-  pub name-line : m.line.0 ≡ line
-  pub kind-from : 1 ≤ m.kind
-  pub kind-to : m.kind ≤ 3
+  pub name_line : m.line.0 ≡ line
+  pub kind_from : 1 ≤ m.kind
+  pub kind_to : m.kind ≤ 3
   -- a global or a label has a letter behind its sigil
   pub lettered : 2 ≤ m.kind → 2 ≤ m.len
 
@@ -209,16 +209,16 @@ pub record TokenPast (n at line : ℕ) (t : Token) (c : Cursor) : Type 0 where
   pub on : at < c.place
   pub within : c.place ≤ n
   pub same_line : c.line ≡ line
-  pub token-place : t.place ≡ at
-  pub token-line : t.line.0 ≡ line
+  pub token_place : t.place ≡ at
+  pub token_line : t.line.0 ≡ line
   -- neither a name nor the end
-  pub kind-from : 4 ≤ kind_of t.value
-  pub kind-to : kind_of t.value < 38
+  pub kind_from : 4 ≤ kind_of t.value
+  pub kind_to : kind_of t.value < 38
 
 pub record EndPast (n at line : ℕ) (c : Cursor) : Type 0 where
   pub same_place : c.place ≡ at
   pub same_line : c.line ≡ line
-  pub at-end : n ≤ at
+  pub at_end : n ≤ at
 
 pub record RefusedPast (at line : ℕ) (r : Refusal) : Type 0 where
   pub place : (facts_of r).place ≡ at
@@ -289,11 +289,11 @@ module _ (s : List ℕ) (at line : ℕ) (h : at < length s) where
         on = omega arith;
         within = omega arith;
         same_line = refl;
-        name-place = refl;
+        name_place = refl;
         name_end_lem = omega arith;
-        name-line = refl;
-        kind-from = k₁;
-        kind-to = k₃;
+        name_line = refl;
+        kind_from = k₁;
+        kind_to = k₃;
         lettered = λ k. omega (arith, second k);
       }
 

@@ -103,7 +103,7 @@ module _ (text cells table : List ℕ)
   row_again : (i : ℕ) → i < 64 → RowInRange text cells i → RowInRange text table i
   row_again i l r =
       let place = same (place_at i) (omega arith) (omega (arith, r.place)) in
-      let len = same (length_at i) (omega arith) (omega (arith, r.name-length.1)) in
+      let len = same (length_at i) (omega arith) (omega (arith, r.name_length.1)) in
       let line = same (line_at i) (omega arith) r.line.1 in
       let ret = same (ret_at i) (omega arith) (omega (arith, r.ret.1)) in
       let type = same (type_at i) (omega arith) (omega (arith, r.type)) in
@@ -112,15 +112,15 @@ module _ (text cells table : List ℕ)
       record {
         name = rw (place, len) r.name;
         place = rw place r.place;
-        name-length = rw len r.name-length;
+        name_length = rw len r.name_length;
         line = rw line r.line;
         ret = rw ret r.ret;
         type = rw type r.type;
         blocks = rw blocks r.blocks;
         formals = rw formals r.formals;
-        formal_types_lem = λ k h.
+        types_are = λ k h.
             let k-few : k < get_or cells (count_at i) 0 = rw formals at h in
-            let t = r.formal_types_lem k k-few in
+            let t = r.types_are k k-few in
             rw (same (formal_type_at i k) (omega (arith, k-few, r.formals)) (omega (arith, t.1))) t;
       }
 
@@ -208,11 +208,11 @@ module _ (text : List ℕ) (a : Accepts text) where
   unfolding check_of read_of pick
   names_are = rw (a.lexed, a.typed)
 
-  tokens-few : length (check_of text).tokens ≤ 16384
-  tokens-few = omega (arith, ap length tokens_are, length-tokens_cells a.tokens, lexed_sound.few)
+  tokens_few : length (check_of text).tokens ≤ 16384
+  tokens_few = omega (arith, ap length tokens_are, length-tokens_cells a.tokens, lexed_sound.few)
 
-  names-few : length (check_of text).names ≤ 2048
-  names-few = omega (arith, ap length names_are, length-names_cells a.names, lexed_sound.few-names)
+  names_few : length (check_of text).names ≤ 2048
+  names_few = omega (arith, ap length names_are, length-names_cells a.names, lexed_sound.few_names)
 
   -- the table's cells, of which the first is how many functions there are
   abbrev cells : List ℕ
@@ -246,7 +246,7 @@ never_42 text o₀ m₀ {r} {o} {m} p z number l new o₁ m₁ {r'} {o'} {m'} q 
     let again = passed o₁ m₁ (recheck_of text (table_of bytes) number new) r' o' m' q (λ h. omega (arith, e, h)) in
     let a = zero-accepts text _ (every_number text) (sym (ap (λ (y : CheckAnswer). y.number) written.0) ∙ z) in
     let cut = ap (slice 73728 85252) written.1
-    ∙ table-cut (length o₀) (check_of text) (tokens-few text a) (names-few text a) in
+    ∙ table-cut (length o₀) (check_of text) (tokens_few text a) (names_few text a) in
     let few : number < (check_of text).answer.functions =
     omega (arith, l, ap (λ (y : CheckAnswer). y.functions) written.0) in
     table-not_42 text (table_of bytes) number new (tabled_again text a bytes cut number few)

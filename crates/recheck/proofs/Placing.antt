@@ -273,8 +273,8 @@ module _ (old rows new names : List ℕ) (known number : ℕ) (t : Tabled old ro
       pub placed_fit : (cells : ℕ) → length f.items * 8 ≤ cells → RowsFit out r.count r.place 1 cells
       placed_fit cells h =
           record {
-            types-few = λ i l. rw (alike i l).type (mid_few i (omega (arith, p.count)));
-            items-fit = λ i from to.
+            types_few = λ i l. rw (alike i l).type (mid_few i (omega (arith, p.count)));
+            items_fit = λ i from to.
                 let q : i ≡ r.place = omega arith in
                 rw (
                   q,

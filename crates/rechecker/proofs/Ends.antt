@@ -113,7 +113,7 @@ named_now {line} {new} {r = r} v =
     let d = is-done v in
     subst (λ (l : List ℕ). Named new l r.names)
     (sym (used_names v ∙ read_names v ∙ sym (unpadded (names_cells d.ns))))
-    (subst (Named new (pad_to 0 (names_cells d.ns))) (sym d.counted-names) (accepted-named new line 0 d.ts
+    (subst (Named new (pad_to 0 (names_cells d.ns))) (sym d.counted_names) (accepted-named new line 0 d.ts
     d.ns d.sound))
 
 -- Before it is read. -------------------------------------------------------------------------------------------------

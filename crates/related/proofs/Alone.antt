@@ -38,7 +38,7 @@ use Rattle.sema.specs.Symbols.{Typed}
 use Rattle.sema.specs.declared.Checked.{Checked}
 use Rattle.sema.specs.declared.Checked.TheVariants as K
 use Rattle.unit.specs.Outcome.{refused, after_typing, unit_d, untyped}
-use Rattle.recheck.specs.Recheck.{refuses, after_typing as asTyped, typed_as, alone_d, function_alone}
+use Rattle.recheck.specs.Recheck.{refuses, after_typing as as_typed, typed_as, alone_d, function_alone}
 use Rattle.recheck.specs.Recheck.{retyped}
 use Rattle.related.specs.Tables.{SameGlobals, SimChecked, SimTyped, SameHead}
 use Rattle.related.specs.Runs.{Place, start, behind_one, behind_all, function_here, functions_here, all_then}
@@ -425,7 +425,7 @@ module _ {old new : List Tok} {e : Edited old new} {before behind : List Functio
       ended = at_size a f'.next (there f' q).same.within (eqb-true _ _ w)
 
       by : (k : Checked) → (typed-alone f').end ≡ k
-          → Follows e before replaced behind alone a (asTyped f' (typed-alone f').table k)
+          → Follows e before replaced behind alone a (as_typed f' (typed-alone f').table k)
       by K.Fine t = accepted-alone f' q ended t
       by (K.Refused x') t = λ n. refused_typing f' q ended x' t
   behind-brace f' q false true w g = λ n. absurd (n refl)

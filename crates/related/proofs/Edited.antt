@@ -24,7 +24,7 @@ use Rattle.functions.specs.Functions.{functions_d, program_d}
 use Rattle.functions.specs.Moved.{SimKnown, SimFunction, SimProgram}
 use Rattle.functions.proofs.SimFunctions.{formal_types_s, functions_s}
 use Rattle.sema.specs.Typing.{Global}
-use Rattle.sema.specs.Program.{globals_of, type_program_d as typedD}
+use Rattle.sema.specs.Program.{globals_of, type_program_d as typed_d}
 use Rattle.sema.specs.declared.Checked.{Checked}
 use Rattle.sema.specs.declared.Checked.TheVariants as K
 use Rattle.unit.specs.Outcome.{checked, refused, after_typing, after_parsing, unit_d, untyped}
@@ -71,16 +71,16 @@ pub record Accepted (ts : List Tok) (fs : List Function) : Type 0 where
   pub functions : (program_d ts).functions ≡ fs
   pub next : ℕ
   pub end : (program_d ts).end ≡ C.At next
-  pub fine : (typedD ts fs fs untyped).end ≡ K.Fine
+  pub fine : (typed_d ts fs fs untyped).end ≡ K.Fine
 
 pub typed-fine : (fs gs : List Function) (c : Checked) → after_typing gs c ≡ checked fs → (gs ≡ fs) × (c ≡ K.Fine)
 typed-fine fs gs K.Fine e = (cc, refl)
 typed-fine fs gs (K.Refused x) e = let z : ◌≡◌ {A = ℕ} 0 1 = cc in absurd (omega arith)
 
 pub parsed_fine : (ts : List Tok) (fs gs : List Function) (c : Consumed) → after_parsing ts gs c ≡ checked fs
-    → (gs ≡ fs) × ((typedD ts gs gs untyped).end ≡ K.Fine) × ((next : ℕ) × (c ≡ C.At next))
+    → (gs ≡ fs) × ((typed_d ts gs gs untyped).end ≡ K.Fine) × ((next : ℕ) × (c ≡ C.At next))
 parsed_fine ts fs gs (C.At next) e =
-    let t = typed-fine fs gs (typedD ts gs gs untyped).end e in
+    let t = typed-fine fs gs (typed_d ts gs gs untyped).end e in
     (t.0, t.1, (next, refl))
 parsed_fine ts fs gs (C.Refused x) e = let z : ◌≡◌ {A = ℕ} 0 1 = cc in absurd (omega arith)
 
@@ -92,7 +92,7 @@ accepted-by ts fs e =
       functions = p.0;
       next = p.2.0;
       end = p.2.1;
-      fine = subst (λ (gs : List Function). (typedD ts gs gs untyped).end ≡ K.Fine) p.0 p.1;
+      fine = subst (λ (gs : List Function). (typed_d ts gs gs untyped).end ≡ K.Fine) p.0 p.1;
     }
 
 pub refused-unit : (ts : List Tok) (x : Refusal) → (program_d ts).end ≡ C.Refused x → unit_d ts ≡ refused x
@@ -101,7 +101,7 @@ refused-unit ts x e = rw e refl
 
 pub typed-unit : (ts : List Tok) (fs : List Function) (next : ℕ) → (program_d ts).functions ≡ fs
     → (program_d ts).end ≡ C.At next
-    → unit_d ts ≡ after_typing fs (typedD ts fs fs untyped).end
+    → unit_d ts ≡ after_typing fs (typed_d ts fs fs untyped).end
 unfolding unit_d
 typed-unit ts fs next p e = rw (p, e) refl
 
@@ -345,7 +345,7 @@ module _ {old new : List Tok} {e : Edited old new} {before behind : List Functio
 
   -- room for as many functions as in the old text
   pub room : 64 ≡ length in_front.functions + suc its_turn.left
-  room = omega (arith, parts.room-is, its_turn.room-is, count_s in_front.same)
+  room = omega (arith, parts.room_is, its_turn.room_is, count_s in_front.same)
 
   pub read-front : program_d new
       ≡ all_then in_front.functions (functions_here new (suc its_turn.left) (behind_all start in_front.functions))
@@ -407,7 +407,7 @@ module _ {old new : List Tok} {e : Edited old new} {before behind : List Functio
     unfolding own
     old_own =
         program_of
-        (functions_s e.behind_old e.ends_old e.ends-rest its_turn.left headers.olds types 0
+        (functions_s e.behind_old e.ends_old e.ends_rest its_turn.left headers.olds types 0
         (omega arith))
 
     new-own : SimProgram e.new_back e.count
@@ -416,7 +416,7 @@ module _ {old new : List Tok} {e : Edited old new} {before behind : List Functio
     unfolding own
     new-own =
         program_of
-        (functions_s e.behind-new e.ends-new e.ends-rest its_turn.left headers.news types 0
+        (functions_s e.behind_new e.ends_new e.ends_rest its_turn.left headers.news types 0
         (omega arith))
 
     pub old_each : Each (SimFunction e.old_back e.count) behind own.functions
@@ -477,7 +477,7 @@ module _ {old new : List Tok} {e : Edited old new} {before behind : List Functio
 
     pub fine_back : All (FineIn new all_new_lem untyped) new-behind
     fine_back =
-        all_from e.behind-new (new_globals e heads) (untyped_s e.new-fits) new-each
+        all_from e.behind_new (new_globals e heads) (untyped_s e.new_fits) new-each
         (all-to e.behind_old (old_globals e heads) (untyped_s e.old_fits) old_each fine_old.1)
 
     pub read_there : EditedBehind e in_front.functions behind f

@@ -42,7 +42,7 @@ spelt_callee e is y h (Each.more {x = f} {x' = f'} q r) =
 
 -- THE THEOREM: of an accepted edited text check writes the new function as alone, and all others as before.
 module _ {old new : List Tok} {e : Edited old new} {alone : List Tok} (a : Alone e alone)
-    {old_names new-names rest-names own-names : List ℕ} (l : Lengths e a old_names new-names rest-names own-names)
+    {old_names new_names rest-names own-names : List ℕ} (l : Lengths e a old_names new_names rest-names own-names)
     {before behind : List Function} {replaced f' : Function}
     (x : AcceptedAs e a.inside a.size alone before replaced behind f') where
   heads : Each (SameHead e.Spelt) (before ++ (replaced ∷ behind)) (x.before' ++ (x.f ∷ x.behind'))
@@ -59,7 +59,7 @@ module _ {old new : List Tok} {e : Edited old new} {alone : List Tok} (a : Alone
   own_callees =
       record { same = λ z h. spelt_callee e (a.spells z) (a.inside.name z) (λ y y' p. a.spelling z y y' h p) heads }
 
-  pub written : WrittenAs a old_names new-names rest-names own-names x
+  pub written : WrittenAs a old_names new_names rest-names own-names x
   written =
       record {
         new-function = λ n. written_s a.tokens l.inside n own_globals_lem own_callees (untyped_s a.fits) x.same;
@@ -71,8 +71,8 @@ module _ {old new : List Tok} {e : Edited old new} {alone : List Tok} (a : Alone
             written_s e.behind_old l.old_back n (old_globals e heads) (old_callees e heads)
             (untyped_s e.old_fits) q)
             x.read_old;
-        behind-new = each_map (λ g' o q n.
-            written_s e.behind-new l.new_back n (new_globals e heads) (new_callees e heads)
-            (untyped_s e.new-fits) q)
+        behind_new = each_map (λ g' o q n.
+            written_s e.behind_new l.new_back n (new_globals e heads) (new_callees e heads)
+            (untyped_s e.new_fits) q)
             x.read-new;
       }

@@ -45,7 +45,7 @@ run_on {ts} {p} room (Run.more {f = f} {fs = fs} h e r) =
 
 pub record Turn (ts : List Tok) (room : ℕ) (p : Place) (f : Function) (fs : List Function) : Type 0 where
   pub left : ℕ
-  pub room-is : room ≡ suc left
+  pub room_is : room ≡ suc left
   pub begun : (token_at ts p.at).kind ≡ 38 → ⊥
   pub read : function_here ts p ≡ function f
   pub rest : (functions_here ts left (behind_one p f)).functions ≡ fs
@@ -82,7 +82,7 @@ turn ts (suc room) p f fs e =
     let rest : (functions_here ts room (behind_one p t.taken)).functions ≡ fs = cc t.functions in
     record {
       left = room;
-      room-is = refl;
+      room_is = refl;
       begun = eqb-false (token_at ts p.at).kind 38 t.test;
       read = t.is ∙ ap function same;
       rest = ap (λ (g : Function). (functions_here ts room (behind_one p g)).functions) (sym same) ∙ rest;
@@ -92,7 +92,7 @@ turn ts (suc room) p f fs e =
 -- .. and a run, with what follows it
 pub record Cut (ts : List Tok) (room : ℕ) (p : Place) (fs gs : List Function) : Type 0 where
   pub left : ℕ
-  pub room-is : room ≡ length fs + left
+  pub room_is : room ≡ length fs + left
   pub run : Run ts p fs
   pub rest : (functions_here ts left (behind_all p fs)).functions ≡ gs
   pub end : (functions_here ts room p).end ≡ (functions_here ts left (behind_all p fs)).end
@@ -100,13 +100,13 @@ pub record Cut (ts : List Tok) (room : ℕ) (p : Place) (fs gs : List Function) 
 pub cut : (ts : List Tok) (room : ℕ) (p : Place) (fs gs : List Function)
     → (functions_here ts room p).functions ≡ fs ++ gs → Cut ts room p fs gs
 cut ts room p [] gs e =
-    record { left = room; room-is = omega arith; run = Run.none; rest = e; end = refl }
+    record { left = room; room_is = omega arith; run = Run.none; rest = e; end = refl }
 cut ts room p (f ∷ fs) gs e =
     let t = turn ts room p f (fs ++ gs) e in
     let c = cut ts t.left (behind_one p f) fs gs t.rest in
     record {
       left = c.left;
-      room-is = omega (arith, t.room-is, c.room-is);
+      room_is = omega (arith, t.room_is, c.room_is);
       run = Run.more t.begun t.read c.run;
       rest = c.rest;
       end = t.end ∙ c.end;

@@ -33,10 +33,10 @@ pub record Edited (old new : List Tok) : Type 1 where
   pub old_back : Move
   pub new_back : Move
   pub behind_old : Sim old_back count old rest
-  pub behind-new : Sim new_back count new rest
+  pub behind_new : Sim new_back count new rest
   pub ends_old : (token_at old (old_back.by + count)).kind ≡ T.end_of_file
-  pub ends-new : (token_at new (new_back.by + count)).kind ≡ T.end_of_file
-  pub ends-rest : (token_at rest count).kind ≡ T.end_of_file
+  pub ends_new : (token_at new (new_back.by + count)).kind ≡ T.end_of_file
+  pub ends_rest : (token_at rest count).kind ≡ T.end_of_file
   pub Spelt : ℕ → ℕ → Type 0
   pub apart : Apart Spelt
   pub as_many : new_back.names ≡ old_back.names
@@ -44,7 +44,7 @@ pub record Edited (old new : List Tok) : Type 1 where
   pub late : (z : ℕ) → z < old_back.names → Spelt (old_back.name z) (new_back.name z)
   pub front_fits : Fits front
   pub old_fits : Fits old_back
-  pub new-fits : Fits new_back
+  pub new_fits : Fits new_back
 
 -- The old text is accepted, and `replaced` is its function that stands between the two parts.
 pub record Replaced {old new : List Tok} (e : Edited old new) (before : List Function) (replaced : Function)

@@ -16,12 +16,12 @@ use Rattle.related.specs.Written.{Written, written_of, SimWritten, SameLengths}
 
 -- names are as long in each reading
 pub record Lengths {old new : List Tok} (e : Edited old new) {alone : List Tok} (a : Alone e alone)
-    (old_names new-names rest-names own-names : List ℕ) : Type 0
+    (old_names new_names rest-names own-names : List ℕ) : Type 0
   where
-    pub front : SameLengths e.front new-names old_names
+    pub front : SameLengths e.front new_names old_names
     pub old_back : SameLengths e.old_back old_names rest-names
-    pub new_back : SameLengths e.new_back new-names rest-names
-    pub inside : SameLengths a.inside new-names own-names
+    pub new_back : SameLengths e.new_back new_names rest-names
+    pub inside : SameLengths a.inside new_names own-names
 
 -- a callee's type, by its spelling among the old headers
 unfoldable pub callee_spelt : (ℕ → Bool) → List Function → ℕ
@@ -45,21 +45,21 @@ written_own ts names m all f = written_of ts names (λ z. globals_of all (m.name
 
 -- all functions of the new text, wherever they are written
 pub record WrittenAs {old new : List Tok} {e : Edited old new} {alone : List Tok} (a : Alone e alone)
-    (old_names new-names rest-names own-names : List ℕ) {before behind : List Function} {replaced f' : Function}
+    (old_names new_names rest-names own-names : List ℕ) {before behind : List Function} {replaced f' : Function}
     (x : AcceptedAs e a.inside a.size alone before replaced behind f') : Type 0
   where
     -- the new function is written as alone
     pub new-function : (n : Counts)
-        → SimWritten a.inside n (written_in new new-names (x.before' ++ (x.f ∷ x.behind')) n x.f)
+        → SimWritten a.inside n (written_in new new_names (x.before' ++ (x.f ∷ x.behind')) n x.f)
         (written_alone alone own-names a.spells (before ++ (replaced ∷ behind)) f')
     -- those before it as before
     pub before_it : Each (λ g' g. (n : Counts)
-        → SimWritten e.front n (written_in new new-names (x.before' ++ (x.f ∷ x.behind')) n g')
+        → SimWritten e.front n (written_in new new_names (x.before' ++ (x.f ∷ x.behind')) n g')
         (written_in old old_names (before ++ (replaced ∷ behind)) none g)) x.before' before
     -- those behind it as in their own tokens, in both texts
     pub behind_old : Each (λ g o. (n : Counts)
         → SimWritten e.old_back n (written_in old old_names (before ++ (replaced ∷ behind)) n g)
         (written_own e.rest rest-names e.old_back (before ++ (replaced ∷ behind)) o)) behind x.own
-    pub behind-new : Each (λ g' o. (n : Counts)
-        → SimWritten e.new_back n (written_in new new-names (x.before' ++ (x.f ∷ x.behind')) n g')
+    pub behind_new : Each (λ g' o. (n : Counts)
+        → SimWritten e.new_back n (written_in new new_names (x.before' ++ (x.f ∷ x.behind')) n g')
         (written_own e.rest rest-names e.old_back (before ++ (replaced ∷ behind)) o)) x.behind' x.own

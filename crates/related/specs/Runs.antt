@@ -1,4 +1,4 @@
--- Reading functions one after the other (crates/functions/specs/Functions.antt, functionsD), cut where one likes: the
+-- Reading functions one after the other (crates/functions/specs/Functions.antt, functions_d), cut where one likes: the
 -- functions so far say how reading goes on.
 use Rattle.std.specs.Prelude.{ℕ, ◌≡◌, List, [], ◌∷◌, ◌++◌, false}
 use Rattle.lexer.specs.Decoded.{Tok, token_at}

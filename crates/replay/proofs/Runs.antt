@@ -238,9 +238,9 @@ module _ (quoted : Bool) (s : List ℕ) (from : ℕ) (before : List ℕ) where
         let z : left ≡ 0 = omega arith in
         done r p q (rw z)
 
-    pub at-end : (r : Loaded) → r.count ≡ count → r.next ≡ at → at ≡ length s
+    pub at_end : (r : Loaded) → r.count ≡ count → r.next ≡ at → at ≡ length s
         → Stored 0 (list_at quoted s (length before) from) before r cells × (r.count ≤ length before)
-    at-end r p q e = done r p q (rw e (runs_end quoted s (length before - count) left))
+    at_end r p q e = done r p q (rw e (runs_end quoted s (length before - count) left))
 
     pub one_less : (cells' : List ℕ) (r : Loaded) → 0 < left → length cells' ≡ length cells
         → Stored count (fitting (length cells - count) (length s) (run_at quoted s at)) cells r cells'

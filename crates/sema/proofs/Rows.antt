@@ -38,7 +38,7 @@ module _ (ts : List Tok) (names : List ℕ) (rows rest : List ℕ) (name : ℕ) 
   globals_from (f ∷ fs) n w h =
       let i = n.functions in
       let s = row_stands ts names rows rest n f fs h in
-      let few = w.0.formals-few in
+      let few = w.0.formals_few in
       let type : row_global rows i ≡ global (type_cell f.head.ret) (formal_types f.head.formals) =
       rw (
         row-ret ts names f n.items n.blocks rows i s.0 s.1,

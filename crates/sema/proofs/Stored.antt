@@ -12,7 +12,7 @@ use Rattle.graph.specs.declared.BlockRecord.{BlockRecord}
 use Rattle.graph.proofs.Rows.{counted_is}
 use Rattle.graph.proofs.Once.{order_permutation, order_below}
 use Rattle.graph.proofs.Below.{order_depends_below}
-use Rattle.graph.proofs.Callers.{blocks-few}
+use Rattle.graph.proofs.Callers.{blocks_few}
 use Rattle.lexer.specs.Decoded.{Tok}
 use Rattle.parser.specs.Runs.{type_cell}
 use Rattle.body.specs.Body.{Item}
@@ -47,7 +47,7 @@ no_block = fresh [] 0
 -- the record of block b, whose successors are s
 pub record RecordStands (first : ℕ) (r : BlockRecord) (b : Block) (s : List ℕ) : Type 0 where
   pub begins : r.first ≡ first + b.first
-  pub has-operations : r.operations ≡ b.operations
+  pub has_operations : r.operations ≡ b.operations
   pub count : r.successors ≡ length s
   pub one : r.to.0 ≡ get_or s 0 0
   pub another : r.other.0 ≡ get_or s 1 0
@@ -66,7 +66,7 @@ module _ (first : ℕ) (all : List (List ℕ)) (cells rest : List ℕ) where
       let l = block_cells first used j all (s ∷ ss) (b ∷ bs) ++ rest in
       record {
         begins = cell_is at 0 (k * 8) cells l (omega arith) h;
-        has-operations = cell_is at 1 (k * 8 + 1) cells l (omega arith) h;
+        has_operations = cell_is at 1 (k * 8 + 1) cells l (omega arith) h;
         count = cell_is at 2 (k * 8 + 2) cells l (omega arith) h;
         one = cell_is at 3 (k * 8 + 3) cells l (omega arith) h;
         another = cell_is at 4 (k * 8 + 4) cells l (omega arith) h;
@@ -153,7 +153,7 @@ module _ (is : List Item) (items args blocks : List ℕ) (first used base before
       let all = items_back is items args first used r2 r3 items-stand arguments-stand in
       rw (
         r.begins,
-        r.has-operations,
+        r.has_operations,
         block_back is items args first b.first b.operations all (block_inside is v h.0),
         blocks_back vs h.1,
       )
@@ -162,7 +162,7 @@ module _ (is : List Item) (items args blocks : List ℕ) (first used base before
   in_order_lem =
       let n = length (blocks_in is) in
       let g : ℕ → List ℕ = λ v. get_or (edges_in is) v [] in
-      rw (blocks-few n few, order_depends_below (recorded blocks base) g n successors_back)
+      rw (blocks_few n few, order_depends_below (recorded blocks base) g n successors_back)
       (blocks_back (block_order g n) (order-all-below g n))
 
 -- A function. -------------------------------------------------------------------------------------------------------
@@ -192,11 +192,11 @@ module _ (ts : List Tok) (names : List ℕ) (n : Counts) (f : Function) (rows it
       (fun_ext globals)
       (row-ret ts names f n.items n.blocks rows i r1 row)
       (row-token ts names f n.items n.blocks rows i r1 row)
-      (rw (row_at_most ts names f n.items n.blocks rows i r1 row fits.formals-few)
+      (rw (row_at_most ts names f n.items n.blocks rows i r1 row fits.formals_few)
       (formals_back formals rows _ r1 (row-formals ts names f n.items n.blocks rows i r1 row)))
       (rw (
         row_base ts names f n.items n.blocks rows i r1 row,
         row-blocks ts names f n.items n.blocks rows i r1 row,
       )
       (in_order_lem f.items items args blocks n.items n.arguments n.blocks n.predecessors r2 r3 r4 records
-      arguments links fits.few-blocks))
+      arguments links fits.few_blocks))

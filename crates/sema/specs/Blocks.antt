@@ -28,7 +28,7 @@ type_items_d ts globals ret t (i ∷ is) =
     then_typed (type_item_d ts globals ret t i) (λ t1. type_items_d ts globals ret t1 is)
 
 -- "A block without terminator: void function gets a `ret` with its last operation's token; otherwise 21." The `ret`s
--- stand among the items already (crates/body/specs/Body.antt, closedItems).
+-- stand among the items already (crates/body/specs/Body.antt, closed_items).
 unfoldable pub type_end_d : List ℕ → List Item → Typed
 type_end_d t [] = on t
 type_end_d t (i ∷ []) = pick (is_terminator i) (on t) (stop t (refusal 21 (item_token i) 0))

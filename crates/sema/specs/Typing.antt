@@ -16,10 +16,10 @@ use Rattle.sema.specs.Symbols.{Typed, on, stop, then_typed, facts, no_name, ente
 
 -- result type, left, right compared
 unfoldable pub then_three : List ℕ → ℕ → ℕ → ℕ → ℕ → ℕ → ℕ → Typed
-then_three t token result left right wantedResult wantedOperands =
-    then_same t token result wantedResult
-    (then_same t token left wantedOperands
-    (then_same t token right wantedOperands (on t)))
+then_three t token result left right wanted_result wanted_operands =
+    then_same t token result wanted_result
+    (then_same t token left wanted_operands
+    (then_same t token right wanted_operands (on t)))
 
 -- What is compared: result type, left, right; `eq`: right against left, then result. The kind is that of the operator's
 -- word, and they stand in this order (crates/pieces/specs/Kinds.antt): `add` `mul` `sub` `div` `mod`, then `eq`, then

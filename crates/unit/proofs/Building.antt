@@ -27,7 +27,7 @@ use Rattle.functions.proofs.Standing.{types-stored, items-stored}
 use Rattle.parser.specs.Runs.{type_cell}
 use Rattle.sema.specs.Symbols.{Typed}
 use Rattle.sema.specs.Blocks.{type_function_d}
-use Rattle.sema.specs.Program.{globals_of, ordered_blocks, type_program_d as typedD}
+use Rattle.sema.specs.Program.{globals_of, ordered_blocks, type_program_d as typed_d}
 use Rattle.sema.specs.declared.Checked.{Checked}
 use Rattle.sema.specs.declared.Checked.TheVariants as K
 use Rattle.sema.proofs.Rows.{globals_stored}
@@ -102,8 +102,8 @@ module _ (ts : List Tok) (names : List ℕ) (fs : List Function) (fits : FitsFro
   rows-stand : drop 1 rows ≡ rows_cells ts names none fs ++ zr
   rows-stand = refl
 
-  pub functions-few : length fs ≤ 64
-  functions-few = omega (arith, inside.functions-few, functions-counted none fs)
+  pub functions_few : length fs ≤ 64
+  functions_few = omega (arith, inside.functions_few, functions-counted none fs)
 
   laid : LaidFits ts names fs
   laid = laid_fits ts names fs fits
@@ -111,12 +111,12 @@ module _ (ts : List Tok) (names : List ℕ) (fs : List Function) (fits : FitsFro
   pub ready : RowsFit rows (length fs) 0 (length fs) (length items)
   ready =
       record {
-        types-few = types-stored ts names rows zr fs fits rows-stand;
-        items-fit = λ i from h.
+        types_few = types-stored ts names rows zr fs fits rows-stand;
+        items_fit = λ i from h.
             omega (
               arith,
               items-stored ts names rows zr fs fits rows-stand i (omega (arith, h)),
-              length_over I (untyped_items none fs) (omega (arith, laid.items-fit)),
+              length_over I (untyped_items none fs) (omega (arith, laid.items_fit)),
             );
       }
 
@@ -132,7 +132,7 @@ module _ (ts : List Tok) (names : List ℕ) (fs : List Function) (fits : FitsFro
       (drop (length (untyped_items none fs)) I) (drop (length (untyped_arguments fs)) A) zr
       (drop (length (all_blocks none fs)) B) rows-stand refl refl refl
 
-  pub ends_as : (typed_rows ts rows (length fs) blocks untyped 0 (length fs) items args).end ≡ (typedD ts fs fs
+  pub ends_as : (typed_rows ts rows (length fs) blocks untyped 0 (length fs) items args).end ≡ (typed_d ts fs fs
       untyped).end
   ends_as = typing.ends
 
@@ -216,12 +216,12 @@ module _ (ts : List Tok) (names f i a b p : List ℕ) where
       (fits : AllFit (program_d ts))
       (n : Counts) (parsed : U.Done n ≡ program_read (program_d ts)) (f₁ i₁ a₁ b₁ p₁ : List ℕ)
       (held : Held ts names fs s₀ (slices f₁ i₁ a₁ b₁ p₁) (program_d ts).end) where
-    at-end : ((next : ℕ) × ((program_d ts).end ≡ C.At next)) × (n ≡ counts_from none fs)
+    at_end : ((next : ℕ) × ((program_d ts).end ≡ C.At next)) × (n ≡ counts_from none fs)
     unfolding program_read
-    at-end = ended_at_lem (program_d ts).end (counts_from none fs) n parsed
+    at_end = ended_at_lem (program_d ts).end (counts_from none fs) n parsed
 
     n_is : n.functions ≡ length fs
-    n_is = omega (arith, ap (λ (k : Counts). k.functions) at-end.1, functions-counted none fs)
+    n_is = omega (arith, ap (λ (k : Counts). k.functions) at_end.1, functions-counted none fs)
 
     laid_are : slices f₁ i₁ a₁ b₁ p₁
         ≡ slices
@@ -231,9 +231,9 @@ module _ (ts : List Tok) (names f i a b p : List ℕ) where
         (over b (all_blocks none fs))
         (over p (all_predecessors fs))
     laid_are =
-        subst (λ (e : Consumed). Held ts names fs s₀ (slices f₁ i₁ a₁ b₁ p₁) e) at-end.0.1 held
-        ∙ stored_laid ts names f i a b p rows_long long.items-long
-        long.arguments-long long.blocks-long long.predecessors-long fs fits
+        subst (λ (e : Consumed). Held ts names fs s₀ (slices f₁ i₁ a₁ b₁ p₁) e) at_end.0.1 held
+        ∙ stored_laid ts names f i a b p rows_long long.items_long
+        long.arguments_long long.blocks_long long.predecessors_long fs fits
 
     f-is : f₁ ≡ over f (length fs ∷ rows_cells ts names none fs)
     f-is = ap (λ (s : Slices). s.functions) laid_are
@@ -256,17 +256,17 @@ module _ (ts : List Tok) (names f i a b p : List ℕ) where
     ready_now : RowsFit (over f (length fs ∷ rows_cells ts names none fs)) (length fs) 0 (length fs)
         (length (over i (untyped_items none fs)))
     ready_now =
-        ready ts names fs fits f i a b p rows_long long.items-long
-        long.arguments-long long.blocks-long long.predecessors-long
+        ready ts names fs fits f i a b p rows_long long.items_long
+        long.arguments_long long.blocks_long long.predecessors_long
 
     pub few : n.functions ≤ 64
     few =
         omega (
           arith,
           n_is,
-          functions-few ts names fs fits f i a b p rows_long
-              long.items-long
-              long.arguments-long long.blocks-long long.predecessors-long,
+          functions_few ts names fs fits f i a b p rows_long
+              long.items_long
+              long.arguments_long long.blocks_long long.predecessors_long,
         )
 
     pub rows_fit_lem : RowsFit f₁ n.functions 0 n.functions (length i₁)
@@ -284,24 +284,24 @@ module _ (ts : List Tok) (names f i a b p : List ℕ) where
     done-is : done ≡ laid_done
     done-is = rw (f-is, n_is, b_is, i_is, a_is)
 
-    ends_is : done.end ≡ (typedD ts fs fs untyped).end
+    ends_is : done.end ≡ (typed_d ts fs fs untyped).end
     ends_is =
         ap (λ (d : Done). d.end) done-is
-        ∙ ends_as ts names fs fits f i a b p rows_long long.items-long
-        long.arguments-long long.blocks-long long.predecessors-long
+        ∙ ends_as ts names fs fits f i a b p rows_long long.items_long
+        long.arguments_long long.blocks_long long.predecessors_long
 
     module _ (r : Checked) (i₂ a₂ : List ℕ) (typed : RowsHeld r i₂ a₂ done) where
       pub types_refuse : (e : Refusal) → r ≡ K.Refused e → unit_d ts ≡ refused e
       unfolding unit_d
       types_refuse e h =
-          let q : (typedD ts fs fs untyped).end ≡ K.Refused e = sym ends_is ∙ sym typed.answer ∙ h in
-          rw (at-end.0.1, q)
+          let q : (typed_d ts fs fs untyped).end ≡ K.Refused e = sym ends_is ∙ sym typed.answer ∙ h in
+          rw (at_end.0.1, q)
 
       pub types-fine : r ≡ K.Fine → unit_d ts ≡ checked fs
       unfolding unit_d
       types-fine h =
-          let q : (typedD ts fs fs untyped).end ≡ K.Fine = sym ends_is ∙ sym typed.answer ∙ h in
-          rw (at-end.0.1, q)
+          let q : (typed_d ts fs fs untyped).end ≡ K.Fine = sym ends_is ∙ sym typed.answer ∙ h in
+          rw (at_end.0.1, q)
 
       written : r ≡ K.Fine → fronts (counts_from none fs) (slices f₁ i₂ a₂ b₁ p₁) ≡ unit_slices ts names (checked fs)
       written h =
@@ -310,8 +310,8 @@ module _ (ts : List Tok) (names f i a b p : List ℕ) where
           ap (fronts (counts_from none fs))
           (same-slices f-is (k.0 ∙ ap (λ (d : Done). d.items) done-is) (k.1 ∙ ap (λ (d : Done). d.arguments)
           done-is) b_is p_is
-          ∙ typed-slices ts names fs fits f i a b p rows_long long.items-long long.arguments-long
-          long.blocks-long long.predecessors-long z)
+          ∙ typed-slices ts names fs fits f i a b p rows_long long.items_long long.arguments_long
+          long.blocks_long long.predecessors_long z)
           ∙ front-slices ts names fs fits (callee_in fs) (tables_of ts fs fs) f i a b p
           (omega (arith, length-items none fs, length-tables ts fs fs (callee_in fs) none))
           (omega (arith, length-arguments none fs, length-typed ts fs fs none))
@@ -322,5 +322,5 @@ module _ (ts : List Tok) (names f i a b p : List ℕ) where
       fine-whole h =
           let v = inside-from none fs none_inside fits in
           let u = types-fine h in
-          rw (u, at-end.1)
-          (refl, (written h, (v.functions-few, v.items-few, v.arguments-few, v.blocks-few, v.predecessors-few)))
+          rw (u, at_end.1)
+          (refl, (written h, (v.functions_few, v.items_few, v.arguments_few, v.blocks_few, v.predecessors_few)))

@@ -23,7 +23,7 @@ use Rattle.functions.proofs.Standing.{row_first, row-items, row_stands, rows_beh
 use Rattle.sema.specs.Symbols.{Typed, then_end, then_typed}
 use Rattle.sema.specs.Globals.{globals_in}
 use Rattle.sema.specs.Blocks.{type_function_d, type_row_d}
-use Rattle.sema.specs.Program.{globals_of, ordered_blocks, type_program_d as typedD}
+use Rattle.sema.specs.Program.{globals_of, ordered_blocks, type_program_d as typed_d}
 use Rattle.sema.specs.declared.Checked.{Checked}
 use Rattle.sema.specs.declared.Checked.TheVariants as K
 use Rattle.sema.proofs.Stored.{row_typed}
@@ -36,9 +36,9 @@ abbrev cells_of : Counts → Function → List ℕ
 cells_of n f =
     block_cells n.items n.predecessors 0 (edges_in f.items) (edges_in f.items) (blocks_in f.items)
 
-blocks-long : (n : Counts) (f : Function) → length (cells_of n f) ≡ length (blocks_in f.items) * 8
+blocks_long : (n : Counts) (f : Function) → length (cells_of n f) ≡ length (blocks_in f.items) * 8
 unfolding all_blocks counts_from
-blocks-long n f = omega (arith, length-all_blocks n (f ∷ []), length-append (cells_of n f) [])
+blocks_long n f = omega (arith, length-all_blocks n (f ∷ []), length-append (cells_of n f) [])
 
 module _ (ts : List Tok) (names rows : List ℕ) (all : List Function) (total : ℕ) (blocks t₀ : List ℕ)
     (globals_are : (name : ℕ) → globals_in rows total name ≡ globals_of all name)
@@ -52,7 +52,7 @@ module _ (ts : List Tok) (names rows : List ℕ) (all : List Function) (total : 
 
   -- What the loop over these functions leaves, behind what stands before them: pi, pa; zi, za follow.
   pub record Same (gs : List Function) (n : Counts) (pi pa zi za : List ℕ) (d : Done) : Type 0 where
-    pub ends : d.end ≡ (typedD ts all gs untyped).end
+    pub ends : d.end ≡ (typed_d ts all gs untyped).end
     pub items_are : d.end ≡ K.Fine → d.items ≡ pi ++ (all_items (callee_in all) n gs (tables_of ts all gs) ++ zi)
     pub arguments_are : d.end ≡ K.Fine → d.arguments ≡ pa ++ (all_arguments gs (tables_of ts all gs) ++ za)
 
@@ -60,7 +60,7 @@ module _ (ts : List Tok) (names rows : List ℕ) (all : List Function) (total : 
   module _ (n : Counts) (f : Function) (gs : List Function) (fits : Fits n f) (pi pa zi za zr zb : List ℕ)
       (rows-stand : drop (row_at n.functions) rows ≡ rows_cells ts names n (f ∷ gs) ++ zr)
       (blocks-stand : drop (n.blocks * 8) blocks ≡ all_blocks n (f ∷ gs) ++ zb)
-      (items-long : length pi ≡ n.items * 8) (arguments-long : length pa ≡ n.arguments * 2) where
+      (items_long : length pi ≡ n.items * 8) (arguments_long : length pa ≡ n.arguments * 2) where
     abbrev is : List Item
     is = f.items
 
@@ -96,12 +96,12 @@ module _ (ts : List Tok) (names rows : List ℕ) (all : List Function) (total : 
         rw m
         (sym (drop-drop (length (blocks_in f.items) * 8) (n.blocks * 8) blocks)
         ∙ ap (drop (length (blocks_in f.items) * 8)) here
-        ∙ drop_at bc (all_blocks (counts_with n f) gs ++ zb) (length (blocks_in f.items) * 8) (blocks-long n f))
+        ∙ drop_at bc (all_blocks (counts_with n f) gs ++ zb) (length (blocks_in f.items) * 8) (blocks_long n f))
 
     typed : type_row_d ts rows total items args blocks n.functions t₀ ≡ one f
     typed =
         row_typed ts names n f rows items args blocks total (globals_of all) t₀ row.0 mi ma (all_blocks next gs ++ zb)
-        globals_are row.1 (drop_at pi _ (n.items * 8) items-long) (drop_at pa _ (n.arguments * 2) arguments-long)
+        globals_are row.1 (drop_at pi _ (n.items * 8) items_long) (drop_at pa _ (n.arguments * 2) arguments_long)
         here fits
         ∙ ap (λ (k : ℕ). type_function_d ts (globals_of all) (type_cell f.head.ret) f.token f.head.formals
         (ordered_blocks f.items) (pad_to k [])) blank
@@ -119,7 +119,7 @@ module _ (ts : List Tok) (names rows : List ℕ) (all : List Function) (total : 
           arith,
           length-append pi (typed_items_cells (one f).table (callee_in all) n.arguments f.items),
           length-typed_items (one f).table (callee_in all) n.arguments f.items,
-          items-long,
+          items_long,
         )
 
     pub arguments_long' : length pa' ≡ next.arguments * 2
@@ -128,18 +128,18 @@ module _ (ts : List Tok) (names rows : List ℕ) (all : List Function) (total : 
           arith,
           length-append pa (typed_arguments_cells (one f).table f.items),
           length-typed_arguments (one f).table f.items,
-          arguments-long,
+          arguments_long,
         )
 
     written : typed_items (one f).table (callee_in all) items n.items (length is) ≡ pi' ++ mi
     written =
-        items-typed (one f).table (callee_in all) is pi mi n.items n.arguments items-long
+        items-typed (one f).table (callee_in all) is pi mi n.items n.arguments items_long
         ∙ sym (append_assoc pi (typed_items_cells (one f).table (callee_in all) n.arguments is) mi)
 
     called : typed_calls (one f).table items args n.items (length is) ≡ pa' ++ ma
     called =
         calls_typed (one f).table is items mi pa ma n.items n.arguments
-        (drop_at pi _ (n.items * 8) items-long) arguments-long
+        (drop_at pi _ (n.items * 8) items_long) arguments_long
         ∙ sym (append_assoc pa (typed_arguments_cells (one f).table is) ma)
 
     callees_same : callee_of rows total ≡ callee_in all
@@ -175,7 +175,7 @@ module _ (ts : List Tok) (names rows : List ℕ) (all : List Function) (total : 
 
     pub by_end : (e : Checked) → (one f).end ≡ e → Same gs next pi' pa' zi za rest-done
         → Same (f ∷ gs) n pi pa zi za (then_row e rest-done (λ r. done (K.Refused r) items args))
-    unfolding typedD then_typed then_end then_row all_items all_arguments tables_of
+    unfolding typed_d then_typed then_end then_row all_items all_arguments tables_of
     by_end K.Fine h s =
         record {
           ends = s.ends ∙ rw h;
@@ -201,7 +201,7 @@ module _ (ts : List Tok) (names rows : List ℕ) (all : List Function) (total : 
       → Same [] n pi pa zi za
       (typed_rows ts rows total blocks t₀ n.functions 0 (pi ++ (untyped_items n [] ++ zi))
       (pa ++ (untyped_arguments [] ++ za)))
-  unfolding typed_rows typedD untyped_items untyped_arguments all_items all_arguments tables_of
+  unfolding typed_rows typed_d untyped_items untyped_arguments all_items all_arguments tables_of
   none-typed n pi pa zi za = record { ends = refl; items_are = λ e. refl; arguments_are = λ e. refl }
 
   pub all_typed : (gs : List Function) (n : Counts) → FitsFrom n gs → (pi pa zi za zr zb : List ℕ)
@@ -218,7 +218,7 @@ module _ (ts : List Tok) (names rows : List ℕ) (all : List Function) (total : 
       let t = turned n f gs w.0 pi pa zi za zr zb hr hb hi ha in
       let rest = all_typed gs (counts_with n f) w.1 (pi' n f gs w.0 pi pa zi za zr zb hr hb hi ha)
       (pa' n f gs w.0 pi pa zi za zr zb hr hb hi ha) zi za zr zb
-      (rows_behind ts names rows zr n f gs w.0.formals-few hr)
+      (rows_behind ts names rows zr n f gs w.0.formals_few hr)
       (blocks-behind n f gs w.0 pi pa zi za zr zb hr hb hi ha)
       (items_long' n f gs w.0 pi pa zi za zr zb hr hb hi ha)
       (arguments_long' n f gs w.0 pi pa zi za zr zb hr hb hi ha) in

@@ -16,7 +16,7 @@ use Rattle.functions.specs.Laid.{rows_cells, all_blocks, all_predecessors}
 use Rattle.functions.specs.declared.Counts.{Counts}
 use Rattle.functions.specs.declared.ProgramRead.{ProgramRead}
 use Rattle.functions.specs.declared.ProgramRead.TheVariants as U
-use Rattle.sema.specs.Program.{globals_of, function_typed, type_program_d as typedD}
+use Rattle.sema.specs.Program.{globals_of, function_typed, type_program_d as typed_d}
 use Rattle.sema.specs.declared.Checked.{Checked}
 use Rattle.sema.specs.declared.Checked.TheVariants as K
 use Rattle.elaborate.specs.Types.{callee_in, typed_items_cells, typed_arguments_cells}
@@ -36,7 +36,7 @@ after_typing fs K.Fine = checked fs
 after_typing fs (K.Refused e) = refused e
 
 abbrev pub after_parsing : List Tok → List Function → Consumed → UnitOutcome
-after_parsing ts fs (C.At next) = after_typing fs (typedD ts fs fs untyped).end
+after_parsing ts fs (C.At next) = after_typing fs (typed_d ts fs fs untyped).end
 after_parsing ts fs (C.Refused e) = refused e
 
 unfoldable pub unit_d : List Tok → UnitOutcome

@@ -36,8 +36,8 @@ typed_rows ts rows n blocks t i (suc m) items args =
 
 -- No row of the n has a type number past 64, and the items of the `more` rows from `first` on lie in their slice.
 pub record RowsFit (rows : List ℕ) (n first more cells : ℕ) : Type 0 where
-  pub types-few : (i : ℕ) → i < n → get_or rows (type_at i) 0 ≤ most_functions
-  pub items-fit : (i : ℕ) → first ≤ i → i < first + more
+  pub types_few : (i : ℕ) → i < n → get_or rows (type_at i) 0 ≤ most_functions
+  pub items_fit : (i : ℕ) → first ≤ i → i < first + more
       → (get_or rows (first_item_at i) 0 + get_or rows (item_count_at i) 0) * 8 ≤ cells
 
 -- The answer, and where all functions are typed, the cells. A refusal says nothing of them.

@@ -9,7 +9,8 @@ pub loop-next-init : goal.loop-next-init
 loop-next-init c = (
   4096,
   0,
-  begin (tokens_of c.args.tokens.now) c.args.void c.args.at c.args.first c.args.used c.args.items.now c.args.arguments.now
+  begin (tokens_of c.args.tokens.now) c.args.void c.args.at c.args.first c.args.used c.args.items.now
+      c.args.arguments.now
       c.args.labels.now c.requires.within,
 )
 
@@ -30,20 +31,23 @@ loop-next-smaller c =
 pub loop-next-preserved : goal.loop-next-preserved
 loop-next-preserved c =
     let g = rw c.in-On.is at c.turn.ensures in
-    onward c.requires.first_bound.0 c.requires.first_bound.1 c.loop-next.invariant.0 c.loop-next.invariant.1 c.loop-next.invariant.2 c.turn.auto.labels g
+    onward c.requires.first_bound.0 c.requires.first_bound.1 c.loop-next.invariant.0 c.loop-next.invariant.1
+    c.loop-next.invariant.2 c.turn.auto.labels g
 
 pub overflow_sub-result : goal.overflow_sub-result
 overflow_sub-result c =
     let g = rw c.in-Done.is at c.turn.ensures in
     let f =
-    finish c.requires.first_bound.0 c.requires.first_bound.1 c.loop-next.invariant.0 c.loop-next.invariant.1 c.loop-next.invariant.2 g in
+    finish c.requires.first_bound.0 c.requires.first_bound.1 c.loop-next.invariant.0 c.loop-next.invariant.1
+    c.loop-next.invariant.2 g in
     omega (arith, f.1)
 
 pub overflow_sub-result-in-Done : goal.overflow_sub-result-in-Done
 overflow_sub-result-in-Done c =
     let g = rw c.in-Done.is at c.turn.ensures in
     let f =
-    finish c.requires.first_bound.0 c.requires.first_bound.1 c.loop-next.invariant.0 c.loop-next.invariant.1 c.loop-next.invariant.2 g in
+    finish c.requires.first_bound.0 c.requires.first_bound.1 c.loop-next.invariant.0 c.loop-next.invariant.1
+    c.loop-next.invariant.2 g in
     omega (arith, f.2)
 
 pub returns-in-Done : goal.returns-in-Done
@@ -51,7 +55,8 @@ returns-in-Done c =
     let ts = tokens_of c.args.tokens.now in
     let g = rw c.in-Done.is at c.turn.ensures in
     let f =
-    finish c.requires.first_bound.0 c.requires.first_bound.1 c.loop-next.invariant.0 c.loop-next.invariant.1 c.loop-next.invariant.2 g in
+    finish c.requires.first_bound.0 c.requires.first_bound.1 c.loop-next.invariant.0 c.loop-next.invariant.1
+    c.loop-next.invariant.2 g in
     let w = closed-read ts c.args.void c.args.at c.args.first c.args.used (function_body ts c.args.at) c.in-Done.e
     c.args.items.now c.turn.new.items c.args.arguments.now c.turn.new.arguments
     c.args.labels.now c.turn.new.labels f in
@@ -61,7 +66,8 @@ pub returns-in-Refused : goal.returns-in-Refused
 returns-in-Refused c =
     let ts = tokens_of c.args.tokens.now in
     let g = rw c.in-Refused.is at c.turn.ensures in
-    let f = stop c.requires.first_bound.0 c.requires.first_bound.1 c.loop-next.invariant.0 c.loop-next.invariant.1 c.in-Refused.e c.loop-next.invariant.2 g in
+    let f = stop c.requires.first_bound.0 c.requires.first_bound.1 c.loop-next.invariant.0 c.loop-next.invariant.1
+    c.in-Refused.e c.loop-next.invariant.2 g in
     let w = refused-read ts c.args.void c.args.at c.args.first c.args.used (function_body ts c.args.at) c.in-Refused.e
     c.args.items.now c.turn.new.items c.args.arguments.now c.turn.new.arguments
     c.args.labels.now c.turn.new.labels f in

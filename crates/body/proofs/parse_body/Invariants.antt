@@ -7,7 +7,8 @@ use Rattle.body.proofs.parse_body.Given as goal
 
 abbrev pub invariant-loop-next : goal.invariant-loop-next
 invariant-loop-next l = (room : ℕ) × (blocks : ℕ)
-    × Reading (tokens_of l.tokens) l.void l.at l.first l.used (function_body (tokens_of l.tokens) l.at) l.initial.items l.initial.arguments l.initial.labels l.s l.items
+    × Reading (tokens_of l.tokens) l.void l.at l.first l.used (function_body (tokens_of l.tokens) l.at)
+    l.initial.items l.initial.arguments l.initial.labels l.s l.items
     l.arguments l.labels room blocks
 
 abbrev pub decreases-loop-next : goal.decreases-loop-next

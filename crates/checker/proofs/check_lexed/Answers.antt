@@ -8,21 +8,21 @@ use Rattle.body.specs.Room.{Within}
 use Rattle.messages.specs.Messages.{ShortNames}
 use Rattle.unit.specs.Outcome.{Counted}
 use Rattle.checker.proofs.Ends.{ends-accepted, ends-refused}
-use Rattle.checker.proofs.Lexed.{tokens-few, names-few, used_tokens, used_names, within, short}
+use Rattle.checker.proofs.Lexed.{tokens_few, names_few, used_tokens, used_names, within, short}
 use Rattle.checker.proofs.check_lexed.Goals as goal
 
 pub unit-requires : goal.unit-requires
 unit-requires c = (
   subst (λ (x : List ℕ). Within (tokens_of x) 0) (sym (used_tokens c.requires.0)) (within c.requires.0),
-  c.requires.1.functions-long,
+  c.requires.1.functions_long,
   c.requires.1.long,
 )
 
 pub refuse-requires : goal.refuse-requires
 refuse-requires c = (
-  omega (arith, tokens-few c.requires.0, c.requires.1.tokens-long),
-  omega (arith, names-few c.requires.0, c.requires.1.names-long),
-  c.requires.1.message-long,
+  omega (arith, tokens_few c.requires.0, c.requires.1.tokens_long),
+  omega (arith, names_few c.requires.0, c.requires.1.names_long),
+  c.requires.1.message_long,
   subst (ShortNames c.args.text.now) (sym c.requires.0.names) (short c.requires.0),
 )
 
@@ -33,19 +33,21 @@ counted-requires c =
 
 pub returns-in-Refused : goal.returns-in-Refused
 returns-in-Refused c =
-    ends-refused c.requires.0 c.args.message.now _ _ _ (used_tokens c.requires.0) (used_names c.requires.0) c.in-Refused.e _ _
+    ends-refused c.requires.0 c.args.message.now _ _ _ (used_tokens c.requires.0) (used_names c.requires.0)
+    c.in-Refused.e _ _
     (sym c.in-Refused.is ∙ c.unit.ensures.value) c.refuse.ensures.0 c.refuse.ensures.1
 
 pub returns-in-Done : goal.returns-in-Done
 returns-in-Done c =
     rw c.counted.ensures
-    (ends-accepted c.requires.0 c.args.message.now _ _ _ (used_tokens c.requires.0) (used_names c.requires.0) c.in-Done.n _
+    (ends-accepted c.requires.0 c.args.message.now _ _ _ (used_tokens c.requires.0) (used_names c.requires.0)
+    c.in-Done.n _
     (sym c.in-Done.is ∙ c.unit.ensures.value) c.unit.ensures.unit_held)
 
 pub slice_bounds-unit-end : goal.slice_bounds-unit-end
 slice_bounds-unit-end c =
-    omega (arith, tokens-few c.requires.0, c.requires.1.tokens-long)
+    omega (arith, tokens_few c.requires.0, c.requires.1.tokens_long)
 
 pub slice_bounds-unit-end-2 : goal.slice_bounds-unit-end-2
 slice_bounds-unit-end-2 c =
-    omega (arith, names-few c.requires.0, c.requires.1.names-long)
+    omega (arith, names_few c.requires.0, c.requires.1.names_long)

@@ -14,6 +14,7 @@ returns c =
       names = c.clear_from-2.ensures;
       unit =
           same-slices
-          (c.clear_from-3.ensures ∙ ap (λ (k : ℕ). pad_to (length c.args.functions.now) (take k c.args.functions.now)) c.rows_used.ensures)
+          (c.clear_from-3.ensures ∙ ap (λ (k : ℕ). pad_to (length c.args.functions.now) (take k c.args.functions.now))
+          c.rows_used.ensures)
           c.clear_from-4.ensures c.clear_from-5.ensures c.clear_from-6.ensures c.clear_from-7.ensures;
     }

@@ -56,5 +56,11 @@ returns c = (
     le-ltb _ _ c.if-b-lt-BLOCKS.false,
     le-ltb _ _ c.if-p-lt-PREDECESSORS.false,
   ),
-  (c.if-f-lt-TABLE.false, c.if-i-lt-ITEMS.false, c.if-a-lt-ARGUMENTS.false, c.if-b-lt-BLOCKS.false, c.if-p-lt-PREDECESSORS.false),
+  (
+    c.if-f-lt-TABLE.false,
+    c.if-i-lt-ITEMS.false,
+    c.if-a-lt-ARGUMENTS.false,
+    c.if-b-lt-BLOCKS.false,
+    c.if-p-lt-PREDECESSORS.false,
+  ),
 )

@@ -16,7 +16,8 @@ loop-left-preserved c =
 
 pub returns : goal.returns
 returns c =
-    sym (calls_none c.args.table.now c.args.items.now c.loop-left.arguments c.loop-left.at c.loop-left.left (omega arith))
+    sym (calls_none c.args.table.now c.args.items.now c.loop-left.arguments c.loop-left.at c.loop-left.left (omega
+    arith))
     ∙ c.loop-left.invariant.2
 
 pub loop-left-init : goal.loop-left-init

@@ -12,7 +12,8 @@ overflow_add-at c =
 
 pub loop-left-preserved : goal.loop-left-preserved
 loop-left-preserved c =
-    let m = items_more c.args.table.now (callee_of c.args.rows.now c.args.n) c.loop-left.items c.loop-left.at c.loop-left.left
+    let m = items_more c.args.table.now (callee_of c.args.rows.now c.args.n) c.loop-left.items c.loop-left.at
+    c.loop-left.left
     c.loop-left-test.true in (
       omega arith,
       c.put_record.auto.items ∙ c.loop-left.invariant.1,
@@ -21,7 +22,8 @@ loop-left-preserved c =
 
 pub returns : goal.returns
 returns c =
-    sym (items-none c.args.table.now (callee_of c.args.rows.now c.args.n) c.loop-left.items c.loop-left.at c.loop-left.left
+    sym (items-none c.args.table.now (callee_of c.args.rows.now c.args.n) c.loop-left.items c.loop-left.at
+    c.loop-left.left
     (omega arith)) ∙ c.loop-left.invariant.2
 
 pub loop-left-init : goal.loop-left-init

@@ -15,7 +15,8 @@ loop-left-preserved c =
 
 pub returns : goal.returns
 returns c =
-    sym (run_none c.args.table.now c.loop-left.arguments c.loop-left.at c.loop-left.left (omega arith)) ∙ c.loop-left.invariant.2
+    sym (run_none c.args.table.now c.loop-left.arguments c.loop-left.at c.loop-left.left (omega arith)) ∙
+    c.loop-left.invariant.2
 
 pub loop-left-init : goal.loop-left-init
 loop-left-init c = (refl, refl, refl)

@@ -14,15 +14,27 @@ pub returns-then-kind-eq-UNARY : goal.returns-then-kind-eq-UNARY
 unfolding typed_record pick
 returns-then-kind-eq-UNARY c =
     let unary : c.args.r.kind ≡ 3 = c.if-kind-eq-UNARY.true in
-    rw (ne_eqb _ _ c.if-kind-eq-BINARY.false, eq-eqb _ _ unary, ← c.cell_at.ensures) c.with_types-then-kind-eq-UNARY.ensures
+    rw (ne_eqb _ _ c.if-kind-eq-BINARY.false, eq-eqb _ _ unary, ← c.cell_at.ensures)
+    c.with_types-then-kind-eq-UNARY.ensures
 
 pub returns-then-is_call : goal.returns-then-is_call
 unfolding typed_record pick
 returns-then-is_call c =
-    rw (ne_eqb _ _ c.if-kind-eq-BINARY.false, ne_eqb _ _ c.if-kind-eq-UNARY.false, ← c.is_call.ensures, c.if-is_call.true, ← c.callee_type.ensures)
+    rw (
+      ne_eqb _ _ c.if-kind-eq-BINARY.false,
+      ne_eqb _ _ c.if-kind-eq-UNARY.false,
+      ← c.is_call.ensures,
+      c.if-is_call.true,
+      ← c.callee_type.ensures,
+    )
     c.with_types-then-is_call.ensures
 
 pub returns : goal.returns
 unfolding typed_record pick
 returns c =
-    rw (ne_eqb _ _ c.if-kind-eq-BINARY.false, ne_eqb _ _ c.if-kind-eq-UNARY.false, ← c.is_call.ensures, c.if-is_call.false)
+    rw (
+      ne_eqb _ _ c.if-kind-eq-BINARY.false,
+      ne_eqb _ _ c.if-kind-eq-UNARY.false,
+      ← c.is_call.ensures,
+      c.if-is_call.false,
+    )

@@ -14,7 +14,8 @@ pub loop-i-preserved : goal.loop-i-preserved
 loop-i-preserved c = (
   omega arith,
   c.put_cell.auto.out ∙ c.loop-i.invariant.1,
-  rw c.put_cell.ensures (stored c.args.cells.now c.loop-i.out c.args.at c.loop-i.i c.loop-i-test.true) ∙ c.loop-i.invariant.2,
+  rw c.put_cell.ensures (stored c.args.cells.now c.loop-i.out c.args.at c.loop-i.i c.loop-i-test.true) ∙
+      c.loop-i.invariant.2,
 )
 
 pub returns : goal.returns

@@ -26,6 +26,7 @@ unfolding read_of
 returns c =
     let long = c.put_front-2.auto.out ∙ c.put_front.auto.out in
     whole c.args.text.now _ _ c.args.out.now _ _ _ c.args.message.now _ _ c.read_into-answer.result
-    c.read_into-answer.ensures (c.read_into-answer.auto.tokens ∙ c.requires.0) (c.read_into-answer.auto.names ∙ c.requires.1) c.requires.2
+    c.read_into-answer.ensures (c.read_into-answer.auto.tokens ∙ c.requires.0) (c.read_into-answer.auto.names ∙
+    c.requires.1) c.requires.2
     c.read_into-answer.auto.message c.put_front.ensures c.put_front-2.ensures
     (rw long at c.clear_part.ensures) c.finish_message.ensures

@@ -22,7 +22,8 @@ build-requires c = (
 
 pub put_row-requires : goal.put_row-requires
 put_row-requires c =
-    let fits = row_fits_lem (tokens_of c.args.tokens.now) c.args.names.now c.args.at c.args.types c.args.n c.args.functions.now
+    let fits = row_fits_lem (tokens_of c.args.tokens.now) c.args.names.now c.args.at c.args.types c.args.n
+    c.args.functions.now
     c.in-At.h (sym c.in-At.is ∙ c.parse_header.ensures.value) c.requires.0 _ c.parse_header.ensures.header_held
     c.in-Done.b (sym c.in-Done.is ∙ c.build.ensures.value) c.args.items.now _ c.args.arguments.now _
     c.args.blocks.now _ c.args.predecessors.now _ c.build.ensures.build_held c.requires.3 in (
@@ -52,19 +53,23 @@ counts_after-requires c =
 pub returns-in-Refused : goal.returns-in-Refused
 returns-in-Refused c =
     record {
-      value = rw (header_refused (tokens_of c.args.tokens.now) c.args.names.now c.args.at c.args.types c.args.n c.args.functions.now
+      value = rw (header_refused (tokens_of c.args.tokens.now) c.args.names.now c.args.at c.args.types c.args.n
+          c.args.functions.now
           c.in-Refused.e (sym c.in-Refused.is ∙ c.parse_header.ensures.value)) refl;
-      function_held = rw (header_refused (tokens_of c.args.tokens.now) c.args.names.now c.args.at c.args.types c.args.n c.args.functions.now
+      function_held = rw (header_refused (tokens_of c.args.tokens.now) c.args.names.now c.args.at c.args.types
+          c.args.n c.args.functions.now
           c.in-Refused.e (sym c.in-Refused.is ∙ c.parse_header.ensures.value)) tt;
     }
 
 pub returns-in-Refused-build : goal.returns-in-Refused-build
 returns-in-Refused-build c =
     record {
-      value = rw (body_refused (tokens_of c.args.tokens.now) c.args.names.now c.args.at c.args.types c.args.n c.args.functions.now
+      value = rw (body_refused (tokens_of c.args.tokens.now) c.args.names.now c.args.at c.args.types c.args.n
+          c.args.functions.now
           c.in-At.h (sym c.in-At.is ∙ c.parse_header.ensures.value) c.requires.0 c.in-Refused-build.e
           (sym c.in-Refused-build.is ∙ c.build.ensures.value)) refl;
-      function_held = rw (body_refused (tokens_of c.args.tokens.now) c.args.names.now c.args.at c.args.types c.args.n c.args.functions.now
+      function_held = rw (body_refused (tokens_of c.args.tokens.now) c.args.names.now c.args.at c.args.types c.args.n
+          c.args.functions.now
           c.in-At.h (sym c.in-At.is ∙ c.parse_header.ensures.value) c.requires.0 c.in-Refused-build.e
           (sym c.in-Refused-build.is ∙ c.build.ensures.value)) tt;
     }
@@ -72,12 +77,14 @@ returns-in-Refused-build c =
 pub returns-in-Done : goal.returns-in-Done
 returns-in-Done c =
     record {
-      value = answered (tokens_of c.args.tokens.now) c.args.names.now c.args.at c.args.types c.args.n c.args.functions.now
+      value = answered (tokens_of c.args.tokens.now) c.args.names.now c.args.at c.args.types c.args.n
+          c.args.functions.now
           c.in-At.h (sym c.in-At.is ∙ c.parse_header.ensures.value) c.requires.0 _ c.parse_header.ensures.header_held
           c.in-Done.b (sym c.in-Done.is ∙ c.build.ensures.value) c.args.items.now _ c.args.arguments.now _
           c.args.blocks.now _ c.args.predecessors.now _ c.build.ensures.build_held c.requires.3 _ c.put_row.ensures _ _
           c.types_after.ensures c.counts_after.ensures;
-      function_held = held_whole (tokens_of c.args.tokens.now) c.args.names.now c.args.at c.args.types c.args.n c.args.functions.now
+      function_held = held_whole (tokens_of c.args.tokens.now) c.args.names.now c.args.at c.args.types c.args.n
+          c.args.functions.now
           c.in-At.h (sym c.in-At.is ∙ c.parse_header.ensures.value) c.requires.0 _ c.parse_header.ensures.header_held
           c.in-Done.b (sym c.in-Done.is ∙ c.build.ensures.value) c.args.items.now _ c.args.arguments.now _
           c.args.blocks.now _ c.args.predecessors.now _ c.build.ensures.build_held c.requires.3 _ c.put_row.ensures;

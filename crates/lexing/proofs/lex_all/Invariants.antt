@@ -7,7 +7,9 @@ use Rattle.lexer.specs.Steps.{Prints}
 use Rattle.lexing.proofs.lex_all.Given as goal
 
 abbrev pub invariant-loop-next : goal.invariant-loop-next
-invariant-loop-next l = Lexing l.text l.line l.initial.tokens l.initial.names l.tokens l.names l.count l.known l.at × Prints l.text l.names l.known l.prints
+invariant-loop-next l =
+    Lexing l.text l.line l.initial.tokens l.initial.names l.tokens l.names l.count l.known l.at × Prints l.text
+    l.names l.known l.prints
     × (length l.prints ≡ 1024)
 
 abbrev pub decreases-loop-next : goal.decreases-loop-next

@@ -20,19 +20,21 @@ link_blocks-requires c =
       labels_are = c.requires.labels_are;
       before_are = c.leading_labels-leading.ensures.0;
       before-few = c.leading_labels-leading.ensures.1;
-      few-blocks = c.requires.few-blocks;
+      few_blocks = c.requires.few_blocks;
       blocks_there = c.requires.blocks_there;
     }
 
 pub overflow_cast-n : goal.overflow_cast-n
 overflow_cast-n c =
     let few =
-    fits c.requires c.args.name c.link_blocks.new.blocks c.link_blocks.ensures.value c.link_blocks.ensures.closed_held c.in-Done.is in
+    fits c.requires c.args.name c.link_blocks.new.blocks c.link_blocks.ensures.value c.link_blocks.ensures.closed_held
+    c.in-Done.is in
     omega arith
 
 pub enter_blocks-next-requires : goal.enter_blocks-next-requires
 enter_blocks-next-requires c =
-    enter-ready c.requires c.args.name c.link_blocks.new.blocks c.link_blocks.ensures.value c.link_blocks.ensures.closed_held c.in-Done.is
+    enter-ready c.requires c.args.name c.link_blocks.new.blocks c.link_blocks.ensures.value
+    c.link_blocks.ensures.closed_held c.in-Done.is
     c.link_blocks.auto.blocks
 
 pub returns-in-Refused : goal.returns-in-Refused
@@ -46,8 +48,11 @@ returns-in-Refused c =
 pub returns-in-Done : goal.returns-in-Done
 returns-in-Done c =
     record {
-      value = link_done c.requires c.args.name c.link_blocks.new.blocks c.link_blocks.ensures.value c.link_blocks.ensures.closed_held c.in-Done.is c.enter_blocks-next.result
+      value = link_done c.requires c.args.name c.link_blocks.new.blocks c.link_blocks.ensures.value
+          c.link_blocks.ensures.closed_held c.in-Done.is c.enter_blocks-next.result
           c.enter_blocks-next.ensures.value;
-      link_held = link_held c.requires c.args.name c.link_blocks.new.blocks c.link_blocks.ensures.value c.link_blocks.ensures.closed_held c.in-Done.is c.enter_blocks-next.new.blocks
-          c.enter_blocks-next.new.sources c.enter_blocks-next.ensures.blocks_after c.enter_blocks-next.ensures.sources_after;
+      link_held = link_held c.requires c.args.name c.link_blocks.new.blocks c.link_blocks.ensures.value
+          c.link_blocks.ensures.closed_held c.in-Done.is c.enter_blocks-next.new.blocks
+          c.enter_blocks-next.new.sources c.enter_blocks-next.ensures.blocks_after
+          c.enter_blocks-next.ensures.sources_after;
     }

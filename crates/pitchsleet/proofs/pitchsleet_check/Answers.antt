@@ -14,7 +14,11 @@ returns-then-out-lt-CHECKED c =
 pub returns-then-message-lt-MESSAGE : goal.returns-then-message-lt-MESSAGE
 unfolding export_def pick
 returns-then-message-lt-MESSAGE c =
-    by_parts (rw (le-ltb _ _ c.if-out-lt-CHECKED.false, lt-ltb _ _ c.if-message-lt-MESSAGE.true, c.refused-then-message-lt-MESSAGE.ensures))
+    by_parts (rw (
+      le-ltb _ _ c.if-out-lt-CHECKED.false,
+      lt-ltb _ _ c.if-message-lt-MESSAGE.true,
+      c.refused-then-message-lt-MESSAGE.ensures,
+    ))
 
 pub returns : goal.returns
 unfolding export_def pick

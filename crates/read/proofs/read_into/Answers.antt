@@ -9,7 +9,7 @@ use Rattle.read.proofs.read_into.Goals as goal
 pub answer_of-requires : goal.answer_of-requires
 answer_of-requires c =
     let o = result-refused c.args.line c.args.text.now _ (sym c.in-Refused.is ∙ c.lex_text.ensures.value) in
-    omega (arith, (refused_sound c.args.line c.args.text.now _ o).place-small)
+    omega (arith, (refused_sound c.args.line c.args.text.now _ o).place_small)
 
 pub returns-in-Refused : goal.returns-in-Refused
 returns-in-Refused c =

@@ -22,9 +22,9 @@ read_into-r-requires c = (
     line_small c.args.old.now c.args.table.now c.args.number
         (sym c.is_table.ensures ∙ c.if-not-is_table.false) _ c.cell_at-line.ensures,
   ),
-  c.requires.tokens-long,
-  c.requires.names-long,
-  c.requires.message-long,
+  c.requires.tokens_long,
+  c.requires.names_long,
+  c.requires.message_long,
 )
 
 pub recheck_lexed-requires : goal.recheck_lexed-requires
@@ -35,17 +35,18 @@ recheck_lexed-requires c =
       subst (λ (k : ℕ). Lexed k c.args.new.now c.read_into-r.result c.read_into-r.new.tokens
           c.read_into-r.new.names) c.cell_at-line.ensures lexed,
       record {
-        message-long = omega (arith, c.requires.message-long, c.read_into-r.auto.message);
-        tokens-long = omega (arith, c.requires.tokens-long, c.read_into-r.auto.tokens);
-        names-long = omega (arith, c.requires.names-long, c.read_into-r.auto.names);
-        functions-long = c.requires.functions-long;
+        message_long = omega (arith, c.requires.message_long, c.read_into-r.auto.message);
+        tokens_long = omega (arith, c.requires.tokens_long, c.read_into-r.auto.tokens);
+        names_long = omega (arith, c.requires.names_long, c.read_into-r.auto.names);
+        functions_long = c.requires.functions_long;
         long = c.requires.long;
       },
     )
 
 pub returns-then-r-eq-ACCEPTED : goal.returns-then-r-eq-ACCEPTED
 returns-then-r-eq-ACCEPTED c =
-    as_long-before (recheck_of c.args.old.now c.args.table.now c.args.number c.args.new.now) c.args.message.now _ _ _ _ _ _
+    as_long-before (recheck_of c.args.old.now c.args.table.now c.args.number c.args.new.now) c.args.message.now _ _ _
+    _ _ _
     c.read_into-r.auto.message c.recheck_lexed.ensures
 
 pub returns : goal.returns

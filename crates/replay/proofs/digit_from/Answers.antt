@@ -6,7 +6,8 @@ use Rattle.replay.proofs.digit_from.Goals as goal
 pub returns-then-is_digit-comment : goal.returns-then-is_digit-comment
 returns-then-is_digit-comment c = (
   omega arith,
-  digit_here c.args.«data».now c.args.from c.loop-at.at c.loop-at.comment c.loop-at.invariant _ _ c.loop-at-test.true c.in_comment-comment.ensures
+  digit_here c.args.«data».now c.args.from c.loop-at.at c.loop-at.comment c.loop-at.invariant _ _ c.loop-at-test.true
+      c.in_comment-comment.ensures
       c.is_digit.ensures
       c.if-is_digit-comment.true,
 )
@@ -19,5 +20,8 @@ loop-at-preserved c =
     c.if-is_digit-comment.false
 
 pub returns : goal.returns
-returns c =
-    (omega arith, digit_nowhere c.args.«data».now c.args.from c.loop-at.at c.loop-at.comment c.loop-at.invariant c.loop-at-test.false)
+returns c = (
+  omega arith,
+  digit_nowhere c.args.«data».now c.args.from c.loop-at.at c.loop-at.comment c.loop-at.invariant
+      c.loop-at-test.false,
+)

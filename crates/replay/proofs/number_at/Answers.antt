@@ -18,7 +18,8 @@ with_digit-value-requires c =
 
 pub loop-at-preserved : goal.loop-at-preserved
 loop-at-preserved c =
-    turn c.args.«data».now c.args.from c.loop-at.at c.loop-at.value c.loop-at.invariant c.with_digit-value.result c.loop-at-test.true
+    turn c.args.«data».now c.args.from c.loop-at.at c.loop-at.value c.loop-at.invariant c.with_digit-value.result
+    c.loop-at-test.true
     (sym c.is_digit.ensures ∙ c.if-not-is_digit.false) c.with_digit-value.ensures
 
 pub returns : goal.returns

@@ -15,7 +15,8 @@ type_rows-requires c =
       m,
       omega (arith, m),
       omega (arith, c.requires.1, c.parse.auto.functions),
-      rows_fit_lem (tokens_of c.args.tokens.now) c.args.names.now c.args.functions.now c.args.items.now c.args.arguments.now
+      rows_fit_lem (tokens_of c.args.tokens.now) c.args.names.now c.args.functions.now c.args.items.now
+          c.args.arguments.now
           c.args.blocks.now c.args.predecessors.now c.requires.1 c.requires.2 c.parse.ensures.all_fit c.in-Done.n
           (sym c.in-Done.is ∙ c.parse.ensures.value) _ _ _ _ _ c.parse.ensures.held,
     )
@@ -40,7 +41,8 @@ returns-in-Refused-type_rows c =
 
 pub returns-in-Fine : goal.returns-in-Fine
 returns-in-Fine c =
-    let w = fine-whole (tokens_of c.args.tokens.now) c.args.names.now c.args.functions.now c.args.items.now c.args.arguments.now
+    let w = fine-whole (tokens_of c.args.tokens.now) c.args.names.now c.args.functions.now c.args.items.now
+    c.args.arguments.now
     c.args.blocks.now c.args.predecessors.now c.requires.1 c.requires.2 c.parse.ensures.all_fit c.in-Done.n
     (sym c.in-Done.is ∙ c.parse.ensures.value) _ _ _ _ _ c.parse.ensures.held _ _ _ c.type_rows.ensures c.in-Fine.is in
     record { value = w.0; unit_held = w.1.0; counted = w.1.1 }

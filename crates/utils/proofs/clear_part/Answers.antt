@@ -10,8 +10,12 @@ pub loop-i-init : goal.loop-i-init
 loop-i-init c = (c.requires.0, refl, refl)
 
 pub loop-i-preserved : goal.loop-i-preserved
-loop-i-preserved c =
-    (omega arith, simp length-set c.loop-i.invariant.1, sym (zeroed_more c.loop-i.cells c.args.to c.loop-i.i (omega arith)) ∙ c.loop-i.invariant.2)
+loop-i-preserved c = (
+  omega arith,
+  simp length-set c.loop-i.invariant.1,
+  sym (zeroed_more c.loop-i.cells c.args.to c.loop-i.i (omega
+      arith)) ∙ c.loop-i.invariant.2,
+)
 
 pub returns : goal.returns
 returns c =

@@ -6,7 +6,9 @@ use lib.Seq.{sets}
 use Rattle.utils.proofs.put.Given as goal
 
 abbrev pub invariant-loop-i : goal.invariant-loop-i
-invariant-loop-i l = (l.i ≤ length l.part) × (length l.buf ≡ length l.initial.buf) × (sets l.buf (l.at + l.i) (drop l.i l.part) ≡ sets l.initial.buf l.at l.part)
+invariant-loop-i l =
+    (l.i ≤ length l.part) × (length l.buf ≡ length l.initial.buf) × (sets l.buf (l.at + l.i) (drop l.i l.part) ≡ sets
+    l.initial.buf l.at l.part)
 
 abbrev pub decreases-loop-i : goal.decreases-loop-i
 decreases-loop-i l = length l.part - l.i

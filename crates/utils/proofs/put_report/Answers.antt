@@ -16,17 +16,20 @@ returns c =
     let item = c.args.item.now ++ colon in
     let error = bytes "] Error " ++ item in
     let w6 =
-    both c.put-p5.new.buf c.put-p6.new.buf c.put.new.buf c.args.text.now newline c.put-p5.result c.put-p6.result c.put.result c.put-p6.ensures.0
+    both c.put-p5.new.buf c.put-p6.new.buf c.put.new.buf c.args.text.now newline c.put-p5.result c.put-p6.result
+    c.put.result c.put-p6.ensures.0
     c.put-p6.ensures.1 c.put.ensures.0 c.put.ensures.1 in
     let w5 = both c.put-p4.new.buf c.put-p5.new.buf c.put.new.buf (bytes ": ") text c.put-p4.result c.put-p5.result c.put.result
     c.put-p5.ensures.0 c.put-p5.ensures.1 w6.0 w6.1 in
     let w4 =
-    both c.put-p3.new.buf c.put-p4.new.buf c.put.new.buf c.args.item.now colon c.put-p3.result c.put-p4.result c.put.result c.put-p4.ensures.0
+    both c.put-p3.new.buf c.put-p4.new.buf c.put.new.buf c.args.item.now colon c.put-p3.result c.put-p4.result
+    c.put.result c.put-p4.ensures.0
     c.put-p4.ensures.1 w5.0 w5.1 in
     let w3 = both c.put_decimal-p2.new.buf c.put-p3.new.buf c.put.new.buf (bytes "] Error ") item c.put_decimal-p2.result c.put-p3.result c.put.result
     c.put-p3.ensures.0 c.put-p3.ensures.1 w4.0 w4.1 in
     let w2 =
-    both c.put-p1.new.buf c.put_decimal-p2.new.buf c.put.new.buf (decimal c.args.line) error c.put-p1.result c.put_decimal-p2.result c.put.result c.put_decimal-p2.ensures.0
+    both c.put-p1.new.buf c.put_decimal-p2.new.buf c.put.new.buf (decimal c.args.line) error c.put-p1.result
+    c.put_decimal-p2.result c.put.result c.put_decimal-p2.ensures.0
     c.put_decimal-p2.ensures.1 w3.0 w3.1 in
     let w1 = both c.args.buf.now c.put-p1.new.buf c.put.new.buf (bytes "[line ") (decimal c.args.line ++ error) 0 c.put-p1.result c.put.result
     c.put-p1.ensures.0 c.put-p1.ensures.1 w2.0 w2.1 in (

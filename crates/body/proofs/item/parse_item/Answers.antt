@@ -22,15 +22,23 @@ pub parse_call_item-requires : goal.parse_call_item-requires
 parse_call_item-requires c =
     let ts = tokens_of c.args.tokens.now in
     let p = rw (← c.parse_instruction.ensures, c.in-Call.is) at
-    (instruction_in ts c.requires.0.last c.requires.0.ends c.args.at c.requires.0.reached) in
-    (record { last = c.requires.0.last; ends = c.requires.0.ends; reached = p.1; few = c.requires.0.few }, c.requires.1, c.requires.2, c.requires.3)
+    (instruction_in ts c.requires.0.last c.requires.0.ends c.args.at c.requires.0.reached) in (
+      record { last = c.requires.0.last; ends = c.requires.0.ends; reached = p.1; few = c.requires.0.few },
+      c.requires.1,
+      c.requires.2,
+      c.requires.3,
+    )
 
 pub parse_call_item-requires-in-CallInto : goal.parse_call_item-requires-in-CallInto
 parse_call_item-requires-in-CallInto c =
     let ts = tokens_of c.args.tokens.now in
     let p = rw (← c.parse_instruction.ensures, c.in-CallInto.is) at
-    (instruction_in ts c.requires.0.last c.requires.0.ends c.args.at c.requires.0.reached) in
-    (record { last = c.requires.0.last; ends = c.requires.0.ends; reached = p.1; few = c.requires.0.few }, c.requires.1, c.requires.2, c.requires.3)
+    (instruction_in ts c.requires.0.last c.requires.0.ends c.args.at c.requires.0.reached) in (
+      record { last = c.requires.0.last; ends = c.requires.0.ends; reached = p.1; few = c.requires.0.few },
+      c.requires.1,
+      c.requires.2,
+      c.requires.3,
+    )
 
 pub returns-in-Refused : goal.returns-in-Refused
 unfolding item_d parsed_item item_read
@@ -45,14 +53,19 @@ unfolding item_d parsed_item item_read record_of variables_cells
 returns-in-Done c =
     record {
       value = rw (← c.parse_instruction.ensures, c.in-Done.is, c.operation_record-r.ensures, add-zero) refl;
-      item_held = rw (← c.parse_instruction.ensures, c.in-Done.is) (record { items_are = rw c.operation_record-r.ensures at c.put_record.ensures; arguments_are = refl });
+      item_held = rw (← c.parse_instruction.ensures, c.in-Done.is) (record {
+        items_are = rw
+            c.operation_record-r.ensures at c.put_record.ensures;
+        arguments_are = refl;
+      });
     }
 
 pub returns-in-Call : goal.returns-in-Call
 unfolding item_d parsed_item
 returns-in-Call c =
     let ts = tokens_of c.args.tokens.now in
-    let h = call-item c.in-Call.word c.args.n c.args.used (call_d ts c.in-Call.word) c.args.items.now c.parse_call_item.new.items
+    let h = call-item c.in-Call.word c.args.n c.args.used (call_d ts c.in-Call.word) c.args.items.now
+    c.parse_call_item.new.items
     c.args.arguments.now c.parse_call_item.new.arguments c.parse_call_item.ensures.call_held in
     record {
       value = rw (← c.parse_instruction.ensures, c.in-Call.is, c.parse_call_item.ensures.value) h.0;
@@ -64,10 +77,13 @@ unfolding item_d parsed_item record_of
 returns-in-CallInto c =
     let ts = tokens_of c.args.tokens.now in
     let c' = call_d ts c.in-CallInto.word in
-    let q : call_record 6 c.in-CallInto.word c.in-CallInto.v.id c.type_cell-dty.result c.args.used c' ≡ record_of c.args.used
+    let q : call_record 6 c.in-CallInto.word c.in-CallInto.v.id c.type_cell-dty.result c.args.used c' ≡ record_of
+    c.args.used
     (call_into c.in-CallInto.word c.in-CallInto.v c'.callee c'.arguments.list) = rw c.type_cell-dty.ensures in
-    let h = call_into-item c.in-CallInto.word c.args.n c.args.used c.in-CallInto.v c.type_cell-dty.result c' c.args.items.now c.parse_call_item-in-CallInto.new.items
-    c.args.arguments.now c.parse_call_item-in-CallInto.new.arguments q c.parse_call_item-in-CallInto.ensures.call_held in
+    let h = call_into-item c.in-CallInto.word c.args.n c.args.used c.in-CallInto.v c.type_cell-dty.result c'
+    c.args.items.now c.parse_call_item-in-CallInto.new.items
+    c.args.arguments.now c.parse_call_item-in-CallInto.new.arguments q c.parse_call_item-in-CallInto.ensures.call_held
+    in
     record {
       value = rw (← c.parse_instruction.ensures, c.in-CallInto.is, c.parse_call_item-in-CallInto.ensures.value) h.0;
       item_held = rw (← c.parse_instruction.ensures, c.in-CallInto.is) h.1;

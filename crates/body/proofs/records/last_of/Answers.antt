@@ -19,4 +19,9 @@ returns-in-10 c = rw c.in-10.is
 pub returns-in_default : goal.returns-in_default
 unfolding last_of pick
 returns-in_default c =
-    rw (ne_eqb _ _ c.in_default.in_default-own.rest.0.0.1, ne_eqb _ _ c.in_default.in_default-own.rest.0.1, ne_eqb _ _ c.in_default.in_default-own.rest.1)
+    rw (
+      ne_eqb _ _ c.in_default.in_default-own.rest.0.0.1,
+      ne_eqb _ _ c.in_default.in_default-own.rest.0.1,
+      ne_eqb _ _
+          c.in_default.in_default-own.rest.1,
+    )

@@ -17,15 +17,18 @@ returns-then-s-eq-TERMINATOR c =
 pub returns-in-Refused : goal.returns-in-Refused
 returns-in-Refused c =
     let ts = tokens_of c.args.tokens.now in
-    let q = read-refused c.args.s.arguments (item_d ts c.args.s.at) (sym c.in-Refused.is ∙ c.parse_item-read.ensures.value) in
+    let q = read-refused c.args.s.arguments (item_d ts c.args.s.at) (sym c.in-Refused.is ∙
+    c.parse_item-read.ensures.value) in
     item_refused ts c.args.s.before c.args.s.at c.in-Refused.e q
 
 pub returns-in-Done : goal.returns-in-Done
 returns-in-Done c =
     let ts = tokens_of c.args.tokens.now in
     let d =
-    read_done c.args.s.items c.args.s.arguments (item_d ts c.args.s.at) c.args.items.now c.parse_item-read.new.items c.args.arguments.now
-    c.parse_item-read.new.arguments (sym c.in-Done.is ∙ c.parse_item-read.ensures.value) c.parse_item-read.ensures.item_held in
+    read_done c.args.s.items c.args.s.arguments (item_d ts c.args.s.at) c.args.items.now c.parse_item-read.new.items
+    c.args.arguments.now
+    c.parse_item-read.new.arguments (sym c.in-Done.is ∙ c.parse_item-read.ensures.value)
+    c.parse_item-read.ensures.item_held in
     λ void.
     item-taken ts void c.args.s
     (record {

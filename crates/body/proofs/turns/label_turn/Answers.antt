@@ -6,7 +6,8 @@ use Rattle.body.proofs.turns.label_turn.Goals as goal
 
 pub add_label-requires : goal.add_label-requires
 add_label-requires c =
-    label-room (tokens_of c.args.tokens.now) c.args.void c.args.s c.args.labels.now c.requires.0 c.requires.2 c.parse_label.ensures
+    label-room (tokens_of c.args.tokens.now) c.args.void c.args.s c.args.labels.now c.requires.0 c.requires.2
+    c.parse_label.ensures
     c.in-At.is c.args.items.now c.requires.1
 
 pub returns-in-Refused : goal.returns-in-Refused
@@ -15,5 +16,7 @@ returns-in-Refused c =
 
 pub returns-in-At : goal.returns-in-At
 returns-in-At c =
-    label-taken (tokens_of c.args.tokens.now) c.args.void c.args.s c.args.labels.now c.requires.0 c.requires.2 c.parse_label.ensures
-    c.in-At.is c.add_label.result c.args.items.now _ _ c.add_label.ensures.value c.add_label.ensures.after c.add_label.ensures.labels_after
+    label-taken (tokens_of c.args.tokens.now) c.args.void c.args.s c.args.labels.now c.requires.0 c.requires.2
+    c.parse_label.ensures
+    c.in-At.is c.add_label.result c.args.items.now _ _ c.add_label.ensures.value c.add_label.ensures.after
+    c.add_label.ensures.labels_after

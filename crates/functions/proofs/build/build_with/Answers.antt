@@ -13,36 +13,43 @@ pub parse_body-requires : goal.parse_body-requires
 parse_body-requires c =
     record {
       within = c.requires.0.within;
-      first_bound = (c.requires.0.items-few, c.requires.0.arguments-few);
-      items_size_in_bounds = (c.requires.3.items-long, c.requires.3.arguments-long, c.requires.2);
+      first_bound = (c.requires.0.items_few, c.requires.0.arguments_few);
+      items_size_in_bounds = (c.requires.3.items_long, c.requires.3.arguments_long, c.requires.2);
     }
 
 pub link-requires : goal.link-requires
 link-requires c =
-    ready (tokens_of c.args.tokens.now) c.args.void c.args.name c.args.at c.args.n c.args.items.now _ c.args.arguments.now _ _ _
+    ready (tokens_of c.args.tokens.now) c.args.void c.args.name c.args.at c.args.n c.args.items.now _
+    c.args.arguments.now _ _ _
     c.in-Done.closed (sym c.in-Done.is ∙ c.parse_body.ensures.value) c.parse_body.ensures.held c.requires.0 c.requires.1
     c.args.blocks.now c.args.predecessors.now c.requires.3 (omega (arith, c.requires.2, c.parse_body.auto.labels))
 
 pub returns-in-Refused : goal.returns-in-Refused
 returns-in-Refused c =
     record {
-      value = rw (body_refused (tokens_of c.args.tokens.now) c.args.void c.args.name c.args.at c.args.n [] [] [] [] [] []
+      value = rw (body_refused (tokens_of c.args.tokens.now) c.args.void c.args.name c.args.at c.args.n [] [] [] [] []
+          []
           c.in-Refused.e (sym c.in-Refused.is ∙ c.parse_body.ensures.value)) refl;
-      build_held = rw (body_refused (tokens_of c.args.tokens.now) c.args.void c.args.name c.args.at c.args.n [] [] [] [] [] []
+      build_held = rw (body_refused (tokens_of c.args.tokens.now) c.args.void c.args.name c.args.at c.args.n [] [] []
+          [] [] []
           c.in-Refused.e (sym c.in-Refused.is ∙ c.parse_body.ensures.value)) tt;
     }
 
 pub returns-in-Refused-link : goal.returns-in-Refused-link
 returns-in-Refused-link c =
     record {
-      value = rw (link_refused (tokens_of c.args.tokens.now) c.args.void c.args.name c.args.at c.args.n c.args.items.now _
+      value = rw (link_refused (tokens_of c.args.tokens.now) c.args.void c.args.name c.args.at c.args.n
+          c.args.items.now _
           c.args.arguments.now _ _ _
-          c.in-Done.closed (sym c.in-Done.is ∙ c.parse_body.ensures.value) c.parse_body.ensures.held c.requires.0 c.requires.1
+          c.in-Done.closed (sym c.in-Done.is ∙ c.parse_body.ensures.value) c.parse_body.ensures.held c.requires.0
+          c.requires.1
           c.args.blocks.now c.args.predecessors.now c.requires.3 (omega (arith, c.requires.2, c.parse_body.auto.labels))
           c.in-Refused-link.e (sym c.in-Refused-link.is ∙ c.link.ensures.value)) refl;
-      build_held = rw (link_refused (tokens_of c.args.tokens.now) c.args.void c.args.name c.args.at c.args.n c.args.items.now _
+      build_held = rw (link_refused (tokens_of c.args.tokens.now) c.args.void c.args.name c.args.at c.args.n
+          c.args.items.now _
           c.args.arguments.now _ _ _
-          c.in-Done.closed (sym c.in-Done.is ∙ c.parse_body.ensures.value) c.parse_body.ensures.held c.requires.0 c.requires.1
+          c.in-Done.closed (sym c.in-Done.is ∙ c.parse_body.ensures.value) c.parse_body.ensures.held c.requires.0
+          c.requires.1
           c.args.blocks.now c.args.predecessors.now c.requires.3 (omega (arith, c.requires.2, c.parse_body.auto.labels))
           c.in-Refused-link.e (sym c.in-Refused-link.is ∙ c.link.ensures.value)) tt;
     }
@@ -51,14 +58,16 @@ pub returns-in-Done-link : goal.returns-in-Done-link
 returns-in-Done-link c =
     let kept = subst (LinkHeld _ _ _ _ _ _ _ _) c.in-Done-link.is c.link.ensures.link_held in
     record {
-      value = answered (tokens_of c.args.tokens.now) c.args.void c.args.name c.args.at c.args.n c.args.items.now _ c.args.arguments.now
+      value = answered (tokens_of c.args.tokens.now) c.args.void c.args.name c.args.at c.args.n c.args.items.now _
+          c.args.arguments.now
           _ _ _
           c.in-Done.closed (sym c.in-Done.is ∙ c.parse_body.ensures.value) c.parse_body.ensures.held c.requires.0
           c.requires.1
           c.args.blocks.now c.args.predecessors.now c.requires.3
           (omega (arith, c.requires.2, c.parse_body.auto.labels))
           _ _ (sym c.in-Done-link.is ∙ c.link.ensures.value) _ _ kept;
-      build_held = is_held (tokens_of c.args.tokens.now) c.args.void c.args.name c.args.at c.args.n c.args.items.now _ c.args.arguments.now
+      build_held = is_held (tokens_of c.args.tokens.now) c.args.void c.args.name c.args.at c.args.n c.args.items.now _
+          c.args.arguments.now
           _ _ _
           c.in-Done.closed (sym c.in-Done.is ∙ c.parse_body.ensures.value) c.parse_body.ensures.held c.requires.0
           c.requires.1

@@ -8,8 +8,10 @@ use Rattle.functions.proofs.header.enter.Goals as goal
 pub returns : goal.returns
 unfolding entered_d opened
 returns c =
-    rw (← c.type_number-ty.ensures, ← c.expected_type-expected.ensures, eq-eqb _ _ c.if-expected-ty.false) c.open_body.ensures
+    rw (← c.type_number-ty.ensures, ← c.expected_type-expected.ensures, eq-eqb _ _ c.if-expected-ty.false)
+    c.open_body.ensures
 
 pub returns-then-expected-ty : goal.returns-then-expected-ty
 unfolding entered_d opened
-returns-then-expected-ty c = rw (← c.type_number-ty.ensures, ← c.expected_type-expected.ensures, ne_eqb _ _ c.if-expected-ty.true)
+returns-then-expected-ty c =
+    rw (← c.type_number-ty.ensures, ← c.expected_type-expected.ensures, ne_eqb _ _ c.if-expected-ty.true)

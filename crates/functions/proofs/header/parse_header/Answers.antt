@@ -18,8 +18,10 @@ pub returns-else-n-ge-FUNCTIONS : goal.returns-else-n-ge-FUNCTIONS
 unfolding header_d opened
 returns-else-n-ge-FUNCTIONS c =
     record {
-      value = rw (← c.consume_named.ensures, c.in-At.is, lt-leb 64 _ c.if-n-ge-FUNCTIONS.false) c.parse_signature.ensures.value;
-      header_held = rw (← c.consume_named.ensures, c.in-At.is, lt-leb 64 _ c.if-n-ge-FUNCTIONS.false) c.parse_signature.ensures.header_held;
+      value = rw (← c.consume_named.ensures, c.in-At.is, lt-leb 64 _ c.if-n-ge-FUNCTIONS.false)
+          c.parse_signature.ensures.value;
+      header_held = rw (← c.consume_named.ensures, c.in-At.is, lt-leb 64 _ c.if-n-ge-FUNCTIONS.false)
+          c.parse_signature.ensures.header_held;
     }
 
 pub returns-in-Refused : goal.returns-in-Refused

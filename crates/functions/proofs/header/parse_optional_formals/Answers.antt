@@ -12,7 +12,8 @@ unfolding optional_formals opened
 returns-then-t-eq-LEFT_PAREN c =
     record {
       value = rw (← c.token_at-t.ensures, eq-eqb _ _ c.if-t-eq-LEFT_PAREN.true) c.parse_formals.ensures.value;
-      rows_after = rw (← c.token_at-t.ensures, eq-eqb _ _ c.if-t-eq-LEFT_PAREN.true) c.parse_formals.ensures.cells_after;
+      rows_after = rw (← c.token_at-t.ensures, eq-eqb _ _ c.if-t-eq-LEFT_PAREN.true)
+          c.parse_formals.ensures.cells_after;
     }
 
 pub returns : goal.returns

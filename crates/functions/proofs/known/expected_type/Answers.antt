@@ -8,8 +8,17 @@ function_type-requires c =
 
 pub returns-in-At : goal.returns-in-At
 returns-in-At c =
-    rw (expected-found c.args.n c.args.rows.now 0 c.args.name.0 c.args.ty, ← c.find_function.ensures.value, c.in-At.is, c.function_type.ensures)
+    rw (
+      expected-found c.args.n c.args.rows.now 0 c.args.name.0 c.args.ty,
+      ← c.find_function.ensures.value,
+      c.in-At.is,
+      c.function_type.ensures,
+    )
 
 pub returns-in-Absent : goal.returns-in-Absent
 returns-in-Absent c =
-    rw (expected-found c.args.n c.args.rows.now 0 c.args.name.0 c.args.ty, ← c.find_function.ensures.value, c.in-Absent.is)
+    rw (
+      expected-found c.args.n c.args.rows.now 0 c.args.name.0 c.args.ty,
+      ← c.find_function.ensures.value,
+      c.in-Absent.is,
+    )

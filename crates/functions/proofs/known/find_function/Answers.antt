@@ -16,13 +16,21 @@ returns-then-rows-i c =
 pub loop-i-preserved : goal.loop-i-preserved
 loop-i-preserved c = (
   omega arith,
-  rw (← c.loop-i.invariant.1, row-later c.args.rows.now c.loop-i.i c.args.n c.args.name.0 c.loop-i-test.true c.if-rows-i.false),
+  rw (
+    ← c.loop-i.invariant.1,
+    row-later c.args.rows.now c.loop-i.i c.args.n c.args.name.0 c.loop-i-test.true
+        c.if-rows-i.false,
+  ),
 )
 
 pub returns : goal.returns
 returns c =
     record {
-      value = rw (← c.loop-i.invariant.1, row-none c.args.rows.now c.loop-i.i c.args.n c.args.name.0 c.loop-i-test.false);
+      value = rw (
+        ← c.loop-i.invariant.1,
+        row-none c.args.rows.now c.loop-i.i c.args.n c.args.name.0
+            c.loop-i-test.false,
+      );
       found_in = tt;
     }
 

@@ -7,7 +7,8 @@ use Rattle.functions.proofs.known.same_type.Goals as goal
 pub returns : goal.returns
 unfolding same_bytes pick
 returns c =
-    rw (eq-eqb _ _ c.if-rows-a.false, eq-eqb _ _ c.if-rows-a-2.false, c.if-rows-a-2.false, le-leb _ 16 c.requires.2) c.same_formals.ensures
+    rw (eq-eqb _ _ c.if-rows-a.false, eq-eqb _ _ c.if-rows-a-2.false, c.if-rows-a-2.false, le-leb _ 16 c.requires.2)
+    c.same_formals.ensures
 
 pub returns-then-rows-a : goal.returns-then-rows-a
 unfolding same_bytes pick

@@ -26,7 +26,8 @@ returns c =
     c.args.token ∷ c.args.h.name.0 ∷ (c.args.b.next - 1) ∷ (token_at ts c.args.token).place
     ∷ get_or c.args.names.now (c.args.h.name.0 * 2 + 1) 0 ∷ (token_at ts c.args.token).line.0 ∷ [] in
     let ys : List ℕ =
-    c.args.h.ret ∷ c.args.h.ty ∷ c.args.n.items ∷ c.args.b.items ∷ c.args.n.blocks ∷ c.args.b.blocks ∷ c.args.h.formals ∷ [] in
+    c.args.h.ret ∷ c.args.h.ty ∷ c.args.n.items ∷ c.args.b.items ∷ c.args.n.blocks ∷ c.args.b.blocks ∷
+    c.args.h.formals ∷ [] in
     zeros-behind _ _ (14 + c.args.n.functions * 45) (c.args.h.formals * 2) c.clear_part.ensures
     ∙ rw (two_runs c.args.rows.now _ _ xs ys c.args.n.functions refl c.put_name.ensures
     c.put_counts.ensures)

@@ -15,7 +15,7 @@ put_unmet-requires c =
       room_unmet g c.at_most_256-n.result c.walk-at.new.met c.walk-at.new.left c.walk-at.result c.put_left-placed.result
           c.walk-at.ensures c.at_most_256-n.ensures.1 c.put_left-placed.ensures.0,
       c.at_most_256-n.ensures.1,
-      c.walk-at.ensures.long-met,
+      c.walk-at.ensures.long_met,
     )
 
 pub returns : goal.returns
@@ -23,7 +23,8 @@ returns c =
     let g : ℕ → List ℕ = recorded c.args.blocks.now c.args.first in
     record {
       value = ap (worklist 0) c.at_most_256-n.ensures.0;
-      order_after = order_placed g c.at_most_256-n.result c.walk-at.new.met c.walk-at.new.left c.walk-at.result c.put_left-placed.result
+      order_after = order_placed g c.at_most_256-n.result c.walk-at.new.met c.walk-at.new.left c.walk-at.result
+          c.put_left-placed.result
           c.walk-at.ensures c.at_most_256-n.ensures.1 c.put_left-placed.ensures.0
           c.args.order.now c.put_left-placed.new.out c.put_unmet.new.out c.put_left-placed.ensures.1 c.put_unmet.ensures
           ∙ ap (λ (k : ℕ). sets c.args.order.now 0 (block_order g k)) c.at_most_256-n.ensures.0;

@@ -18,7 +18,8 @@ loop-k-preserved c = (
   omega arith,
   simp length-set (omega arith),
   simp length-set (omega arith),
-  loaded_more c.args.blocks.now c.args.first c.loop-k.k c.args.succs.now c.loop-k.succs c.args.counts.now c.loop-k.counts c.block_at-b.result
+  loaded_more c.args.blocks.now c.args.first c.loop-k.k c.args.succs.now c.loop-k.succs c.args.counts.now
+      c.loop-k.counts c.block_at-b.result
       (omega arith) (omega arith) c.block_at-b.ensures c.loop-k.invariant.3,
 )
 

@@ -20,8 +20,8 @@ pub returns : goal.returns
 returns c =
     let none : c.loop-top.top ≡ 0 = omega arith in
     record {
-      long-met = c.loop-top.invariant.0.long-met;
-      long-left = c.loop-top.invariant.0.long-left;
+      long_met = c.loop-top.invariant.0.long_met;
+      long_left = c.loop-top.invariant.0.long_left;
       within = c.loop-top.invariant.0.within;
       same = rw none at c.loop-top.invariant.1;
     }

@@ -17,7 +17,8 @@ process-requires c =
 pub returns : goal.returns
 returns c =
     let rows : ℕ → List ℕ = row_of c.load.new.succs c.load.new.counts in
-    let same = loaded_row c.args.blocks.now c.args.first c.args.n (replicate 256 (replicate 2 0)) c.load.new.succs (replicate 256 0)
+    let same = loaded_row c.args.blocks.now c.args.first c.args.n (replicate 256 (replicate 2 0)) c.load.new.succs
+    (replicate 256 0)
     c.load.new.counts c.load.ensures in
     let records : ℕ → List ℕ = recorded c.args.blocks.now c.args.first in
     ends c.args.n c.args.met.now c.args.left.now (replicate 513 0) c.requires.0 c.requires.1 c.requires.2 refl

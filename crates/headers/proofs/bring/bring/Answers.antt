@@ -10,8 +10,10 @@ returns c =
       table =
           rw (← c.cell_at-count.ensures)
           (brought-whole c.args.old.now c.args.rows.now c.args.new.now c.args.names.now c.args.known c.args.number
-          c.cell_at-count.result (brought c.args.out.now 0) (brought c.bring_rows-place.new.out c.bring_rows-place.result)
-          (brought c.bring_rows-all.new.out c.bring_rows-all.result) (omega (arith, c.requires.0)) c.bring_rows-place.ensures.result_after c.bring_rows-all.ensures.result_after);
+          c.cell_at-count.result (brought c.args.out.now 0) (brought c.bring_rows-place.new.out
+          c.bring_rows-place.result)
+          (brought c.bring_rows-all.new.out c.bring_rows-all.result) (omega (arith, c.requires.0))
+          c.bring_rows-place.ensures.result_after c.bring_rows-all.ensures.result_after);
       place = rw (← c.bring_rows-place.ensures.result_after);
       few = omega (arith, c.requires.0, c.requires.1);
     }

@@ -29,7 +29,8 @@ returns c =
     record {
       result_after = rw (
         ← c.loop-more.invariant.5,
-        brought-none c.args.old.now c.args.rows.now c.args.new.now c.args.names.now c.args.known c.loop-more.from c.loop-more.more
+        brought-none c.args.old.now c.args.rows.now c.args.new.now c.args.names.now c.args.known c.loop-more.from
+            c.loop-more.more
             (brought c.loop-more.out c.loop-more.at) (omega arith),
       ) refl;
       lower_bound = (omega arith, omega arith);

@@ -24,4 +24,5 @@ loop-k-preserved c = (
 
 pub returns : goal.returns
 returns c =
-    rw (cells-none c.args.rows.now (row_at c.args.i + c.loop-k.k) (45 - c.loop-k.k) (omega arith)) at c.loop-k.invariant.2
+    rw (cells-none c.args.rows.now (row_at c.args.i + c.loop-k.k) (45 - c.loop-k.k) (omega arith)) at
+    c.loop-k.invariant.2

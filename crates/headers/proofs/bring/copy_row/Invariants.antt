@@ -9,7 +9,8 @@ use Rattle.headers.proofs.bring.copy_row.Given as goal
 
 abbrev pub invariant-loop-k : goal.invariant-loop-k
 invariant-loop-k l = (l.k ≤ 45) × (length l.out ≡ length l.initial.out)
-    × (sets l.out (row_at l.n + l.k) (cells_from l.rows (row_at l.i + l.k) (45 - l.k)) ≡ sets l.initial.out (row_at l.n) (cells_from l.rows (row_at l.i)
+    × (sets l.out (row_at l.n + l.k) (cells_from l.rows (row_at l.i + l.k) (45 - l.k)) ≡ sets l.initial.out (row_at
+    l.n) (cells_from l.rows (row_at l.i)
     45))
 
 abbrev pub decreases-loop-k : goal.decreases-loop-k

@@ -3,7 +3,7 @@
 use borrow.Author.Tests.{eq-eqb, ne_eqb}
 use Rattle.utils.specs.Bytes.{pick}
 use Rattle.headers.specs.Kept.{is_whole}
-use Rattle.headers.proofs.Against.{last-token}
+use Rattle.headers.proofs.Against.{last_token}
 use Rattle.headers.proofs.kept.is_whole.Goals as goal
 
 pub returns-then-first-ne-GLOBAL : goal.returns-then-first-ne-GLOBAL
@@ -20,7 +20,7 @@ pub returns-then-last-ne-RIGHT_BRACE : goal.returns-then-last-ne-RIGHT_BRACE
 unfolding is_whole pick
 returns-then-last-ne-RIGHT_BRACE c =
     rw (
-      ← last-token c.args.tokens.now c.before_end.result c.before_end.ensures,
+      ← last_token c.args.tokens.now c.before_end.result c.before_end.ensures,
       ← c.token_at-last.ensures,
       ← c.token_at-first.ensures,
       eq-eqb _ _ c.if-first-ne-GLOBAL.false,
@@ -32,7 +32,7 @@ pub returns : goal.returns
 unfolding is_whole pick
 returns c =
     rw (
-      ← last-token c.args.tokens.now c.before_end.result c.before_end.ensures,
+      ← last_token c.args.tokens.now c.before_end.result c.before_end.ensures,
       ← c.token_at-last.ensures,
       ← c.token_at-first.ensures,
       eq-eqb _ _ c.if-first-ne-GLOBAL.false,

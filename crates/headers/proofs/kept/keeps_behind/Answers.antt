@@ -7,7 +7,7 @@ use Rattle.lexer.specs.Decoded.{tokens_of}
 use Rattle.parser.specs.Step.{opened}
 use Rattle.parser.proofs.Turning.{run-done, run-refused}
 use Rattle.functions.specs.Functions.{optional_formals, then_formals}
-use Rattle.functions.proofs.Heads.{formals-few}
+use Rattle.functions.proofs.Heads.{formals_few}
 use Rattle.headers.specs.Kept.{keeps_behind}
 use Rattle.headers.proofs.Against.{copied_same}
 use Rattle.headers.proofs.kept.keeps_behind.Goals as goal
@@ -25,7 +25,7 @@ same_type-requires c =
     let d = run-done read (sym c.in-Done.is ∙ c.parse_optional_formals.ensures.value) in (
       omega arith,
       omega arith,
-      omega (arith, d.1, formals-few (tokens_of c.args.tokens.now) c.args.at),
+      omega (arith, d.1, formals_few (tokens_of c.args.tokens.now) c.args.at),
       omega (arith, c.requires.1, c.copy_row.auto.out, c.parse_optional_formals.auto.rows),
     )
 
@@ -48,10 +48,11 @@ unfolding keeps_behind then_formals opened
 returns-else-not-is_spelled c =
     let read = optional_formals (tokens_of c.args.tokens.now) c.args.at in
     let d = run-done read (sym c.in-Done.is ∙ c.parse_optional_formals.ensures.value) in
-    let few : c.in-Done.formals ≤ 16 = omega (arith, d.1, formals-few (tokens_of c.args.tokens.now) c.args.at) in
+    let few : c.in-Done.formals ≤ 16 = omega (arith, d.1, formals_few (tokens_of c.args.tokens.now) c.args.at) in
     let same =
     copied_same c.args.local.now c.args.rows.now c.copy_row.new.out c.parse_optional_formals.new.rows c.args.i read.list
-    c.requires.1 c.copy_row.ensures c.parse_optional_formals.ensures.rows_after c.in-At.result c.type_cell.result c.in-Done.formals
+    c.requires.1 c.copy_row.ensures c.parse_optional_formals.ensures.rows_after c.in-At.result c.type_cell.result
+    c.in-Done.formals
     c.type_cell.ensures d.1 few in
     rw (
       d.0,

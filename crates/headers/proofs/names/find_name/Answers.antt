@@ -32,4 +32,8 @@ loop-left-preserved c = (
 
 pub returns : goal.returns
 returns c =
-    rw (← c.loop-left.invariant.1, names-none c.args.new.now c.args.names.now c.loop-left.x c.loop-left.left _ (omega arith))
+    rw (
+      ← c.loop-left.invariant.1,
+      names-none c.args.new.now c.args.names.now c.loop-left.x c.loop-left.left _ (omega
+          arith),
+    )

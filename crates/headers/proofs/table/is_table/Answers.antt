@@ -16,7 +16,13 @@ returns-then-table-lt-TABLE c =
 pub returns-then-count-number : goal.returns-then-count-number
 unfolding is_table pick
 returns-then-count-number c =
-    rw (le-ltb _ _ c.if-old-gt-BYTES.false, le-ltb _ _ c.if-table-lt-TABLE.false, ← c.cell_at-count.ensures, le-ltb _ _ c.if-count-number.true)
+    rw (
+      le-ltb _ _ c.if-old-gt-BYTES.false,
+      le-ltb _ _ c.if-table-lt-TABLE.false,
+      ← c.cell_at-count.ensures,
+      le-ltb _
+          _ c.if-count-number.true,
+    )
 
 pub returns-then-count-gt-MOST_FUNCTIONS : goal.returns-then-count-gt-MOST_FUNCTIONS
 unfolding is_table pick

@@ -32,4 +32,8 @@ loop-left-preserved c = (
 
 pub returns : goal.returns
 returns c =
-    rw (← c.loop-left.invariant.1, rows_none c.args.old.now c.args.rows.now c.loop-left.i c.loop-left.left (omega arith))
+    rw (
+      ← c.loop-left.invariant.1,
+      rows_none c.args.old.now c.args.rows.now c.loop-left.i c.loop-left.left (omega
+          arith),
+    )

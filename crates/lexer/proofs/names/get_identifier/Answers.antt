@@ -6,7 +6,7 @@ use Rattle.pieces.proofs.Compare.{part-between}
 use Rattle.lexer.specs.Steps.{print_of}
 use Rattle.pieces.proofs.Picked.{tests}
 use Rattle.lexer.specs.Numbered.{identified}
-use Rattle.lexer.proofs.Cases.{found_as, names-few, names_full, new-number}
+use Rattle.lexer.proofs.Cases.{found_as, names_few, names_full, new-number}
 use Rattle.lexer.proofs.names.get_identifier.Goals as goal
 
 pub lookup-requires : goal.lookup-requires
@@ -18,7 +18,7 @@ pub returns-else-count-ge-NAMES : goal.returns-else-count-ge-NAMES
 unfolding identified
 returns-else-count-ge-NAMES c =
     record {
-      value = search (tests, found_as, names-few, new-number);
+      value = search (tests, found_as, names_few, new-number);
       names_after = c.put_cells.ensures;
     }
 

@@ -22,7 +22,8 @@ overflow_add-end c =
 pub returns-then-count-then : goal.returns-then-count-then
 returns-then-count-then c =
     let place = get_or c.args.names.now (c.args.count * 2) 0 in
-    let part = part-between place (place + get_or c.args.names.now (c.args.count * 2 + 1) 0) c.args.text.now (omega arith) in
+    let part = part-between place (place + get_or c.args.names.now (c.args.count * 2 + 1) 0) c.args.text.now (omega
+    arith) in
     prints_more c.args.then c.print_of.result _ c.if-count-then.true c.requires.2 c.requires.0.few
     (c.print_of.ensures ∙ ap print_of part) refl c.requires.1
 

@@ -9,7 +9,8 @@ use Rattle.lexer.proofs.names.lookup.Given as goal
 
 abbrev pub invariant-loop-k : goal.invariant-loop-k
 invariant-loop-k l = (l.k ≤ l.count)
-    × (index_of (slice l.place (l.place + l.len) l.text) (spellings l.text (parts_of (drop (l.k * 2) (take (l.count * 2) l.names)))) l.k
+    × (index_of (slice l.place (l.place + l.len) l.text) (spellings l.text (parts_of (drop (l.k * 2) (take (l.count *
+    2) l.names)))) l.k
     ≡ index_of (slice l.place (l.place + l.len) l.text) (spellings l.text (parts_of (take (l.count * 2) l.names))) 0)
     × Within (length l.text) (parts_of (drop (l.k * 2) (take (l.count * 2) l.names)))
 

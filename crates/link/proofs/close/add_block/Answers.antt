@@ -21,7 +21,8 @@ unfolding added_d added_cells pick
 returns-in-Refused c =
     record {
       value = rw (ne_eqb _ _ c.if-stop-from.false, ← c.close_block.ensures.0, c.in-Refused.is) refl;
-      blocks_after = rw (ne_eqb _ _ c.if-stop-from.false, ← c.close_block.ensures.0, c.in-Refused.is) (rw c.in-Refused.is at
+      blocks_after = rw (ne_eqb _ _ c.if-stop-from.false, ← c.close_block.ensures.0, c.in-Refused.is) (rw
+          c.in-Refused.is at
           c.close_block.ensures.1);
     }
 

@@ -6,7 +6,9 @@ use Rattle.body.specs.Records.{parts_at}
 use Rattle.link.proofs.close.block_end.Given as goal
 
 abbrev pub invariant-loop-i : goal.invariant-loop-i
-invariant-loop-i l = (l.i ≤ l.end) × (l.i + run (parts_at l.items l.i (l.end - l.i)) ≡ l.from + run (parts_at l.items l.from (l.end - l.from)))
+invariant-loop-i l =
+    (l.i ≤ l.end) × (l.i + run (parts_at l.items l.i (l.end - l.i)) ≡ l.from + run (parts_at l.items l.from (l.end -
+    l.from)))
 
 abbrev pub decreases-loop-i : goal.decreases-loop-i
 decreases-loop-i l = l.end - l.i

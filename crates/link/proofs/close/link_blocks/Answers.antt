@@ -15,7 +15,7 @@ overflow_add-from c =
 pub loop-e-init : goal.loop-e-init
 loop-e-init c =
     cut-start c.args.items.now c.args.first c.args.count c.args.counts.leading c.args.base c.args.name c.args.blocks.now
-    c.requires.before_are c.requires.before-few c.requires.few-blocks
+    c.requires.before_are c.requires.before-few c.requires.few_blocks
 
 pub block_end-stop-requires : goal.block_end-stop-requires
 block_end-stop-requires c =
@@ -39,7 +39,8 @@ loop-e-smaller c =
 pub returns-in-Refused : goal.returns-in-Refused
 returns-in-Refused c =
     let r =
-    next-refused c.requires c.loop-e.invariant c.block_end-stop.ensures.0 c.refuse-empty.ensures c.add_block.ensures.value
+    next-refused c.requires c.loop-e.invariant c.block_end-stop.ensures.0 c.refuse-empty.ensures
+    c.add_block.ensures.value
     c.in-Refused.is in
     record { value = rw r refl; closed_held = tt }
 

@@ -48,13 +48,18 @@ pub loop-j-preserved : goal.loop-j-preserved
 loop-j-preserved c =
     let all = links_from (row_of c.args.succs.now c.args.counts.now) 0 c.args.n in
     let more = entries-more all c.loop-j.j c.args.n c.loop-j-test.true in
-    let whole = cells_of (entered_by (block_at c.loop-j.blocks (c.args.base + c.loop-j.j)) c.loop-j.j c.loop-j.here (c.enter_edges-next.result - c.loop-j.here)) in (
+    let whole = cells_of (entered_by (block_at c.loop-j.blocks (c.args.base + c.loop-j.j)) c.loop-j.j c.loop-j.here
+    (c.enter_edges-next.result - c.loop-j.here)) in (
       omega arith,
-      ap length c.put_entries.ensures ∙ length-sets c.loop-j.blocks ((c.args.base + c.loop-j.j) * 8) whole ∙ c.loop-j.invariant.1,
-      entered-more (predecessors c.loop-j.j 0 all) (entries_from (c.loop-j.j + 1) all (c.args.n - (c.loop-j.j + 1))) c.enter_edges-next.result
+      ap length c.put_entries.ensures ∙ length-sets c.loop-j.blocks ((c.args.base + c.loop-j.j) * 8) whole ∙
+          c.loop-j.invariant.1,
+      entered-more (predecessors c.loop-j.j 0 all) (entries_from (c.loop-j.j + 1) all (c.args.n - (c.loop-j.j + 1)))
+          c.enter_edges-next.result
           c.enter_edges-next.new.sources c.loop-j.invariant.2 more c.enter_edges-next.ensures,
-      ap (λ (b : List ℕ). put_entered (c.loop-j.j + 1) c.enter_edges-next.result all b (c.args.base + (c.loop-j.j + 1)) (c.args.n - (c.loop-j.j + 1))) c.put_entries.ensures
-          ∙ entered_step c.loop-j.here all c.loop-j.blocks c.args.base c.loop-j.j c.args.n c.enter_edges-next.result c.loop-j-test.true c.enter_edges-next.ensures.0
+      ap (λ (b : List ℕ). put_entered (c.loop-j.j + 1) c.enter_edges-next.result all b (c.args.base + (c.loop-j.j +
+          1)) (c.args.n - (c.loop-j.j + 1))) c.put_entries.ensures
+          ∙ entered_step c.loop-j.here all c.loop-j.blocks c.args.base c.loop-j.j c.args.n c.enter_edges-next.result
+          c.loop-j-test.true c.enter_edges-next.ensures.0
           ∙ c.loop-j.invariant.3,
     )
 
@@ -62,7 +67,8 @@ pub returns : goal.returns
 returns c =
     let all = links_from (row_of c.args.succs.now c.args.counts.now) 0 c.args.n in
     let done = entered_all c.loop-j.invariant.2 (entries_none all c.loop-j.j (c.args.n - c.loop-j.j) (omega arith)) in
-    let none = entered-end c.loop-j.here all c.loop-j.blocks c.loop-j.j (c.args.base + c.loop-j.j) (c.args.n - c.loop-j.j)
+    let none = entered-end c.loop-j.here all c.loop-j.blocks c.loop-j.j (c.args.base + c.loop-j.j) (c.args.n -
+    c.loop-j.j)
     (omega arith) in
     record { value = done.0; blocks_after = rw none at c.loop-j.invariant.3; sources_after = done.1 }
 

@@ -10,7 +10,8 @@ use Rattle.link.proofs.enter.enter_all.Given as goal
 abbrev pub invariant-loop-j : goal.invariant-loop-j
 invariant-loop-j l = (l.j ≤ l.n) × (length l.blocks ≡ length l.initial.blocks)
     × Entered (entries_from 0 (links_from (row_of l.succs l.counts) 0 l.n) l.n)
-    (entries_from l.j (links_from (row_of l.succs l.counts) 0 l.n) (l.n - l.j)) l.used l.here l.initial.sources l.sources
+    (entries_from l.j (links_from (row_of l.succs l.counts) 0 l.n) (l.n - l.j)) l.used l.here l.initial.sources
+    l.sources
     × (put_entered l.j l.here (links_from (row_of l.succs l.counts) 0 l.n) l.blocks (l.base + l.j) (l.n - l.j)
     ≡ put_entered 0 l.used (links_from (row_of l.succs l.counts) 0 l.n) l.initial.blocks l.base l.n)
 

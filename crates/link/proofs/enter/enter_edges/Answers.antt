@@ -32,7 +32,8 @@ loop-rest-preserved c =
     let more = predecessors-more goes c.args.j.0 c.next_source-k.result.0 c.loop-rest.rest c.loop-rest-test.true in
     let inv = rw same at c.loop-rest.invariant.2 in
     let own = entering c.args.j.0 c.next_source-k.result.0 (goes c.next_source-k.result.0) [] in
-    let later = predecessors c.args.j.0 (c.next_source-k.result.0 + 1) (links_from goes (c.next_source-k.result.0 + 1) (c.loop-rest.rest - 1)) in (
+    let later = predecessors c.args.j.0 (c.next_source-k.result.0 + 1) (links_from goes (c.next_source-k.result.0 + 1)
+    (c.loop-rest.rest - 1)) in (
       c.next_source-k.result.0 + 1,
       omega arith,
       entered-more own later c.enter_from-here.result c.enter_from-here.new.sources inv more c.enter_from-here.ensures,
@@ -41,7 +42,8 @@ loop-rest-preserved c =
 pub returns : goal.returns
 returns c =
     let goes : ℕ → List ℕ = row_of c.args.succs.now c.args.counts.now in
-    entered_all c.loop-rest.invariant.2 (predecessors-none goes c.args.j.0 c.loop-rest.invariant.0 c.loop-rest.rest (omega arith))
+    entered_all c.loop-rest.invariant.2 (predecessors-none goes c.args.j.0 c.loop-rest.invariant.0 c.loop-rest.rest
+    (omega arith))
 
 pub next_source-k-requires : goal.next_source-k-requires
 next_source-k-requires c = omega arith

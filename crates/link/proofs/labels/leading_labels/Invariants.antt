@@ -6,7 +6,9 @@ use Rattle.body.specs.Records.{parts_at}
 use Rattle.link.proofs.labels.leading_labels.Given as goal
 
 abbrev pub invariant-loop-i : goal.invariant-loop-i
-invariant-loop-i l = (l.i ≤ l.count) × (l.i + leading (parts_at l.items (l.first + l.i) (l.count - l.i)) ≡ leading (parts_at l.items l.first l.count))
+invariant-loop-i l =
+    (l.i ≤ l.count) × (l.i + leading (parts_at l.items (l.first + l.i) (l.count - l.i)) ≡ leading (parts_at l.items
+    l.first l.count))
 
 abbrev pub decreases-loop-i : goal.decreases-loop-i
 decreases-loop-i l = l.count - l.i

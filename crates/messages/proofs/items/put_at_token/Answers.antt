@@ -10,7 +10,8 @@ pub returns : goal.returns
 unfolding at_token pick
 returns c =
     rw (ne_eqb _ _ c.if-t-eq-END_OF_FILE.false) (then c.args.buf.now c.put-p1.new.buf c.put_quoted_shown.new.buf (bytes "at ")
-    (quoted (shown c.args.t.kind c.args.t.name c.args.t.integer)) c.args.at c.put-p1.result c.put_quoted_shown.result 3 23
+    (quoted (shown c.args.t.kind c.args.t.name c.args.t.integer)) c.args.at c.put-p1.result c.put_quoted_shown.result
+    3 23
     (one c.args.buf.now c.args.at (bytes "at ") c.put-p1.new.buf c.put-p1.result c.put-p1.ensures) c.put_quoted_shown.ensures)
 
 pub returns-then-t-eq-END_OF_FILE : goal.returns-then-t-eq-END_OF_FILE

@@ -41,12 +41,18 @@ returns-then-number-lt-DUPLICATE_LABEL c =
 pub returns-then-number-eq-DUPLICATE_LABEL : goal.returns-then-number-eq-DUPLICATE_LABEL
 unfolding item_of pick
 returns-then-number-eq-DUPLICATE_LABEL c =
-    rw (le-ltb _ _ c.if-number-lt-DUPLICATE_LABEL.false, eq-eqb _ _ c.if-number-eq-DUPLICATE_LABEL.true) c.put_at_name.ensures
+    rw (le-ltb _ _ c.if-number-lt-DUPLICATE_LABEL.false, eq-eqb _ _ c.if-number-eq-DUPLICATE_LABEL.true)
+    c.put_at_name.ensures
 
 pub returns-then-number-eq-MISSING_TARGET : goal.returns-then-number-eq-MISSING_TARGET
 unfolding item_of pick
 returns-then-number-eq-MISSING_TARGET c =
-    rw (le-ltb _ _ c.if-number-lt-DUPLICATE_LABEL.false, ne_eqb _ _ c.if-number-eq-DUPLICATE_LABEL.false, eq-eqb _ _ c.if-number-eq-MISSING_TARGET.true)
+    rw (
+      le-ltb _ _ c.if-number-lt-DUPLICATE_LABEL.false,
+      ne_eqb _ _ c.if-number-eq-DUPLICATE_LABEL.false,
+      eq-eqb _ _
+          c.if-number-eq-MISSING_TARGET.true,
+    )
     (nothing c.args.buf.now c.args.at 69)
 
 pub returns-then-number-lt-OTHER_TYPE : goal.returns-then-number-lt-OTHER_TYPE

@@ -12,4 +12,5 @@ returns c =
     let w2 = then c.put_quoted_type-p1.new.buf c.put-p2.new.buf c.put.new.buf (bytes " type expected; ") s3 c.put_quoted_type-p1.result c.put-p2.result
     c.put.result 16 19 (one c.put_quoted_type-p1.new.buf c.put_quoted_type-p1.result (bytes " type expected; ") c.put-p2.new.buf c.put-p2.result c.put-p2.ensures) w3 in
     let s2 = bytes " type expected; " ++ s3 in
-    then c.args.buf.now c.put_quoted_type-p1.new.buf c.put.new.buf (quoted (type_word c.args.wanted)) s2 c.args.at c.put_quoted_type-p1.result c.put.result 13 35 c.put_quoted_type-p1.ensures w2
+    then c.args.buf.now c.put_quoted_type-p1.new.buf c.put.new.buf (quoted (type_word c.args.wanted)) s2 c.args.at
+    c.put_quoted_type-p1.result c.put.result 13 35 c.put_quoted_type-p1.ensures w2

@@ -12,4 +12,6 @@ put-requires c =
 pub returns : goal.returns
 returns c =
     let h : length c.get_name-part.result.now ≤ 64 = rw c.get_name-part.ensures (c.requires.1 c.args.name.0) in
-    rw (← c.get_name-part.ensures) (wider c.args.buf.now c.args.at c.get_name-part.result.now c.put.new.buf c.put.result (length c.get_name-part.result.now) 64 h (one c.args.buf.now c.args.at c.get_name-part.result.now c.put.new.buf c.put.result c.put.ensures))
+    rw (← c.get_name-part.ensures) (wider c.args.buf.now c.args.at c.get_name-part.result.now c.put.new.buf
+    c.put.result (length c.get_name-part.result.now) 64 h (one c.args.buf.now c.args.at c.get_name-part.result.now
+    c.put.new.buf c.put.result c.put.ensures))

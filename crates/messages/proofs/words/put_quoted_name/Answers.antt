@@ -7,7 +7,8 @@ use Rattle.messages.proofs.words.put_quoted_name.Goals as goal
 
 pub returns : goal.returns
 returns c =
-    let w2 = then c.put-p1.new.buf c.put_name-p2.new.buf c.put.new.buf (name_of c.args.text.now c.args.names.now c.args.name.0)
+    let w2 = then c.put-p1.new.buf c.put_name-p2.new.buf c.put.new.buf (name_of c.args.text.now c.args.names.now
+    c.args.name.0)
     (bytes "'") c.put-p1.result c.put_name-p2.result c.put.result 64 1 c.put_name-p2.ensures (one c.put_name-p2.new.buf c.put_name-p2.result (bytes
     "'") c.put.new.buf c.put.result c.put.ensures) in
     let s2 = name_of c.args.text.now c.args.names.now c.args.name.0 ++ (bytes "'") in

@@ -29,5 +29,6 @@ returns c =
       le-ltb _ _ c.if-kind-gt-INTEGER.false,
       ne_eqb _
           _ c.if-kind-eq-INTEGER.false,
-    ) (then c.args.buf.now c.put_word-next.new.buf c.put_decimal.new.buf (word_of c.args.kind) (decimal c.args.name.0) c.args.at c.put_word-next.result c.put_decimal.result 11 10 c.put_word-next.ensures
+    ) (then c.args.buf.now c.put_word-next.new.buf c.put_decimal.new.buf (word_of c.args.kind) (decimal c.args.name.0)
+    c.args.at c.put_word-next.result c.put_decimal.result 11 10 c.put_word-next.ensures
     c.put_decimal.ensures)

@@ -12,7 +12,8 @@ use Rattle.messages.proofs.words.put_signed.Goals as goal
 pub returns-then-bits-lt-LOWEST : goal.returns-then-bits-lt-LOWEST
 unfolding signed pick
 returns-then-bits-lt-LOWEST c =
-    rw (lt-ltb _ _ c.if-bits-lt-LOWEST.true) (wider c.args.buf.now c.args.at (decimal c.args.bits) c.put_decimal.new.buf c.put_decimal.result 10 11 (omega arith) c.put_decimal.ensures)
+    rw (lt-ltb _ _ c.if-bits-lt-LOWEST.true) (wider c.args.buf.now c.args.at (decimal c.args.bits)
+    c.put_decimal.new.buf c.put_decimal.result 10 11 (omega arith) c.put_decimal.ensures)
 
 pub returns : goal.returns
 unfolding signed pick

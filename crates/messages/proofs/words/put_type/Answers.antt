@@ -28,5 +28,11 @@ returns-in-3 c =
 pub returns-in_default : goal.returns-in_default
 unfolding type_word pick
 returns-in_default c =
-    rw (ne_eqb _ _ c.in_default.in_default-own.rest.0.0.0.1, ne_eqb _ _ c.in_default.in_default-own.rest.0.0.1, ne_eqb _ _ c.in_default.in_default-own.rest.0.1, ne_eqb _ _ c.in_default.in_default-own.rest.1)
+    rw (
+      ne_eqb _ _ c.in_default.in_default-own.rest.0.0.0.1,
+      ne_eqb _ _ c.in_default.in_default-own.rest.0.0.1,
+      ne_eqb
+          _ _ c.in_default.in_default-own.rest.0.1,
+      ne_eqb _ _ c.in_default.in_default-own.rest.1,
+    )
     (c.put-in_default.ensures.0, c.put-in_default.ensures.1, omega (arith, c.put-in_default.ensures.0))

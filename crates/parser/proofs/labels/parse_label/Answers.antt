@@ -1,7 +1,7 @@
 -- The steps, the limit and the look-up, in document 01's order.
 use Rattle.parser.specs.Labels.{labelled_d}
 use Rattle.parser.proofs.Taken.{taken}
-use Rattle.parser.proofs.Turning.{labels_full, labels-few}
+use Rattle.parser.proofs.Turning.{labels_full, labels_few}
 use Rattle.parser.proofs.labels.parse_label.Goals as goal
 
 pub returns-then-count-ge-LABELS : goal.returns-then-count-ge-LABELS
@@ -10,11 +10,11 @@ returns-then-count-ge-LABELS c = search (taken, labels_full) depth 9
 
 pub returns-then-has_label : goal.returns-then-has_label
 unfolding labelled_d
-returns-then-has_label c = search (taken, labels-few) depth 9
+returns-then-has_label c = search (taken, labels_few) depth 9
 
 pub returns-else-has_label : goal.returns-else-has_label
 unfolding labelled_d
-returns-else-has_label c = search (taken, labels-few) depth 9
+returns-else-has_label c = search (taken, labels_few) depth 9
 
 pub returns-in-Refused : goal.returns-in-Refused
 unfolding labelled_d

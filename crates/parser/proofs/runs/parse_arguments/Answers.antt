@@ -29,7 +29,8 @@ unfolding then_at
 returns-in-Refused c =
     let ts = tokens_of c.args.tokens.now in
     let turn =
-    arguments-refused ts (16 - c.loop-t.n) c.loop-t.here c.token_at-t.ensures c.if-t-eq-SEMICOLON.false c.consume_named.ensures
+    arguments-refused ts (16 - c.loop-t.n) c.loop-t.here c.token_at-t.ensures c.if-t-eq-SEMICOLON.false
+    c.consume_named.ensures
     c.in-Refused.is in
     let s = stop (C.Refused c.in-Refused.e) c.loop-t.invariant turn in
     record {
@@ -76,6 +77,7 @@ pub loop-t-preserved : goal.loop-t-preserved
 loop-t-preserved c =
     let ts = tokens_of c.args.tokens.now in
     let turn =
-    arguments-more ts c.loop-t.n c.loop-t.here c.if-n-ge-ARGUMENTS.false c.token_at-t.ensures c.if-t-eq-SEMICOLON.false c.consume_named.ensures
+    arguments-more ts c.loop-t.n c.loop-t.here c.if-n-ge-ARGUMENTS.false c.token_at-t.ensures
+    c.if-t-eq-SEMICOLON.false c.consume_named.ensures
     c.in-At.is in
     onward _ _ _ c.loop-t.invariant c.if-n-ge-ARGUMENTS.false turn c.put_variable.ensures

@@ -18,5 +18,6 @@ unfolding formals_d opened
 returns c =
     record {
       value = rw (← c.token_at-t.ensures, ne_eqb _ _ c.if-t-eq-RIGHT_PAREN.false) c.parse_formals_from.ensures.value;
-      cells_after = rw (← c.token_at-t.ensures, ne_eqb _ _ c.if-t-eq-RIGHT_PAREN.false) c.parse_formals_from.ensures.cells_after;
+      cells_after = rw (← c.token_at-t.ensures, ne_eqb _ _ c.if-t-eq-RIGHT_PAREN.false)
+          c.parse_formals_from.ensures.cells_after;
     }

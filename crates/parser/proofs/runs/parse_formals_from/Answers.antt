@@ -18,7 +18,8 @@ pub returns-in-Refused : goal.returns-in-Refused
 unfolding then_at
 returns-in-Refused c =
     let ts = tokens_of c.args.tokens.now in
-    let turn = formals-refused ts c.loop-e.n c.loop-e.here c.loop-e.invariant.few c.parse_formal.ensures c.in-Refused.is in
+    let turn = formals-refused ts c.loop-e.n c.loop-e.here c.loop-e.invariant.few c.parse_formal.ensures
+    c.in-Refused.is in
     let s = stop (C.Refused c.in-Refused.e) c.loop-e.invariant turn in
     record {
       value = s.0;
@@ -49,7 +50,8 @@ returns-then-t-ne-COMMA c =
     let ts = tokens_of c.args.tokens.now in
     let room = formals-room ts c.loop-e.n c.loop-e.here c.loop-e.invariant.few c.parse_formal.ensures c.in-At.is in
     let turn =
-    formals-last ts c.loop-e.n c.loop-e.here room c.parse_formal.ensures c.in-At.is c.token_at-t.ensures c.if-t-ne-COMMA.true
+    formals-last ts c.loop-e.n c.loop-e.here room c.parse_formal.ensures c.in-At.is c.token_at-t.ensures
+    c.if-t-ne-COMMA.true
     in
     let g = onward _ _ _ c.loop-e.invariant room turn c.put_variable.ensures in
     let s = stop (consume_d ts c.in-At.next 26) g refl in
@@ -69,6 +71,7 @@ loop-e-preserved c =
     let ts = tokens_of c.args.tokens.now in
     let room = formals-room ts c.loop-e.n c.loop-e.here c.loop-e.invariant.few c.parse_formal.ensures c.in-At.is in
     let turn =
-    formals-more ts c.loop-e.n c.loop-e.here room c.parse_formal.ensures c.in-At.is c.token_at-t.ensures c.if-t-ne-COMMA.false
+    formals-more ts c.loop-e.n c.loop-e.here room c.parse_formal.ensures c.in-At.is c.token_at-t.ensures
+    c.if-t-ne-COMMA.false
     in
     onward _ _ _ c.loop-e.invariant room turn c.put_variable.ensures

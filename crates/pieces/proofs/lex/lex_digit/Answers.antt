@@ -9,7 +9,8 @@ pub returns-then-value-le2147483647 : goal.returns-then-value-le2147483647
 unfolding digit_at pick
 returns-then-value-le2147483647 c =
     let low =
-    number-low c.lex_number-n.result (number_at c.args.text.now c.args.at) 2147483647 (omega arith) c.lex_number-n.ensures
+    number-low c.lex_number-n.result (number_at c.args.text.now c.args.at) 2147483647 (omega arith)
+    c.lex_number-n.ensures
     c.if-value-le2147483647.true in
     rw (low.0, low.1)
 
@@ -17,6 +18,7 @@ pub returns : goal.returns
 unfolding digit_at pick
 returns c =
     let high =
-    number_high c.lex_number-n.result (number_at c.args.text.now c.args.at) 2147483647 (omega arith) c.lex_number-n.ensures
+    number_high c.lex_number-n.result (number_at c.args.text.now c.args.at) 2147483647 (omega arith)
+    c.lex_number-n.ensures
     c.if-value-le2147483647.false in
     rw high

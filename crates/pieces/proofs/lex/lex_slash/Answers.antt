@@ -24,12 +24,24 @@ overflow_add-at-then-b-eq42 c =
 pub returns-in-Closed : goal.returns-in-Closed
 unfolding slash_at pick
 returns-in-Closed c =
-    rw (← c.peek-b.ensures, ne_eqb _ _ c.if-b-eq47.false, eq-eqb _ _ c.if-b-eq42.true, ← c.comment_end.ensures, c.in-Closed.is)
+    rw (
+      ← c.peek-b.ensures,
+      ne_eqb _ _ c.if-b-eq47.false,
+      eq-eqb _ _ c.if-b-eq42.true,
+      ← c.comment_end.ensures,
+      c.in-Closed.is,
+    )
 
 pub returns-in-Open : goal.returns-in-Open
 unfolding slash_at pick
 returns-in-Open c =
-    rw (← c.peek-b.ensures, ne_eqb _ _ c.if-b-eq47.false, eq-eqb _ _ c.if-b-eq42.true, ← c.comment_end.ensures, c.in-Open.is)
+    rw (
+      ← c.peek-b.ensures,
+      ne_eqb _ _ c.if-b-eq47.false,
+      eq-eqb _ _ c.if-b-eq42.true,
+      ← c.comment_end.ensures,
+      c.in-Open.is,
+    )
 
 pub returns : goal.returns
 unfolding slash_at

@@ -8,7 +8,7 @@ use lib.Dec.{ltb, leb}
 use lib.ListN.{drop, get_or}
 use Rattle.utils.specs.Bytes.{pick}
 use Rattle.pieces.specs.Classes.{is_ascii}
-use Rattle.pieces.proofs.Picked.{at_byte, at-end}
+use Rattle.pieces.proofs.Picked.{at_byte, at_end}
 use Rattle.pieces.proofs.scan.is_ascii.Invariants.{left}
 use Rattle.pieces.proofs.scan.is_ascii.Goals as goal
 
@@ -42,10 +42,11 @@ pub loop-i-preserved : goal.loop-i-preserved
 unfolding is_ascii
 loop-i-preserved c =
     at_byte (left c.loop-i.most) c.args.text.now c.loop-i.i c.loop-i.invariant (omega arith)
-    (rw c.larger-most.ensures (of_larger c.loop-i.most (get_or c.args.text.now c.loop-i.i 0) (is_ascii (drop (c.loop-i.i + 1) c.args.text.now))))
+    (rw c.larger-most.ensures (of_larger c.loop-i.most (get_or c.args.text.now c.loop-i.i 0) (is_ascii (drop
+    (c.loop-i.i + 1) c.args.text.now))))
 
 pub returns : goal.returns
 unfolding is_ascii
 returns c =
-    at-end (left c.loop-i.most) c.args.text.now c.loop-i.i c.loop-i.invariant (omega arith)
+    at_end (left c.loop-i.most) c.args.text.now c.loop-i.i c.loop-i.invariant (omega arith)
     (at_most c.loop-i.most)

@@ -49,4 +49,8 @@ loop-i-preserved c =
 pub returns : goal.returns
 unfolding digits_from pick
 returns c =
-    rw (← c.loop-i.invariant.2, drop_of_length-le c.args.text.now {i = c.loop-i.i} c.loop-i-test.false, c.loop-i.invariant.1)
+    rw (
+      ← c.loop-i.invariant.2,
+      drop_of_length-le c.args.text.now {i = c.loop-i.i} c.loop-i-test.false,
+      c.loop-i.invariant.1,
+    )

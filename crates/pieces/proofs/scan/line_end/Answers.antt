@@ -1,6 +1,6 @@
 -- The scan from `i` on gives what the scan from `at` on gives.
 use Rattle.pieces.specs.Pieces.{line_end}
-use Rattle.pieces.proofs.Picked.{tests, at_byte, at-end}
+use Rattle.pieces.proofs.Picked.{tests, at_byte, at_end}
 use Rattle.pieces.proofs.scan.line_end.Goals as goal
 
 pub returns-then-text-i-eq10 : goal.returns-then-text-i-eq10
@@ -13,4 +13,4 @@ loop-i-preserved c = search (tests, at_byte line_end)
 
 pub returns : goal.returns
 unfolding line_end
-returns c = search (at-end line_end)
+returns c = search (at_end line_end)

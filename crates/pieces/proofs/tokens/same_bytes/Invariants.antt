@@ -7,7 +7,8 @@ use Rattle.pieces.proofs.tokens.same_bytes.Given as goal
 
 abbrev pub invariant-loop-k : goal.invariant-loop-k
 invariant-loop-k l = (l.k ≤ l.n)
-    × (same_bytes (slice l.i (l.i + l.k) l.a) (slice l.j (l.j + l.k) l.b) ≡ same_bytes (slice l.i (l.i + l.n) l.a) (slice l.j (l.j + l.n) l.b))
+    × (same_bytes (slice l.i (l.i + l.k) l.a) (slice l.j (l.j + l.k) l.b) ≡ same_bytes (slice l.i (l.i + l.n) l.a)
+    (slice l.j (l.j + l.n) l.b))
 
 abbrev pub decreases-loop-k : goal.decreases-loop-k
 decreases-loop-k l = l.k

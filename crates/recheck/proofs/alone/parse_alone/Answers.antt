@@ -11,10 +11,10 @@ pub parse_function-requires : goal.parse_function-requires
 parse_function-requires c = (
   record {
     within = c.requires.0;
-    items-few = omega arith;
-    arguments-few = omega arith;
-    blocks-few = omega arith;
-    predecessors-few = omega arith;
+    items_few = omega arith;
+    arguments_few = omega arith;
+    blocks_few = omega arith;
+    predecessors_few = omega arith;
   },
   omega arith,
   omega arith,
@@ -28,7 +28,8 @@ returns-then-t-eq-END_OF_FILE c =
     let given =
     slices c.args.functions.now c.args.items.now c.args.arguments.now c.args.blocks.now c.args.predecessors.now in
     let w = alone-end (tokens_of c.args.tokens.now) c.args.names.now given _ _ refl
-    (sym c.in-Done.is ∙ c.parse_function.ensures.value) c.parse_function.ensures.function_held c.token_at-t.ensures c.if-t-eq-END_OF_FILE.true in
+    (sym c.in-Done.is ∙ c.parse_function.ensures.value) c.parse_function.ensures.function_held c.token_at-t.ensures
+    c.if-t-eq-END_OF_FILE.true in
     record { value = w.0; function_held = w.1 }
 
 pub returns-then-t-eq-GLOBAL : goal.returns-then-t-eq-GLOBAL
@@ -37,7 +38,8 @@ returns-then-t-eq-GLOBAL c =
     let given =
     slices c.args.functions.now c.args.items.now c.args.arguments.now c.args.blocks.now c.args.predecessors.now in
     let w = alone-global (tokens_of c.args.tokens.now) c.args.names.now given _ _ refl
-    (sym c.in-Done.is ∙ c.parse_function.ensures.value) c.token_at-t.ensures c.if-t-eq-END_OF_FILE.false c.if-t-eq-GLOBAL.true c.refuse.ensures in
+    (sym c.in-Done.is ∙ c.parse_function.ensures.value) c.token_at-t.ensures c.if-t-eq-END_OF_FILE.false
+    c.if-t-eq-GLOBAL.true c.refuse.ensures in
     record { value = w.0; function_held = w.1 }
 
 pub returns-in-Refused : goal.returns-in-Refused
@@ -55,5 +57,6 @@ returns-else-t-eq-GLOBAL c =
     let given =
     slices c.args.functions.now c.args.items.now c.args.arguments.now c.args.blocks.now c.args.predecessors.now in
     let w = alone-other (tokens_of c.args.tokens.now) c.args.names.now given _ _ refl
-    (sym c.in-Done.is ∙ c.parse_function.ensures.value) c.token_at-t.ensures c.if-t-eq-END_OF_FILE.false c.if-t-eq-GLOBAL.false c.refuse-in-Done.ensures in
+    (sym c.in-Done.is ∙ c.parse_function.ensures.value) c.token_at-t.ensures c.if-t-eq-END_OF_FILE.false
+    c.if-t-eq-GLOBAL.false c.refuse-in-Done.ensures in
     record { value = w.0; function_held = w.1 }

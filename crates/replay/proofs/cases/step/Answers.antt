@@ -11,6 +11,12 @@ pick-below false n h = omega arith
 pub returns : goal.returns
 returns c =
     record {
-      value = rw (c.pick-left.ensures, c.wrapping_add_u32.ensures.value, c.pick-right.ensures, c.wrapping_add_u64.ensures.value);
-      left_lt_left = rw c.pick-left.ensures (pick-below (ltb c.args.case.next (length c.args.«data».now)) c.args.list.left c.requires);
+      value = rw (
+        c.pick-left.ensures,
+        c.wrapping_add_u32.ensures.value,
+        c.pick-right.ensures,
+        c.wrapping_add_u64.ensures.value,
+      );
+      left_lt_left = rw c.pick-left.ensures (pick-below (ltb c.args.case.next (length c.args.«data».now))
+          c.args.list.left c.requires);
     }

@@ -6,7 +6,8 @@ use Rattle.replay.proofs.held.held_by.Goals as goal
 
 pub slice_bounds-same-end-2 : goal.slice_bounds-same-end-2
 slice_bounds-same-end-2 c =
-    count_lent c.load-list.result.count _ c.load-list.new.cells c.load-list.ensures.count_in_bounds c.load-list.auto.cells
+    count_lent c.load-list.result.count _ c.load-list.new.cells c.load-list.ensures.count_in_bounds
+    c.load-list.auto.cells
 
 pub returns : goal.returns
 returns c =

@@ -20,7 +20,8 @@ loop-i-init c = rw c.number_at-first.ensures
 pub loop-i-preserved : goal.loop-i-preserved
 loop-i-preserved c =
     rw (c.kept-seen.ensures, c.number_at-wanted.ensures, c.wrapping_add_u32-part.ensures.value)
-    (sym (one_more_lem c.args.«data».now c.args.got.now c.loop-i.i c.loop-i.part c.loop-i.seen c.loop-i-test.true) ∙ c.loop-i.invariant)
+    (sym (one_more_lem c.args.«data».now c.args.got.now c.loop-i.i c.loop-i.part c.loop-i.seen c.loop-i-test.true) ∙
+    c.loop-i.invariant)
 
 pub returns : goal.returns
 unfolding numbers_held

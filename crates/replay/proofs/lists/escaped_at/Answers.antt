@@ -13,4 +13,9 @@ returns-then-end-at-lt3 c =
 pub returns : goal.returns
 unfolding escaped_at pick
 returns c =
-    rw (le-leb (c.args.at + 3) (length c.args.«data».now) (omega arith), ← c.hex-high.ensures.value, ← c.hex-low.ensures.value)
+    rw (
+      le-leb (c.args.at + 3) (length c.args.«data».now) (omega arith),
+      ← c.hex-high.ensures.value,
+      ←
+          c.hex-low.ensures.value,
+    )

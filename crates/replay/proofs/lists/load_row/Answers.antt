@@ -15,14 +15,18 @@ unfolding value_at pick
 loop-left-preserved c = (
   simp length-set c.loop-left.invariant.0,
   omega arith,
-  take-set-le (c.args.start + c.args.width) c.loop-left.cells (c.loop-left.here + c.args.width) c.wrapping_add_u32.result (omega arith)
+  take-set-le (c.args.start + c.args.width) c.loop-left.cells (c.loop-left.here + c.args.width)
+      c.wrapping_add_u32.result (omega arith)
       ∙ c.loop-left.invariant.2,
-  sym (ap (λ (v : Values). v.next) (values-more false c.args.«data».now c.loop-left.left c.loop-left.at c.number_at-step.result
+  sym (ap (λ (v : Values). v.next) (values-more false c.args.«data».now c.loop-left.left c.loop-left.at
+      c.number_at-step.result
       c.loop-left-test.true c.number_at-step.ensures))
       ∙ c.loop-left.invariant.3,
-  cell_stored c.args.«data».now c.args.cells.now c.loop-left.cells c.loop-left.at c.args.start c.args.width c.loop-left.here c.loop-left.left
+  cell_stored c.args.«data».now c.args.cells.now c.loop-left.cells c.loop-left.at c.args.start c.args.width
+      c.loop-left.here c.loop-left.left
       c.number_at-step.result
-      c.wrapping_add_u32.result c.loop-left-test.true c.loop-left.invariant.1 (omega arith) c.loop-left.invariant.2 c.number_at-step.ensures
+      c.wrapping_add_u32.result c.loop-left-test.true c.loop-left.invariant.1 (omega arith) c.loop-left.invariant.2
+      c.number_at-step.ensures
       c.wrapping_add_u32.ensures.value
       ∙ c.loop-left.invariant.4,
   omega arith,
@@ -32,7 +36,8 @@ pub returns : goal.returns
 returns c =
     let none = values-none false c.args.«data».now c.loop-left.left c.loop-left.at c.loop-left-test.false in (
       rw none at c.loop-left.invariant.3,
-      sym (row_done c.args.cells.now c.loop-left.cells (values_at false c.args.«data».now c.loop-left.left c.loop-left.at).cells
+      sym (row_done c.args.cells.now c.loop-left.cells (values_at false c.args.«data».now c.loop-left.left
+          c.loop-left.at).cells
           c.loop-left.here
           (c.args.start + c.args.width) c.args.width (omega arith))
           ∙ c.loop-left.invariant.4,

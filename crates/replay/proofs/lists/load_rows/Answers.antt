@@ -21,7 +21,8 @@ loop-left-preserved c =
     let less = once-less c.loop-left.left c.args.width c.loop-left-test.true in (
       c.load_row-next.auto.cells ∙ c.loop-left.invariant.0,
       omega arith,
-      rw (c.load_row-next.ensures.0, pick_same) (rw (lt-ltb 0 c.loop-left.left c.loop-left-test.true) at c.loop-left.invariant.2),
+      rw (c.load_row-next.ensures.0, pick_same) (rw (lt-ltb 0 c.loop-left.left c.loop-left-test.true) at
+          c.loop-left.invariant.2),
       row-stored c.loop-left.cells c.load_row-next.new.cells steps.cells c.loop-left.row c.args.width c.loop-left.left
           c.loop-left-test.true
           (values_length false c.args.«data».now c.args.width c.args.from) (omega arith) c.load_row-next.ensures.1
@@ -34,8 +35,10 @@ returns c =
     let steps = values_at false c.args.«data».now c.args.width c.args.from in
     let first = slice c.loop-left.row (c.loop-left.row + c.args.width) c.loop-left.cells in
     let none : c.loop-left.left ≡ 0 = omega arith in
-    let rows : c.loop-left.row + 0 * c.args.width ≡ c.args.start + c.args.more * c.args.width = rw none at c.loop-left.invariant.1 in (
+    let rows : c.loop-left.row + 0 * c.args.width ≡ c.args.start + c.args.more * c.args.width = rw none at
+    c.loop-left.invariant.1 in (
       omega arith,
       rw none at c.loop-left.invariant.2,
-      rw (repeated-none c.loop-left.left (stepped first steps.cells) steps.cells c.loop-left-test.false) at c.loop-left.invariant.3,
+      rw (repeated-none c.loop-left.left (stepped first steps.cells) steps.cells c.loop-left-test.false) at
+          c.loop-left.invariant.3,
     )

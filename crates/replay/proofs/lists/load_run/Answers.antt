@@ -24,7 +24,8 @@ pub returns : goal.returns
 returns c =
     with_room c.args.quoted c.args.«data».now c.args.cells.now c.args.from c.args.start c.number_at-times.result
     c.number_at-width.result
-    c.times_more-more.result c.number_at-times.ensures c.number_at-width.ensures c.times_more-more.ensures c.behind_quote-at.result
+    c.times_more-more.result c.number_at-times.ensures c.number_at-width.ensures c.times_more-more.ensures
+    c.behind_quote-at.result
     c.load_values-next.result c.load_values-next.new.cells c.load_rows.new.cells c.load_rows.result
     c.behind_quote-at.ensures
     c.load_values-next.ensures.0 (sym c.has_room.ensures ∙ c.if-not-has_room.false) (c.requires)

@@ -11,10 +11,12 @@ pub loop-left-preserved : goal.loop-left-preserved
 loop-left-preserved c = (
   simp length-set c.loop-left.invariant.0,
   omega arith,
-  sym (ap (λ (v : Values). v.next) (values-more c.args.quoted c.args.«data».now c.loop-left.left c.loop-left.at c.value_at-number.result
+  sym (ap (λ (v : Values). v.next) (values-more c.args.quoted c.args.«data».now c.loop-left.left c.loop-left.at
+      c.value_at-number.result
       c.loop-left-test.true c.value_at-number.ensures))
       ∙ c.loop-left.invariant.2,
-  value-stored c.args.quoted c.args.«data».now c.loop-left.cells c.loop-left.count c.loop-left.left c.loop-left.at c.value_at-number.result
+  value-stored c.args.quoted c.args.«data».now c.loop-left.cells c.loop-left.count c.loop-left.left c.loop-left.at
+      c.value_at-number.result
       c.loop-left-test.true c.value_at-number.ensures
       ∙ c.loop-left.invariant.3,
 )

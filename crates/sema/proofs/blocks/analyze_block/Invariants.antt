@@ -9,8 +9,10 @@ use Rattle.sema.proofs.blocks.analyze_block.Given as goal
 
 abbrev pub invariant-loop-left : goal.invariant-loop-left
 invariant-loop-left l = (l.at + l.left ≡ l.first + l.count) × (length l.table ≡ length l.initial.table)
-    × (type_items_d (tokens_of l.tokens) (globals_in l.rows l.n) l.ret l.table (items_at l.items l.arguments l.at l.left)
-    ≡ type_items_d (tokens_of l.tokens) (globals_in l.rows l.n) l.ret l.initial.table (items_at l.items l.arguments l.first l.count))
+    × (type_items_d (tokens_of l.tokens) (globals_in l.rows l.n) l.ret l.table (items_at l.items l.arguments l.at
+    l.left)
+    ≡ type_items_d (tokens_of l.tokens) (globals_in l.rows l.n) l.ret l.initial.table (items_at l.items l.arguments
+    l.first l.count))
 
 abbrev pub decreases-loop-left : goal.decreases-loop-left
 decreases-loop-left l = l.left

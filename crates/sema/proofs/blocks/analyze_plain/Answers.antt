@@ -35,4 +35,5 @@ returns-in-12 c =
 pub returns-in_default : goal.returns-in_default
 returns-in_default c =
     plain_other (tokens_of c.args.tokens.now) c.args.ret c.args.table.now c.args.r c.args.x
-    c.in_default.in_default-own.rest.0.0.0.0.1 c.in_default.in_default-own.rest.0.0.0.1 c.in_default.in_default-own.rest.0.0.1 c.in_default.in_default-own.rest.0.1 c.in_default.in_default-own.rest.1
+    c.in_default.in_default-own.rest.0.0.0.0.1 c.in_default.in_default-own.rest.0.0.0.1
+    c.in_default.in_default-own.rest.0.0.1 c.in_default.in_default-own.rest.0.1 c.in_default.in_default-own.rest.1

@@ -8,7 +8,8 @@ use Rattle.sema.proofs.blocks.analyze_record.Goals as goal
 pub returns-then-r-eq-CALL_INTO : goal.returns-then-r-eq-CALL_INTO
 returns-then-r-eq-CALL_INTO c =
     c.analyze_call_into.ensures
-    ∙ item-call_into (tokens_of c.args.tokens.now) (globals_in c.args.rows.now c.args.n) c.args.ret c.args.table.now c.args.r
+    ∙ item-call_into (tokens_of c.args.tokens.now) (globals_in c.args.rows.now c.args.n) c.args.ret c.args.table.now
+    c.args.r
     c.args.arguments.now c.in-Run.is c.if-r-eq-CALL_INTO.true
 
 pub returns-in-Labels : goal.returns-in-Labels
@@ -25,5 +26,6 @@ returns-else-r-eq-CALL_INTO c =
 pub returns-in-Name : goal.returns-in-Name
 returns-in-Name c =
     c.analyze_plain.ensures
-    ∙ item-plain (tokens_of c.args.tokens.now) (globals_in c.args.rows.now c.args.n) c.args.ret c.args.table.now c.args.r
+    ∙ item-plain (tokens_of c.args.tokens.now) (globals_in c.args.rows.now c.args.n) c.args.ret c.args.table.now
+    c.args.r
     c.args.arguments.now c.in-Name.is

@@ -22,11 +22,24 @@ returns-then-formals-count c =
 pub returns-in-Refused : goal.returns-in-Refused
 unfolding type_arguments_d pick
 returns-in-Refused c =
-    rw (← c.at_most_16-formals.ensures.0, length_types _ _ _, length_variables _ _ _, eq-eqb _ _ c.if-formals-count.false)
+    rw (
+      ← c.at_most_16-formals.ensures.0,
+      length_types _ _ _,
+      length_variables _ _ _,
+      eq-eqb _ _
+          c.if-formals-count.false,
+    )
     (typed-refused _ _ _ c.look_arguments.ensures c.in-Refused.is)
 
 pub returns-in-Fine : goal.returns-in-Fine
 unfolding type_arguments_d pick
 returns-in-Fine c =
-    rw (← c.at_most_16-formals.ensures.0, length_types _ _ _, length_variables _ _ _, eq-eqb _ _ c.if-formals-count.false, c.if-formals-count.false)
+    rw (
+      ← c.at_most_16-formals.ensures.0,
+      length_types _ _ _,
+      length_variables _ _ _,
+      eq-eqb _ _
+          c.if-formals-count.false,
+      c.if-formals-count.false,
+    )
     (c.compare_arguments.ensures ∙ typed-fine _ _ _ c.look_arguments.ensures c.in-Fine.is)

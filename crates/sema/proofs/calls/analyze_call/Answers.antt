@@ -12,7 +12,14 @@ result_type-requires c =
 pub returns-then-result_type-ne-VOID : goal.returns-then-result_type-ne-VOID
 unfolding type_call_d then_global pick
 returns-then-result_type-ne-VOID c =
-    rw (← c.find_function.ensures.value, c.in-At.is, ← c.result_type.ensures, ne_eqb _ _ c.if-result_type-ne-VOID.true, c.refuse-then-result_type-ne-VOID.ensures)
+    rw (
+      ← c.find_function.ensures.value,
+      c.in-At.is,
+      ← c.result_type.ensures,
+      ne_eqb _ _
+          c.if-result_type-ne-VOID.true,
+      c.refuse-then-result_type-ne-VOID.ensures,
+    )
 
 pub analyze_arguments-requires : goal.analyze_arguments-requires
 analyze_arguments-requires c =

@@ -14,7 +14,13 @@ result_type-ret-requires c =
 pub returns-then-ret-eq-VOID : goal.returns-then-ret-eq-VOID
 unfolding type_call_into_d then_global pick
 returns-then-ret-eq-VOID c =
-    rw (← c.find_function.ensures.value, c.in-At.is, ← c.result_type-ret.ensures, eq-eqb _ _ c.if-ret-eq-VOID.true, c.refuse-then-ret-eq-VOID.ensures)
+    rw (
+      ← c.find_function.ensures.value,
+      c.in-At.is,
+      ← c.result_type-ret.ensures,
+      eq-eqb _ _ c.if-ret-eq-VOID.true,
+      c.refuse-then-ret-eq-VOID.ensures,
+    )
 
 pub enter_result-requires : goal.enter_result-requires
 enter_result-requires c =

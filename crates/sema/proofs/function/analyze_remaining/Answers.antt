@@ -12,22 +12,26 @@ use Rattle.sema.proofs.function.analyze_remaining.Goals as goal
 pub returns-in-Empty : goal.returns-in-Empty
 returns-in-Empty c =
     blocks-ended (tokens_of c.args.tokens.now) (globals_in c.args.rows.now c.args.n) c.args.ret c.args.table.now
-    (blocks_at c.args.items.now c.args.arguments.now c.args.blocks.now c.args.first (remaining c.args.order.now c.args.work))
+    (blocks_at c.args.items.now c.args.arguments.now c.args.blocks.now c.args.first (remaining c.args.order.now
+    c.args.work))
     c.loop-b.table c.args.items.now c.args.arguments.now c.args.blocks.now c.args.first c.args.order.now c.loop-b.left
     c.loop-b.invariant.0 c.requires.2 c.loop-b.invariant.2 (sym c.pop.ensures ∙ c.in-Empty.is)
 
 pub returns-in-Refused : goal.returns-in-Refused
 returns-in-Refused c =
     blocks-refused (tokens_of c.args.tokens.now) (globals_in c.args.rows.now c.args.n) c.args.ret c.args.table.now
-    (blocks_at c.args.items.now c.args.arguments.now c.args.blocks.now c.args.first (remaining c.args.order.now c.args.work))
+    (blocks_at c.args.items.now c.args.arguments.now c.args.blocks.now c.args.first (remaining c.args.order.now
+    c.args.work))
     c.loop-b.table c.args.items.now c.args.arguments.now c.args.blocks.now c.args.first c.args.order.now c.loop-b.left
-    c.loop-b.invariant.0 c.requires.2 c.loop-b.invariant.2 (sym c.pop.ensures ∙ c.in-Block.is) c.analyze_recorded.ensures c.in-Refused.is
+    c.loop-b.invariant.0 c.requires.2 c.loop-b.invariant.2 (sym c.pop.ensures ∙ c.in-Block.is)
+    c.analyze_recorded.ensures c.in-Refused.is
 
 pub loop-b-smaller : goal.loop-b-smaller
 loop-b-smaller c =
     let popped-is = sym c.pop.ensures ∙ c.in-Block.is in
     (fewer (tokens_of c.args.tokens.now) (globals_in c.args.rows.now c.args.n) c.args.ret c.args.table.now
-    (blocks_at c.args.items.now c.args.arguments.now c.args.blocks.now c.args.first (remaining c.args.order.now c.args.work))
+    (blocks_at c.args.items.now c.args.arguments.now c.args.blocks.now c.args.first (remaining c.args.order.now
+    c.args.work))
     c.loop-b.table c.args.items.now c.args.arguments.now c.args.blocks.now c.args.first c.args.order.now c.loop-b.left
     c.loop-b.invariant.0 c.requires.2 c.loop-b.invariant.2 popped-is).1
 
@@ -35,7 +39,8 @@ pub loop-b-preserved : goal.loop-b-preserved
 loop-b-preserved c =
     let popped-is = sym c.pop.ensures ∙ c.in-Block.is in
     let less = fewer (tokens_of c.args.tokens.now) (globals_in c.args.rows.now c.args.n) c.args.ret c.args.table.now
-    (blocks_at c.args.items.now c.args.arguments.now c.args.blocks.now c.args.first (remaining c.args.order.now c.args.work))
+    (blocks_at c.args.items.now c.args.arguments.now c.args.blocks.now c.args.first (remaining c.args.order.now
+    c.args.work))
     c.loop-b.table c.args.items.now c.args.arguments.now c.args.blocks.now c.args.first c.args.order.now c.loop-b.left
     c.loop-b.invariant.0 c.requires.2 c.loop-b.invariant.2 popped-is in (
       omega (arith, less.0, c.loop-b.invariant.0),
@@ -43,6 +48,7 @@ loop-b-preserved c =
       blocks-fine (tokens_of c.args.tokens.now) (globals_in c.args.rows.now c.args.n) c.args.ret c.args.table.now
           (blocks_at c.args.items.now c.args.arguments.now c.args.blocks.now c.args.first (remaining c.args.order.now
           c.args.work))
-          c.loop-b.table c.args.items.now c.args.arguments.now c.args.blocks.now c.args.first c.args.order.now c.loop-b.left
+          c.loop-b.table c.args.items.now c.args.arguments.now c.args.blocks.now c.args.first c.args.order.now
+          c.loop-b.left
           c.loop-b.invariant.0 c.requires.2 c.loop-b.invariant.2 popped-is c.analyze_recorded.ensures c.in-Fine.is,
     )

@@ -10,9 +10,11 @@ use Rattle.sema.proofs.function.analyze_remaining.Given as goal
 
 abbrev pub invariant-loop-b : goal.invariant-loop-b
 invariant-loop-b l = (l.left.blocks ≤ 256) × (length l.table ≡ length l.initial.table)
-    × (type_blocks_d (tokens_of l.tokens) (globals_in l.rows l.n) l.ret l.table (blocks_at l.items l.arguments l.blocks l.first
+    × (type_blocks_d (tokens_of l.tokens) (globals_in l.rows l.n) l.ret l.table (blocks_at l.items l.arguments
+    l.blocks l.first
     (remaining l.order l.left))
-    ≡ type_blocks_d (tokens_of l.tokens) (globals_in l.rows l.n) l.ret l.initial.table (blocks_at l.items l.arguments l.blocks l.first
+    ≡ type_blocks_d (tokens_of l.tokens) (globals_in l.rows l.n) l.ret l.initial.table (blocks_at l.items l.arguments
+    l.blocks l.first
     (remaining l.order l.initial.left)))
 
 abbrev pub decreases-loop-b : goal.decreases-loop-b

@@ -8,7 +8,8 @@ use Rattle.sema.proofs.function.enter_formals.Goals as goal
 
 pub returns-in-Refused : goal.returns-in-Refused
 returns-in-Refused c =
-    formals-refused c.args.token c.args.table.now (formals_from c.args.rows.now c.args.first c.args.count) c.loop-left.table
+    formals-refused c.args.token c.args.table.now (formals_from c.args.rows.now c.args.first c.args.count)
+    c.loop-left.table
     c.args.rows.now c.loop-left.at
     c.loop-left.left c.loop-left.invariant.2 c.loop-left-test.true c.insert.ensures c.in-Refused.is
 
@@ -23,7 +24,8 @@ loop-left-preserved c = (
 
 pub returns : goal.returns
 returns c =
-    formals-ended c.args.token c.args.table.now (formals_from c.args.rows.now c.args.first c.args.count) c.loop-left.table
+    formals-ended c.args.token c.args.table.now (formals_from c.args.rows.now c.args.first c.args.count)
+    c.loop-left.table
     c.args.rows.now c.loop-left.at
     c.loop-left.left c.loop-left.invariant.2 (omega arith)
 

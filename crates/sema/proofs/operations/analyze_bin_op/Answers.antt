@@ -11,7 +11,13 @@ use Rattle.sema.proofs.operations.analyze_bin_op.Goals as goal
 pub returns-then-right-eq0 : goal.returns-then-right-eq0
 unfolding type_binary_d then_look pick
 returns-then-right-eq0 c =
-    rw (← c.get-left.ensures, ne_eqb _ _ c.if-left-eq0.false, ← c.get-right.ensures, eq-eqb _ _ c.if-right-eq0.true, c.refuse-then-right-eq0.ensures)
+    rw (
+      ← c.get-left.ensures,
+      ne_eqb _ _ c.if-left-eq0.false,
+      ← c.get-right.ensures,
+      eq-eqb _ _ c.if-right-eq0.true,
+      c.refuse-then-right-eq0.ensures,
+    )
 
 pub returns-in-Refused : goal.returns-in-Refused
 unfolding type_binary_d then_look pick
@@ -22,7 +28,8 @@ returns-in-Refused c =
 pub returns-in-Fine : goal.returns-in-Fine
 unfolding type_binary_d then_look pick
 returns-in-Fine c =
-    rw (← c.get-left.ensures, ne_eqb _ _ c.if-left-eq0.false, ← c.get-right.ensures, ne_eqb _ _ c.if-right-eq0.false) (c.expect_operands.ensures _
+    rw (← c.get-left.ensures, ne_eqb _ _ c.if-left-eq0.false, ← c.get-right.ensures, ne_eqb _ _ c.if-right-eq0.false)
+    (c.expect_operands.ensures _
     ∙ typed-fine _ _ _ c.insert.ensures c.in-Fine.is)
 
 pub returns-then-left-eq0 : goal.returns-then-left-eq0

@@ -8,12 +8,18 @@ use Rattle.sema.proofs.operations.analyze_ret_value.Goals as goal
 pub returns-then-ret-eq-VOID : goal.returns-then-ret-eq-VOID
 unfolding type_ret_value_d then_look pick
 returns-then-ret-eq-VOID c =
-    rw (← c.get-found.ensures, ne_eqb _ _ c.if-found-eq0.false, eq-eqb _ _ c.if-ret-eq-VOID.true, c.refuse-then-ret-eq-VOID.ensures)
+    rw (
+      ← c.get-found.ensures,
+      ne_eqb _ _ c.if-found-eq0.false,
+      eq-eqb _ _ c.if-ret-eq-VOID.true,
+      c.refuse-then-ret-eq-VOID.ensures,
+    )
 
 pub returns : goal.returns
 unfolding type_ret_value_d then_look pick
 returns c =
-    rw (← c.get-found.ensures, ne_eqb _ _ c.if-found-eq0.false, ne_eqb _ _ c.if-ret-eq-VOID.false) (c.expect_type.ensures c.args.table.now)
+    rw (← c.get-found.ensures, ne_eqb _ _ c.if-found-eq0.false, ne_eqb _ _ c.if-ret-eq-VOID.false)
+    (c.expect_type.ensures c.args.table.now)
 
 pub returns-then-found-eq0 : goal.returns-then-found-eq0
 unfolding type_ret_value_d then_look pick

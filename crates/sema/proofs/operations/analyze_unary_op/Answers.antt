@@ -16,7 +16,8 @@ returns-in-Refused c =
 pub returns-in-Fine : goal.returns-in-Fine
 unfolding type_unary_d then_look pick
 returns-in-Fine c =
-    rw (← c.get-found.ensures, ne_eqb _ _ c.if-found-eq0.false) (c.expect_operand.ensures _ ∙ typed-fine _ _ _ c.insert.ensures
+    rw (← c.get-found.ensures, ne_eqb _ _ c.if-found-eq0.false) (c.expect_operand.ensures _ ∙ typed-fine _ _ _
+    c.insert.ensures
     c.in-Fine.is)
 
 pub returns-then-found-eq0 : goal.returns-then-found-eq0

@@ -10,7 +10,11 @@ use Rattle.sema.proofs.symbols.insert.Goals as goal
 pub returns-then-table-i : goal.returns-then-table-i
 unfolding enter_d pick
 returns-then-table-i c =
-    rw (get_or-eq_default c.args.table.now 0 {n = c.args.name.0} c.if-table-i.true, set_out c.args.table.now c.args.name.0 c.args.ty c.if-table-i.true)
+    rw (
+      get_or-eq_default c.args.table.now 0 {n = c.args.name.0} c.if-table-i.true,
+      set_out c.args.table.now
+          c.args.name.0 c.args.ty c.if-table-i.true,
+    )
 
 pub returns-then-known-eq0 : goal.returns-then-known-eq0
 unfolding enter_d pick

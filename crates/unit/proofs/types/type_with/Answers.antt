@@ -13,7 +13,8 @@ pub returns-in-Refused : goal.returns-in-Refused
 returns-in-Refused c =
     record {
       answer =
-          rows-refused _ _ _ _ _ _ _ _ _ c.loop-left.invariant.5 (omega (arith, c.loop-left-test.true)) c.loop-left.table c.loop-left.invariant.2
+          rows-refused _ _ _ _ _ _ _ _ _ c.loop-left.invariant.5 (omega (arith, c.loop-left-test.true))
+          c.loop-left.table c.loop-left.invariant.2
           c.analyze.ensures c.in-Refused.is;
       held = tt;
     }
@@ -22,10 +23,14 @@ pub elaborate-requires : goal.elaborate-requires
 elaborate-requires c = (
   c.requires.0,
   c.requires.2,
-  c.requires.3.types-few,
+  c.requires.3.types_few,
   omega (
     arith,
-    c.requires.3.items-fit c.loop-left.row c.loop-left.invariant.0 (omega (arith, c.loop-left.invariant.1, c.loop-left-test.true)),
+    c.requires.3.items_fit c.loop-left.row c.loop-left.invariant.0 (omega (
+      arith,
+      c.loop-left.invariant.1,
+      c.loop-left-test.true,
+    )),
     c.cell-start.ensures,
     c.cell-count.ensures,
     c.loop-left.invariant.3,
@@ -40,7 +45,8 @@ loop-left-preserved c = (
   c.elaborate.auto.items ∙ c.loop-left.invariant.3,
   c.elaborate.auto.arguments ∙ c.loop-left.invariant.4,
   rw (c.elaborate.ensures.after, c.elaborate.ensures.arguments_after)
-      (rows-fine _ _ _ _ _ _ _ _ _ c.loop-left.invariant.5 (omega (arith, c.loop-left-test.true)) c.loop-left.table c.loop-left.invariant.2
+      (rows-fine _ _ _ _ _ _ _ _ _ c.loop-left.invariant.5 (omega (arith, c.loop-left-test.true)) c.loop-left.table
+      c.loop-left.invariant.2
       c.analyze.ensures c.in-Fine.is _ _ c.cell-start.ensures c.cell-count.ensures),
 )
 
