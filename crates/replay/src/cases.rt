@@ -20,12 +20,12 @@ pub fn begin(data: &[u8], from: usize, index: u64) -> Tally
 }
 
 // Tells of a case that came out otherwise than expected, in a file that does not end in it.
-pub fn tell(rt: &impl Print, data: &[u8], list: Tally, case: Outcome) -> io::Result<()> {
-    if (case.part == parts::NOTHING) | (data.len() <= case.next) {
+fn tell(rt: &impl Print, index: u64, part: u32, inside: bool) -> io::Result<()> {
+    if (part == parts::NOTHING) | !inside {
         return Ok(());
     }
-    print!(rt; "case {}: ", list.index)?;
-    parts::print(rt, case.part)?;
+    print!(rt; "case {index}: ")?;
+    parts::print(rt, part)?;
     println!(rt; "")
 }
 
@@ -46,6 +46,16 @@ pub fn step(data: &[u8], list: Tally, case: Outcome) -> Tally
     }
 }
 
+// The same, told of where the case came out otherwise than expected.
+pub fn report_step(rt: &impl Print, data: &[u8], list: Tally, case: Outcome) -> io::Result<Tally>
+    requires { 0 < list.left }
+    ensures value { IfOk result (λ next. next ≡ one_more «data».now list case) }
+    ensures left_lt_left { IfOk result (λ next. next.left < list.left) }
+{
+    tell(rt, list.index, case.part, case.next < data.len())?;
+    Ok(step(data, list, case))
+}
+
 // Whether the mark at the file's end, behind the last list, is the count of all cases.
 pub fn is_whole(data: &[u8], last: Tally) -> bool
     ensures { result ≡ whole_with «data».now last }
@@ -54,9 +64,15 @@ pub fn is_whole(data: &[u8], last: Tally) -> bool
     (end.next != data.len()) & (end.value as u64 == last.index)
 }
 
-// Tells of a file that is not whole.
-pub fn tell_malformed(rt: &impl Print) -> io::Result<()> {
-    println!(rt; "the file of cases is malformed")
+// The same, told of where it is not.
+pub fn report_whole(rt: &impl Print, data: &[u8], last: Tally) -> io::Result<bool>
+    ensures { IfOk result (λ whole. whole ≡ whole_with «data».now last) }
+{
+    let whole = is_whole(data, last);
+    if !whole {
+        println!(rt; "the file of cases is malformed")?;
+    }
+    Ok(whole)
 }
 
 // Writes what came of a list, and answers whether all its cases came out as expected.

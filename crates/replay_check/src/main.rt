@@ -41,8 +41,7 @@ fn replay(rt: &impl Print, data: &[u8], from: usize, index: u64, again: bool) ->
     let mut list = cases::begin(data, from, index);
     while 0 < list.left {
         let case = run_case(data, list.next, again);
-        cases::tell(rt, data, list, case)?;
-        list = cases::step(data, list, case);
+        list = cases::report_step(rt, data, list, case)?;
     }
     Ok(list)
 }
@@ -52,8 +51,8 @@ fn run(rt: &impl Print, data: &[u8]) -> io::Result<()> {
     let texts = replay(rt, data, 0, 0, false)?;
     let shorts = replay(rt, data, texts.next, texts.index, false)?;
     let rechecks = replay(rt, data, shorts.next, shorts.index, true)?;
-    if !cases::is_whole(data, rechecks) {
-        return cases::tell_malformed(rt);
+    if !cases::report_whole(rt, data, rechecks)? {
+        return Ok(());
     }
     cases::print_tally(rt, texts, b" texts: ")?;
     cases::print_tally(rt, shorts, b" calls with a short slice: ")?;

@@ -76,8 +76,7 @@ fn replay(rt: &impl Print, data: &[u8], from: usize, index: u64) -> io::Result<T
     let mut list = cases::begin(data, from, index);
     while 0 < list.left {
         let case = run_case(data, list.next);
-        cases::tell(rt, data, list, case)?;
-        list = cases::step(data, list, case);
+        list = cases::report_step(rt, data, list, case)?;
     }
     Ok(list)
 }
@@ -86,8 +85,8 @@ fn replay(rt: &impl Print, data: &[u8], from: usize, index: u64) -> io::Result<T
 fn run(rt: &impl Print, data: &[u8]) -> io::Result<()> {
     let texts = replay(rt, data, 0, 0)?;
     let shorts = replay(rt, data, texts.next, texts.index)?;
-    if !cases::is_whole(data, shorts) {
-        return cases::tell_malformed(rt);
+    if !cases::report_whole(rt, data, shorts)? {
+        return Ok(());
     }
     cases::print_tally(rt, texts, b" texts: ")?;
     cases::print_tally(rt, shorts, b" calls with a short slice: ")?;
