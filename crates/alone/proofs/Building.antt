@@ -1,4 +1,5 @@
 -- From the new function as it was parsed, with its row among the old headers, to what its typing answers and leaves.
+use Rattle.std.specs.Prelude.{Err, Ok, Result}
 use Prim.Native.Nat.{ℕ, ◌+◌, ◌*◌, ◌≤◌, ◌<◌}
 use mathlib.Core.Path.{◌≡◌, refl, sym, ap, subst, fun_ext, ◌∙◌}
 use mathlib.Core.List.{List, [], ◌∷◌, ◌++◌, append_assoc}
@@ -20,8 +21,6 @@ use Rattle.functions.specs.Answer.{Slices, slices, Long, counts, counts_from, st
 use Rattle.functions.specs.Answer.{edges_in, Taken, FunctionHeld}
 use Rattle.functions.specs.Laid.{rows_cells, untyped_items, untyped_arguments, all_blocks, all_predecessors, Fits, FitsFrom}
 use Rattle.functions.specs.declared.Counts.{Counts}
-use Rattle.functions.specs.declared.ProgramRead.{ProgramRead}
-use Rattle.functions.specs.declared.ProgramRead.TheVariants as U
 use Rattle.functions.proofs.Laid.{length-items, length-arguments, stored_laid}
 use Rattle.functions.proofs.Standing.{row_first, row-items}
 use Rattle.sema.specs.Symbols.{Typed}
@@ -29,8 +28,6 @@ use Rattle.sema.specs.Typing.{Global}
 use Rattle.sema.specs.Globals.{globals_in}
 use Rattle.sema.specs.Blocks.{type_row_d}
 use Rattle.sema.specs.Program.{function_typed}
-use Rattle.sema.specs.declared.Checked.{Checked}
-use Rattle.sema.specs.declared.Checked.TheVariants as K
 use Rattle.sema.proofs.Stored.{row_typed}
 use Rattle.elaborate.specs.Types.{callee_of, typed_items, typed_calls, typed_items_cells, typed_arguments_cells}
 use Rattle.elaborate.proofs.Lists.{items-typed, calls_typed, length-typed_items, length-typed_arguments}
@@ -120,7 +117,7 @@ module _ (ts : List Tok) (names rows : List ℕ) (count place : ℕ) (g : Functi
         ∙ calls_typed one.table is items zi [] za 0 0 items-stand refl
 
     pub turned : typed_rows ts rows count blocks untyped place 1 items args
-        ≡ then_row one.end (done K.Fine items' args') (λ e. done (K.Refused e) items args)
+        ≡ then_row one.end (done Ok tt items' args') (λ e. done (Err e) items args)
     unfolding typed_rows
     turned =
         rw (
@@ -135,21 +132,21 @@ module _ (ts : List Tok) (names rows : List ℕ) (count place : ℕ) (g : Functi
     abbrev d : Done
     d = typed_rows ts rows count blocks untyped place 1 items args
 
-    by_end : (e : Checked) (x y z w : List ℕ) → (then_row e (done K.Fine x y) (λ r. done (K.Refused r) z w)).end ≡ e
+    by_end : (e : Result Unit Refusal) (x y z w : List ℕ) → (then_row e (done Ok tt x y) (λ r. done (Err r) z w)).end ≡ e
     unfolding then_row
-    by_end K.Fine x y z w = refl
-    by_end (K.Refused r) x y z w = refl
+    by_end Ok tt x y z w = refl
+    by_end (Err r) x y z w = refl
 
-    fine_end : (e : Checked) (x y : Done) → e ≡ K.Fine → then_row e x
-        (λ r. done (K.Refused r) y.items y.arguments) ≡ x
+    fine_end : (e : Result Unit Refusal) (x y : Done) → e ≡ Ok tt → then_row e x
+        (λ r. done (Err r) y.items y.arguments) ≡ x
     unfolding then_row
     fine_end e x y h = rw h
 
     pub ends : d.end ≡ one.end
     ends = ap (λ (x : Done). x.end) turned ∙ by_end one.end items' args' items args
 
-    fine-done : one.end ≡ K.Fine → d ≡ done K.Fine items' args'
-    fine-done h = turned ∙ fine_end one.end (done K.Fine items' args') (done K.Fine items args) h
+    fine-done : one.end ≡ Ok tt → d ≡ done Ok tt items' args'
+    fine-done h = turned ∙ fine_end one.end (done Ok tt items' args') (done Ok tt items args) h
 
     pub items-even : length (untyped_items none (g ∷ [])) ≡ length (all_items callees none (g ∷ []) (one.table ∷ []))
     unfolding all_items counts_from
@@ -183,10 +180,10 @@ module _ (ts : List Tok) (names rows : List ℕ) (count place : ℕ) (g : Functi
         ap (λ (k : ℕ). typed_arguments_cells one.table g.items ++ drop k A) args_even
         ∙ sym (append_assoc (typed_arguments_cells one.table g.items) [] _)
 
-    pub items-typed_are : one.end ≡ K.Fine → d.items ≡ over I (all_items callees none (g ∷ []) (one.table ∷ []))
+    pub items-typed_are : one.end ≡ Ok tt → d.items ≡ over I (all_items callees none (g ∷ []) (one.table ∷ []))
     items-typed_are h = ap (λ (x : Done). x.items) (fine-done h) ∙ items-over
 
-    pub args_typed_are : one.end ≡ K.Fine → d.arguments ≡ over A (all_arguments (g ∷ []) (one.table ∷ []))
+    pub args_typed_are : one.end ≡ Ok tt → d.arguments ≡ over A (all_arguments (g ∷ []) (one.table ∷ []))
     args_typed_are h = ap (λ (x : Done). x.arguments) (fine-done h) ∙ args_over
 
 -- What parsing gave. -------------------------------------------------------------------------------------------------
@@ -198,16 +195,16 @@ pub record Parsed (ts : List Tok) (names : List ℕ) (n : Counts) (s₀ s₁ : S
   pub counted : n ≡ counts_from none (read ∷ [])
   pub taken : Taken ts names none read s₀ s₁
 
-pub parsed_is : (ts : List Tok) (names : List ℕ) (n : Counts) (s₀ s₁ : Slices) → U.Done n ≡ alone_read (alone_d ts)
+pub parsed_is : (ts : List Tok) (names : List ℕ) (n : Counts) (s₀ s₁ : Slices) → Ok n ≡ alone_read (alone_d ts)
     → FunctionHeld ts names none s₀ s₁ (alone_d ts) → Parsed ts names n s₀ s₁
 parsed_is ts names n s₀ s₁ h held = by (alone_d ts) refl h held
   where
-    by : (x : FunctionAt) → alone_d ts ≡ x → U.Done n ≡ alone_read x → FunctionHeld ts names none s₀ s₁ x
+    by : (x : FunctionAt) → alone_d ts ≡ x → Ok n ≡ alone_read x → FunctionHeld ts names none s₀ s₁ x
         → Parsed ts names n s₀ s₁
     by (function f) e d k = record { read = f; alone = e; counted = cc; taken = k }
     by (no_function r) e d k = absurd (let z : ◌≡◌ {A = ℕ} 0 1 = cc in omega arith)
 
-refused_as : (x : FunctionAt) (k : Function → Verdict) (e : Refusal) → U.Refused e ≡ alone_read x
+refused_as : (x : FunctionAt) (k : Function → Verdict) (e : Refusal) → Err e ≡ alone_read x
     → then_function refuses x k ≡ refuses e
 unfolding then_function
 refused_as (function f) k e h = absurd (let z : ◌≡◌ {A = ℕ} 0 1 = cc in omega arith)
@@ -237,17 +234,17 @@ module _ (old rows : List ℕ) (number : ℕ) (new : List ℕ) (ts : List Tok) (
   keeping = keeps (same_bytes (row_name old rows number)) (signed_at rows number) new names ts
 
   -- what is said of an answer and of the slices that it leaves
-  abbrev Whole : ProgramRead → Slices → Type 0
+  abbrev Whole : Result Counts Refusal → Slices → Type 0
   Whole r s = (r ≡ verdict_read verdict) × (VerdictHeld ts names callees type s verdict × Counted r)
 
-  refused-whole : {e : Refusal} → verdict ≡ refuses e → (s : Slices) → Whole (U.Refused e) s
+  refused-whole : {e : Refusal} → verdict ≡ refuses e → (s : Slices) → Whole (Err e) s
   refused-whole h s = rw h (refl, (tt, tt))
 
   changed : (e : Refusal) → e ≡ refusal 41 0 0 → keeping ≡ false → verdict ≡ refuses e
   unfolding pick
   changed e k h = rw (k, h)
 
-  pub header_changed : (e : Refusal) → e ≡ refusal 41 0 0 → keeping ≡ false → (s : Slices) → Whole (U.Refused e) s
+  pub header_changed : (e : Refusal) → e ≡ refusal 41 0 0 → keeping ≡ false → (s : Slices) → Whole (Err e) s
   header_changed e k h s = refused-whole (changed e k h) s
 
   module _ (kept : keeping ≡ true) where
@@ -255,13 +252,13 @@ module _ (old rows : List ℕ) (number : ℕ) (new : List ℕ) (ts : List Tok) (
     unfolding pick
     verdict_is = rw kept
 
-    refused_parsing : (e : Refusal) → U.Refused e ≡ alone_read (alone_d ts) → verdict ≡ refuses e
+    refused_parsing : (e : Refusal) → Err e ≡ alone_read (alone_d ts) → verdict ≡ refuses e
     unfolding function_alone
     refused_parsing e h =
         verdict_is
         ∙ refused_as (alone_d ts) (λ x. typed_as x (function_typed ts (globals_spelled old rows new names) x untyped)) e h
 
-    pub parse_refused : (e : Refusal) → U.Refused e ≡ alone_read (alone_d ts) → (s : Slices) → Whole (U.Refused e) s
+    pub parse_refused : (e : Refusal) → Err e ≡ alone_read (alone_d ts) → (s : Slices) → Whole (Err e) s
     parse_refused e h s = refused-whole (refused_parsing e h) s
 
     module _ (table : is_table old rows number ≡ true) (known : ℕ) (v : Named new names known)
@@ -430,27 +427,27 @@ module _ (old rows : List ℕ) (number : ℕ) (new : List ℕ) (ts : List Tok) (
         unfolding function_alone then_function
         verdict_typed = verdict_is ∙ rw w.alone
 
-        module _ (c : Checked) (i₂ a₂ : List ℕ) (typed-rows : RowsHeld c i₂ a₂ cells-done) where
-          refused_typing : (e : Refusal) → c ≡ K.Refused e → verdict ≡ refuses e
+        module _ (c : Result Unit Refusal) (i₂ a₂ : List ℕ) (typed-rows : RowsHeld c i₂ a₂ cells-done) where
+          refused_typing : (e : Refusal) → c ≡ Err e → verdict ≡ refuses e
           refused_typing e h =
-              let k : typing.end ≡ K.Refused e = sym ends_is ∙ sym typed-rows.answer ∙ h in
+              let k : typing.end ≡ Err e = sym ends_is ∙ sym typed-rows.answer ∙ h in
               verdict_typed ∙ ap (after_typing w.read typing.table) k
 
-          pub types-refused : (e : Refusal) → c ≡ K.Refused e → (s : Slices) → Whole (U.Refused e) s
+          pub types-refused : (e : Refusal) → c ≡ Err e → (s : Slices) → Whole (Err e) s
           types-refused e h s = refused-whole (refused_typing e h) s
 
-          fine-end-is : c ≡ K.Fine → typing.end ≡ K.Fine
+          fine-end-is : c ≡ Ok tt → typing.end ≡ Ok tt
           fine-end-is h = sym ends_is ∙ sym typed-rows.answer ∙ h
 
-          accepted_typing : c ≡ K.Fine → verdict ≡ accepts w.read typing.table
+          accepted_typing : c ≡ Ok tt → verdict ≡ accepts w.read typing.table
           accepted_typing h = verdict_typed ∙ ap (after_typing w.read typing.table) (fine-end-is h)
 
-          written_are : c ≡ K.Fine
+          written_are : c ≡ Ok tt
               → fronts (counts_from none (w.read ∷ [])) (slices f₂ i₂ a₂ b₁ p₁)
               ≡ verdict_slices ts names callees type (accepts w.read typing.table)
           unfolding counts_from FitsFrom
           written_are h =
-              let k = subst (λ (x : Checked). HeldBy x i₂ a₂ cells-done) h typed-rows.held in
+              let k = subst (λ (x : Result Unit Refusal). HeldBy x i₂ a₂ cells-done) h typed-rows.held in
               let z = fine-end-is h in
               ap (fronts (counts_from none (g ∷ [])))
               (same-slices f-is
@@ -469,7 +466,7 @@ module _ (old rows : List ℕ) (number : ℕ) (new : List ℕ) (ts : List Tok) (
               (sym (args_even ts names out r.count r.place g globals callees globals_are callees_are _ stand
               placed_fits i a b))
 
-          pub types-fine : c ≡ K.Fine → Whole (U.Done n) (slices f₂ i₂ a₂ b₁ p₁)
+          pub types-fine : c ≡ Ok tt → Whole (Ok n) (slices f₂ i₂ a₂ b₁ p₁)
           unfolding counts_from
           types-fine h =
               rw (accepted_typing h, w.counted) (

@@ -1,4 +1,5 @@
 -- Laws of a body's items, for those who use the definition: what stands behind what.
+use Rattle.std.specs.Prelude.{Err, Ok, Result}
 use Prim.Native.Nat.{ℕ, zero, suc, ◌+◌, ◌≤◌, ◌<◌}
 use mathlib.Core.Path.{◌≡◌, refl, sym}
 use mathlib.Core.List.{List, [], ◌∷◌, ◌++◌}
@@ -21,10 +22,6 @@ use Rattle.body.specs.Body.{body_stop, body_then, then_item, called_item, parsed
 use Rattle.body.specs.Body.{lacks_ret, closed_from}
 use Rattle.body.specs.Shapes.{shapes_of, names_in}
 use Rattle.parser.specs.declared.Refusal.{Refusal}
-use Rattle.parser.specs.declared.Consumed.{Consumed}
-use Rattle.parser.specs.declared.Consumed.TheVariants as C
-use Rattle.parser.specs.declared.Named.{Named}
-use Rattle.parser.specs.declared.Named.TheVariants as N
 use Rattle.parser.specs.declared.Parsed.{Parsed}
 use Rattle.parser.specs.declared.Parsed.TheVariants as P
 use Rattle.body.proofs.SimItems.{lacks_behind}
@@ -73,11 +70,11 @@ module _ (Q : Body → Type 0) where
   picked false x y f g = g refl
 
   -- with how it was read
-  named-of : (c : Named) (k : Identifier → ℕ → Body) → ((e : Refusal) → Q (body_stop e))
-      → ((l : Identifier) (at : ℕ) → c ≡ N.At l at → Q (k l at)) → Q (then_named body_stop c k)
+  named-of : (c : Result (Identifier × ℕ) Refusal) (k : Identifier → ℕ → Body) → ((e : Refusal) → Q (body_stop e))
+      → ((l : Identifier) (at : ℕ) → c ≡ Ok (l, at) → Q (k l at)) → Q (then_named body_stop c k)
   unfolding then_named
-  named-of (N.At l at) k f g = g l at refl
-  named-of (N.Refused e) k f g = f e
+  named-of (Ok (l, at)) k f g = g l at refl
+  named-of (Err e) k f g = f e
 
   item_of : (r : ItemAt) (k : Item → ℕ → Body) → ((e : Refusal) → Q (body_stop e))
       → ((i : Item) (at : ℕ) → r ≡ ItemAt.item i at → Q (k i at)) → Q (then_item body_stop r k)
@@ -93,17 +90,17 @@ abbrev OperatesAt : ItemAt → Type 0
 OperatesAt (ItemAt.item i at) = Operates i
 OperatesAt (ItemAt.refused e) = Unit
 
-ended-call : (c : Consumed) (i : Item) → Operates i → OperatesAt (then_at ItemAt.refused c (λ at. ItemAt.item i at))
+ended-call : (c : Result ℕ Refusal) (i : Item) → Operates i → OperatesAt (then_at ItemAt.refused c (λ at. ItemAt.item i at))
 unfolding then_at
-ended-call (C.At at) i q = q
-ended-call (C.Refused e) i q = tt
+ended-call (Ok at) i q = q
+ended-call (Err e) i q = tt
 
-parsed_operates : (ts : List Tok) (p : Parsed) → OperatesAt (parsed_item ts p)
+parsed_operates : (ts : List Tok) (p : Result Parsed Refusal) → OperatesAt (parsed_item ts p)
 unfolding parsed_item called_item behind pick
-parsed_operates ts (P.Done o at) = (refl, refl)
-parsed_operates ts (P.Call w) = ended-call (call_d ts w).arguments.end _ (refl, refl)
-parsed_operates ts (P.CallInto v w) = ended-call (call_d ts w).arguments.end _ (refl, refl)
-parsed_operates ts (P.Refused e) = tt
+parsed_operates ts (Ok (P.Done o at)) = (refl, refl)
+parsed_operates ts (Ok (P.Call w)) = ended-call (call_d ts w).arguments.end _ (refl, refl)
+parsed_operates ts (Ok (P.CallInto v w)) = ended-call (call_d ts w).arguments.end _ (refl, refl)
+parsed_operates ts (Err e) = tt
 
 pub item_operates : (ts : List Tok) (from : ℕ) (i : Item) (at : ℕ) → item_d ts from ≡ ItemAt.item i at → Operates i
 unfolding item_d
@@ -113,13 +110,13 @@ item_operates ts from i at e = rw e at (parsed_operates ts (instruction_d ts fro
 
 abbrev Ordered : ℕ → Body → Type 0
 Ordered before r =
-    (next : ℕ) → r.end ≡ C.At next → TerminatorsLast before r.items × LabelsFollowed before r.items
+    (next : ℕ) → r.end ≡ Ok next → TerminatorsLast before r.items × LabelsFollowed before r.items
 
 stopped : (before : ℕ) (e : Refusal) → Ordered before (body_stop e)
 stopped before e next h = absurd (let z : ◌≡◌ {A = ℕ} 0 1 = cc in omega arith)
 
 -- the brace closes, and not behind a label
-closed : (before kind next : ℕ) → closes before kind ≡ true → Ordered before (body_end (C.At next))
+closed : (before kind next : ℕ) → closes before kind ≡ true → Ordered before (body_end (Ok next))
 unfolding closes pick TerminatorsLast LabelsFollowed
 closed before kind next q after h =
     (tt, λ e. let f : closes after_label kind ≡ true = rw e at q in never (sym f))
@@ -150,51 +147,51 @@ ordered ts (suc room) ls before at =
 
 -- In an accepted body a terminator stands only right before a label or at the end.
 pub terminator_last : (ts : List Tok) (room : ℕ) (ls : List ℕ) (before at : ℕ) {next : ℕ}
-    → (body_d ts room ls before at).end ≡ C.At next → TerminatorsLast before (body_d ts room ls before at).items
+    → (body_d ts room ls before at).end ≡ Ok next → TerminatorsLast before (body_d ts room ls before at).items
 terminator_last ts room ls before at {next} h = (ordered ts room ls before at next h).0
 
 -- In an accepted body an operation stands behind every label, or behind a run of them: no label is the last item.
 pub labels_followed : (ts : List Tok) (room : ℕ) (ls : List ℕ) (before at : ℕ) {next : ℕ}
-    → (body_d ts room ls before at).end ≡ C.At next → LabelsFollowed before (body_d ts room ls before at).items
+    → (body_d ts room ls before at).end ≡ Ok next → LabelsFollowed before (body_d ts room ls before at).items
 labels_followed ts room ls before at {next} h = (ordered ts room ls before at next h).1
 
 -- What is accepted behind a label has a first item.
 pub first-item : (ts : List Tok) (room : ℕ) (ls : List ℕ) (at : ℕ) {next : ℕ}
-    → (body_d ts room ls after_label at).end ≡ C.At next → (body_d ts room ls after_label at).items ≡ [] → ⊥
+    → (body_d ts room ls after_label at).end ≡ Ok next → (body_d ts room ls after_label at).items ≡ [] → ⊥
 unfolding LabelsFollowed
 first-item ts room ls at h e = (rw e at (labels_followed ts room ls after_label at h)) refl
 
 -- How many labels. ----------------------------------------------------------------------------------------------------
 
 -- a label is read where there are fewer than 255 before it
-abbrev Roomy : List ℕ → Named → Type 0
-Roomy ls (N.At l at) = length ls < 255
-Roomy ls (N.Refused e) = Unit
+abbrev Roomy : List ℕ → Result (Identifier × ℕ) Refusal → Type 0
+Roomy ls (Ok (l, at)) = length ls < 255
+Roomy ls (Err e) = Unit
 
 labelled_roomy : (ts : List Tok) (ls : List ℕ) (at : ℕ) → Roomy ls (labelled_d ts ls at)
 unfolding labelled_d then_named then_at pick
 labelled_roomy ts ls at = read (label_d ts at)
   where
     tested : (l : Identifier) (at2 : ℕ) (full had : Bool) → leb 255 (length ls) ≡ full
-        → Roomy ls (pick full (N.Refused (refusal 38 at 0)) (pick had (N.Refused (refusal 13 at 0)) (N.At l at2)))
+        → Roomy ls (pick full (Err (refusal 38 at 0)) (pick had (Err (refusal 13 at 0)) (Ok (l, at2))))
     tested l at2 true had e = tt
     tested l at2 false true e = tt
     tested l at2 false false e = leb-false 255 (length ls) e
 
-    coloned : (l : Identifier) (x : Consumed)
-        → Roomy ls (then_at N.Refused x (λ at2.
-        pick (leb 255 (length ls)) (N.Refused (refusal 38 at 0))
-        (pick (has ls l.0) (N.Refused (refusal 13 at 0)) (N.At l at2))))
-    coloned l (C.At at2) = tested l at2 (leb 255 (length ls)) (has ls l.0) refl
-    coloned l (C.Refused e) = tt
+    coloned : (l : Identifier) (x : Result ℕ Refusal)
+        → Roomy ls (then_at Err x (λ at2.
+        pick (leb 255 (length ls)) (Err (refusal 38 at 0))
+        (pick (has ls l.0) (Err (refusal 13 at 0)) (Ok (l, at2)))))
+    coloned l (Ok at2) = tested l at2 (leb 255 (length ls)) (has ls l.0) refl
+    coloned l (Err e) = tt
 
-    read : (x : Named)
-        → Roomy ls (then_named N.Refused x (λ l at1.
-        then_at N.Refused (consume_d ts at1 29) (λ at2.
-        pick (leb 255 (length ls)) (N.Refused (refusal 38 at 0))
-        (pick (has ls l.0) (N.Refused (refusal 13 at 0)) (N.At l at2)))))
-    read (N.At l at1) = coloned l (consume_d ts at1 29)
-    read (N.Refused e) = tt
+    read : (x : Result (Identifier × ℕ) Refusal)
+        → Roomy ls (then_named Err x (λ l at1.
+        then_at Err (consume_d ts at1 29) (λ at2.
+        pick (leb 255 (length ls)) (Err (refusal 38 at 0))
+        (pick (has ls l.0) (Err (refusal 13 at 0)) (Ok (l, at2))))))
+    read (Ok (l, at1)) = coloned l (consume_d ts at1 29)
+    read (Err e) = tt
 
 -- labels so far and labels read
 abbrev FewIn : List ℕ → List Item → Type 0

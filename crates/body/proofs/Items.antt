@@ -1,4 +1,5 @@
 -- From what the calls gave to an item: its record, its run of arguments, and what stands behind it.
+use Rattle.std.specs.Prelude.{Err, Ok, Result}
 use Prim.Native.Nat.{ℕ, ◌+◌}
 use mathlib.Core.Path.{◌≡◌, refl, ◌∙◌}
 use mathlib.Core.Bool.{Bool}
@@ -18,49 +19,45 @@ use Rattle.parser.specs.declared.Refusal.{Refusal}
 use Rattle.parser.specs.declared.Operation.{Operation}
 use Rattle.parser.specs.declared.Operation.TheVariants as O
 use Rattle.parser.specs.declared.Variable.{Variable}
-use Rattle.parser.specs.declared.Consumed.{Consumed}
-use Rattle.parser.specs.declared.Consumed.TheVariants as C
-use Rattle.parser.specs.declared.Called.TheVariants as L
 use Rattle.body.specs.Records.{none, operation_record, record_of, items_cells}
 use Rattle.body.specs.Room.{Within}
 use Rattle.body.specs.Turns.{item_read, Put, ItemHeld, call_record, call_read, CallHeld, late_refusal}
 use Rattle.body.specs.Turns.{behind_kind, closing, before_next, last_next, item_then, ItemTaken}
 use Rattle.body.specs.declared.ItemRecord.{ItemRecord}
-use Rattle.body.specs.declared.ItemRead.TheVariants as I
 use Rattle.body.specs.declared.Going.{Going}
 use Rattle.body.proofs.Progress.{Operates, ItemOn, item_in}
 
 -- Calls. ------------------------------------------------------------------------------------------------------------
 
-ended-done : (e : Consumed) (f : Identifier) (m : ℕ) {g : Identifier} {n i : ℕ}
-    → L.Done g n i ≡ then_at L.Refused e (λ j. L.Done f m j) → (e ≡ C.At i) × (f ≡ g) × (m ≡ n)
+ended-done : (e : Result ℕ Refusal) (f : Identifier) (m : ℕ) {g : Identifier} {n i : ℕ}
+    → Ok (record { callee = g; count = n; next = i }) ≡ then_at Err e (λ j. Ok (record { callee = f; count = m; next = j })) → (e ≡ Ok i) × (f ≡ g) × (m ≡ n)
 unfolding then_at
-ended-done (C.At j) f m h = (cc, cc, cc)
-ended-done (C.Refused r) f m h = absurd (let z : ◌≡◌ {A = ℕ} 0 1 = cc in omega arith)
+ended-done (Ok j) f m h = (cc, cc, cc)
+ended-done (Err r) f m h = absurd (let z : ◌≡◌ {A = ℕ} 0 1 = cc in omega arith)
 
-ended-refused : (e : Consumed) (f : Identifier) (m : ℕ) {r : Refusal}
-    → L.Refused r ≡ then_at L.Refused e (λ j. L.Done f m j) → e ≡ C.Refused r
+ended-refused : (e : Result ℕ Refusal) (f : Identifier) (m : ℕ) {r : Refusal}
+    → Err r ≡ then_at Err e (λ j. Ok (record { callee = f; count = m; next = j })) → e ≡ Err r
 unfolding then_at
-ended-refused (C.At j) f m h = absurd (let z : ◌≡◌ {A = ℕ} 0 1 = cc in omega arith)
-ended-refused (C.Refused q) f m h = cc
+ended-refused (Ok j) f m h = absurd (let z : ◌≡◌ {A = ℕ} 0 1 = cc in omega arith)
+ended-refused (Err q) f m h = cc
 
-pub called-done : (c : Calling) {g : Identifier} {n i : ℕ} → L.Done g n i ≡ called_of c
-    → (c.arguments.end ≡ C.At i) × (c.callee ≡ g) × (length c.arguments.list ≡ n)
+pub called-done : (c : Calling) {g : Identifier} {n i : ℕ} → Ok (record { callee = g; count = n; next = i }) ≡ called_of c
+    → (c.arguments.end ≡ Ok i) × (c.callee ≡ g) × (length c.arguments.list ≡ n)
 unfolding called_of
 called-done c h = ended-done c.arguments.end c.callee (length c.arguments.list) h
 
-pub called-refused : (c : Calling) {r : Refusal} → L.Refused r ≡ called_of c → c.arguments.end ≡ C.Refused r
+pub called-refused : (c : Calling) {r : Refusal} → Err r ≡ called_of c → c.arguments.end ≡ Err r
 unfolding called_of
 called-refused c h = ended-refused c.arguments.end c.callee (length c.arguments.list) h
 
-called_item_lem : (n used : ℕ) (i : Item) (e : Consumed) (items₀ items arguments₀ arguments : List ℕ)
+called_item_lem : (n used : ℕ) (i : Item) (e : Result ℕ Refusal) (items₀ items arguments₀ arguments : List ℕ)
     → CallHeld n used (record_of used i) (variables_cells (arguments_in i)) items₀ items arguments₀ arguments e
-    → (then_at I.Refused e (λ next. I.Done (record_of used i) (used + length (arguments_in i)) next)
+    → (then_at Err e (λ next. Ok (record { item = (record_of used i); arguments = (used + length (arguments_in i)); next = next }))
     ≡ item_read used (then_at refused e (λ at. item i at)))
     × ItemHeld n used items₀ items arguments₀ arguments (then_at refused e (λ at. item i at))
 unfolding then_at item_read
-called_item_lem n used i (C.At next) items₀ items arguments₀ arguments h = (refl, h)
-called_item_lem n used i (C.Refused e) items₀ items arguments₀ arguments h = (refl, tt)
+called_item_lem n used i (Ok next) items₀ items arguments₀ arguments h = (refl, h)
+called_item_lem n used i (Err e) items₀ items arguments₀ arguments h = (refl, tt)
 
 pub call-item : (w n used : ℕ) (c : Calling) (items₀ items arguments₀ arguments : List ℕ)
     → CallHeld n used (call_record 5 w none 0 used c)
@@ -87,7 +84,7 @@ call_into-item w n used v t c items₀ items arguments₀ arguments q h =
 
 -- What an answer says. ----------------------------------------------------------------------------------------------
 
-pub read-refused : (used : ℕ) (d : ItemAt) {e : Refusal} → I.Refused e ≡ item_read used d → d ≡ refused e
+pub read-refused : (used : ℕ) (d : ItemAt) {e : Refusal} → Err e ≡ item_read used d → d ≡ refused e
 unfolding item_read
 read-refused used (item i next) h = absurd (let z : ◌≡◌ {A = ℕ} 0 1 = cc in omega arith)
 read-refused used (refused r) h = cc
@@ -101,7 +98,7 @@ pub record Read (n used next then : ℕ) (r : ItemRecord) (d : ItemAt)
   pub put : Put n used (record_of used read) (variables_cells (arguments_in read)) items₀ items arguments₀ arguments
 
 pub read_done : (n used : ℕ) (d : ItemAt) {r : ItemRecord} {then next : ℕ} (items₀ items arguments₀ arguments : List ℕ)
-    → I.Done r then next ≡ item_read used d → ItemHeld n used items₀ items arguments₀ arguments d
+    → Ok (record { item = r; arguments = then; next = next }) ≡ item_read used d → ItemHeld n used items₀ items arguments₀ arguments d
     → Read n used next then r d items₀ items arguments₀ arguments
 unfolding item_read
 read_done n used (item i at) items₀ items arguments₀ arguments h k = record

@@ -1,5 +1,6 @@
 -- Progress: every step of the grammar takes a token and stays before the end token, so an item takes two tokens or more
 -- and a call three besides its arguments. One lemma for each step helper, then one for each definition.
+use Rattle.std.specs.Prelude.{Err, Ok, Result}
 use Prim.Native.Nat.{ℕ, zero, suc, ◌+◌, ◌*◌, ◌≤◌, ◌<◌}
 use mathlib.Core.Path.{◌≡◌, refl}
 use mathlib.Core.Bool.{true, false}
@@ -26,40 +27,33 @@ use Rattle.body.specs.Body.{ItemAt, item, refused, called_item, parsed_item, ite
 use Rattle.parser.specs.declared.Refusal.{Refusal}
 use Rattle.parser.specs.declared.Ty.{Ty}
 use Rattle.parser.specs.declared.Variable.{Variable}
-use Rattle.parser.specs.declared.Consumed.{Consumed}
-use Rattle.parser.specs.declared.Consumed.TheVariants as C
-use Rattle.parser.specs.declared.Named.{Named}
-use Rattle.parser.specs.declared.Named.TheVariants as N
-use Rattle.parser.specs.declared.TypeRead.{TypeRead}
-use Rattle.parser.specs.declared.Defined.{Defined}
-use Rattle.parser.specs.declared.Defined.TheVariants as D
 use Rattle.parser.specs.declared.Parsed.{Parsed}
 use Rattle.parser.specs.declared.Parsed.TheVariants as P
 
 -- Where each answer goes on. ----------------------------------------------------------------------------------------
 
-abbrev pub DefinedIn : ℕ → ℕ → Defined → Type 0
-DefinedIn from last (D.At v next) = (from + 1 ≤ next) × (next ≤ last)
-DefinedIn from last (D.Refused e) = Unit
+abbrev pub DefinedIn : ℕ → ℕ → Result (Variable × ℕ) Refusal → Type 0
+DefinedIn from last (Ok (v, next)) = (from + 1 ≤ next) × (next ≤ last)
+DefinedIn from last (Err e) = Unit
 
-abbrev pub ParsedIn : ℕ → ℕ → Parsed → Type 0
-ParsedIn from last (P.Done o next) = (from + 2 ≤ next) × (next ≤ last) × (operation_token o ≤ last)
-ParsedIn from last (P.Call w) = (from ≤ w) × (w ≤ last)
-ParsedIn from last (P.CallInto v w) = (from ≤ w) × (w ≤ last)
-ParsedIn from last (P.Refused e) = Unit
+abbrev pub ParsedIn : ℕ → ℕ → Result Parsed Refusal → Type 0
+ParsedIn from last (Ok (P.Done o next)) = (from + 2 ≤ next) × (next ≤ last) × (operation_token o ≤ last)
+ParsedIn from last (Ok (P.Call w)) = (from ≤ w) × (w ≤ last)
+ParsedIn from last (Ok (P.CallInto v w)) = (from ≤ w) × (w ≤ last)
+ParsedIn from last (Err e) = Unit
 
 -- a run of n variables and its end
-abbrev pub RunIn : ℕ → ℕ → ℕ → Consumed → Type 0
-RunIn from n last (C.At next) = (from + n + 1 ≤ next) × (next ≤ last)
-RunIn from n last (C.Refused e) = Unit
+abbrev pub RunIn : ℕ → ℕ → ℕ → Result ℕ Refusal → Type 0
+RunIn from n last (Ok next) = (from + n + 1 ≤ next) × (next ≤ last)
+RunIn from n last (Err e) = Unit
 
 pub record ArgumentsIn (from room last : ℕ) (r : Variables) : Type 0 where
   pub few : length r.list ≤ room
   pub on : RunIn from (length r.list) last r.end
 
-abbrev pub LabelIn : ℕ → ℕ → ℕ → Named → Type 0
-LabelIn from last count (N.At l next) = (from + 2 ≤ next) × (next ≤ last) × (count < 255)
-LabelIn from last count (N.Refused e) = Unit
+abbrev pub LabelIn : ℕ → ℕ → ℕ → Result (Identifier × ℕ) Refusal → Type 0
+LabelIn from last count (Ok (l, next)) = (from + 2 ≤ next) × (next ≤ last) × (count < 255)
+LabelIn from last count (Err e) = Unit
 
 -- an item that is no label
 abbrev pub Operates : Item → Type 0
@@ -87,9 +81,9 @@ token-next ts at =
     pick_either (λ (u : TokenAt). (u.kind ≡ 38 → ⊥) → u.next ≡ at + 1) (ltb at (length ts)) _ _
     (λ t h. rw (ne_eqb _ _ h)) (λ t h. absurd (h refl))
 
-run_longer : (from n last : ℕ) (c : Consumed) → RunIn (from + 1) n last c → RunIn from (suc n) last c
-run_longer from n last (C.At next) h = (omega (arith, h.0), h.1)
-run_longer from n last (C.Refused e) h = tt
+run_longer : (from n last : ℕ) (c : Result ℕ Refusal) → RunIn (from + 1) n last c → RunIn from (suc n) last c
+run_longer from n last (Ok next) h = (omega (arith, h.0), h.1)
+run_longer from n last (Err e) h = tt
 
 module _ (ts : List Tok) (last : ℕ) (ends : (token_at ts last).kind ≡ 38) where
   pub moves : (at : ℕ) → at ≤ last → ((token_at ts at).kind ≡ 38 → ⊥) → ((token_at ts at).next ≡ at + 1) × (at + 1 ≤ last)
@@ -107,7 +101,7 @@ module _ (ts : List Tok) (last : ℕ) (ends : (token_at ts last).kind ≡ 38) wh
       → Q (then_at fail (consume_d ts at kind) k)
   unfolding consume_d look then_at
   consume_step Q fail k at kind h n f g =
-      pick_either (λ (c : Consumed). Q (then_at fail c k)) (eqb (token_at ts at).kind kind) _ _
+      pick_either (λ (c : Result ℕ Refusal). Q (then_at fail c k)) (eqb (token_at ts at).kind kind) _ _
       (λ t. let m = moved at kind h n t in rw m.0 (g m.1)) (λ t. f _)
 
   pub named_step : {A : Type 0} (Q : A → Type 0) (fail : Refusal → A) (k : Identifier → ℕ → A) (at kind number : ℕ)
@@ -116,7 +110,7 @@ module _ (ts : List Tok) (last : ℕ) (ends : (token_at ts last).kind ≡ 38) wh
       → Q (then_named fail (named_d ts at kind number) k)
   unfolding named_d then_named
   named_step Q fail k at kind number h n f g =
-      pick_either (λ (c : Named). Q (then_named fail c k)) (eqb (token_at ts at).kind kind) _ _
+      pick_either (λ (c : Result (Identifier × ℕ) Refusal). Q (then_named fail c k)) (eqb (token_at ts at).kind kind) _ _
       (λ t. let m = moved at kind h n t in rw m.0 (g _ m.1)) (λ t. f _)
 
   pub type_step : {A : Type 0} (Q : A → Type 0) (fail : Refusal → A) (k : Ty → ℕ → A) (at : ℕ) → at ≤ last
@@ -124,15 +118,15 @@ module _ (ts : List Tok) (last : ℕ) (ends : (token_at ts last).kind ≡ 38) wh
       → Q (then_type fail (type_d ts at) k)
   unfolding type_d look then_type
   type_step Q fail k at h f g =
-      pick_either (λ (c : TypeRead). Q (then_type fail c k)) (eqb (token_at ts at).kind 32) _ _
+      pick_either (λ (c : Result (Ty × ℕ) Refusal). Q (then_type fail c k)) (eqb (token_at ts at).kind 32) _ _
       (λ t. let m = moved at 32 h refl t in rw m.0 (g _ m.1))
       (λ s.
-      pick_either (λ (c : TypeRead). Q (then_type fail c k)) (eqb (token_at ts at).kind 33) _ _
+      pick_either (λ (c : Result (Ty × ℕ) Refusal). Q (then_type fail c k)) (eqb (token_at ts at).kind 33) _ _
       (λ t. let m = moved at 33 h refl t in rw m.0 (g _ m.1)) (λ t. f _))
 
   -- the end of an operation
-  semicolon : (from at : ℕ) (k : ℕ → Parsed) → at ≤ last → (at + 1 ≤ last → ParsedIn from last (k (at + 1)))
-      → ParsedIn from last (then_at P.Refused (consume_d ts at 30) k)
+  semicolon : (from at : ℕ) (k : ℕ → Result Parsed Refusal) → at ≤ last → (at + 1 ≤ last → ParsedIn from last (k (at + 1)))
+      → ParsedIn from last (then_at Err (consume_d ts at 30) k)
   semicolon from at k h g = consume_step (ParsedIn from last) _ k at 30 h refl (λ e. tt) g
 
   -- Operations. -----------------------------------------------------------------------------------------------------
@@ -220,11 +214,11 @@ module _ (ts : List Tok) (last : ℕ) (ends : (token_at ts last).kind ≡ 38) wh
       type_step (DefinedIn at last) _ _ (at + 1 + 1) f (λ e. tt) (λ t d.
       consume_step (DefinedIn at last) _ _ (at + 1 + 1 + 1) 24 d refl (λ e. tt) (λ b. (omega arith, b)))))
 
-  defined_then : (at : ℕ) (d : Defined) → DefinedIn at last d
-      → ParsedIn at last (then_defined P.Refused d (λ v at1. value_d ts v at1))
+  defined_then : (at : ℕ) (d : Result (Variable × ℕ) Refusal) → DefinedIn at last d
+      → ParsedIn at last (then_defined Err d (λ v at1. value_d ts v at1))
   unfolding then_defined
-  defined_then at (D.At v next) h = value_in at next v (omega (arith, h.0)) h.1
-  defined_then at (D.Refused e) h = tt
+  defined_then at (Ok (v, next)) h = value_in at next v (omega (arith, h.0)) h.1
+  defined_then at (Err e) h = tt
 
   definition_in : (at : ℕ) → at ≤ last → ParsedIn at last (definition_d ts at)
   unfolding definition_d
@@ -286,11 +280,11 @@ module _ (ts : List Tok) (last : ℕ) (ends : (token_at ts last).kind ≡ 38) wh
       let e : word + 2 ≡ word + 1 + 1 = omega arith in
       rw e (arguments_in_lem 16 (word + 1 + 1) f)))
 
-  called_in : (from word : ℕ) (i : Item) (e : Consumed) → from ≤ word → item_token i ≤ last → Operates i
+  called_in : (from word : ℕ) (i : Item) (e : Result ℕ Refusal) → from ≤ word → item_token i ≤ last → Operates i
       → length (arguments_in i) ≤ 16 → RunIn (word + 2) (length (arguments_in i)) last e
       → ItemIn from last (then_at refused e (λ at. item i at))
   unfolding then_at
-  called_in from word i (C.At next) l t o f h =
+  called_in from word i (Ok next) l t o f h =
       record {
         two = omega (arith, h.0);
         reached = h.1;
@@ -298,11 +292,11 @@ module _ (ts : List Tok) (last : ℕ) (ends : (token_at ts last).kind ≡ 38) wh
         arguments = omega (arith, h.0);
         operates = o;
       }
-  called_in from word i (C.Refused e) l t o f h = tt
+  called_in from word i (Err e) l t o f h = tt
 
-  parsed_in : (at : ℕ) (p : Parsed) → ParsedIn at last p → ItemIn at last (parsed_item ts p)
+  parsed_in : (at : ℕ) (p : Result Parsed Refusal) → ParsedIn at last p → ItemIn at last (parsed_item ts p)
   unfolding parsed_item called_item
-  parsed_in at (P.Done o next) h =
+  parsed_in at (Ok (P.Done o next)) h =
       record {
         two = h.0;
         reached = h.1;
@@ -310,17 +304,17 @@ module _ (ts : List Tok) (last : ℕ) (ends : (token_at ts last).kind ≡ 38) wh
         arguments = omega (arith, h.0);
         operates = tt;
       }
-  parsed_in at (P.Call w) h =
+  parsed_in at (Ok (P.Call w)) h =
       let c = call_in w h.1 in
       called_in at w (call w (call_d ts w).callee (call_d ts w).arguments.list) (call_d ts w).arguments.end h.0
       h.1 tt
       c.few c.on
-  parsed_in at (P.CallInto v w) h =
+  parsed_in at (Ok (P.CallInto v w)) h =
       let c = call_in w h.1 in
       called_in at w (call_into w v (call_d ts w).callee (call_d ts w).arguments.list) (call_d ts w).arguments.end
       h.0
       h.1 tt c.few c.on
-  parsed_in at (P.Refused e) h = tt
+  parsed_in at (Err e) h = tt
 
   pub item_in : (at : ℕ) → at ≤ last → ItemIn at last (item_d ts at)
   unfolding item_d

@@ -1,5 +1,6 @@
 -- Why the body's loop is right: what is left to read, read from here, gives the whole body; the cells are those of what
 -- was read. One lemma for each way a turn can end.
+use Rattle.std.specs.Prelude.{Err, Ok}
 use Prim.Native.Nat.{ℕ, zero, suc, ◌+◌, ◌-◌, ◌*◌, ◌≤◌}
 use mathlib.Core.Path.{◌≡◌, refl, sym, ◌∙◌}
 use mathlib.Core.Bool.{Bool, true}
@@ -13,12 +14,10 @@ use Rattle.parser.specs.Step.{then_at}
 use Rattle.body.specs.Body.{Body, body_stop, labels_of, lacks_ret, closed_from, closed_items}
 use Rattle.body.specs.Shapes.{shapes_of}
 use Rattle.parser.specs.declared.Refusal.{Refusal}
-use Rattle.parser.specs.declared.Consumed.TheVariants as C
 use Rattle.body.specs.Records.{items_cells, arguments_cells, arguments_count}
 use Rattle.body.specs.Room.{Within, filled}
 use Rattle.body.specs.Answer.{function_body, body_read, Stored, Held}
 use Rattle.body.specs.Turns.{added, Ready, body_from, Gone, Ended}
-use Rattle.body.specs.declared.BodyRead.TheVariants as B
 use Rattle.body.specs.declared.Closed.{Closed}
 use Rattle.body.specs.declared.Going.{Going}
 use Rattle.body.proofs.Cells.{fresh, started, items-on, arguments-on, items-count-on, arguments_count-on}
@@ -90,10 +89,10 @@ begin ts void at first used items arguments labels w =
 -- the answer of a body that is closed
 pub closed-read : (ts : List Tok) (void : Bool) (at first used : ℕ) (whole : Body) (e : Closed)
     (items₀ items arguments₀ arguments labels₀ labels : List ℕ)
-    → (whole.end ≡ C.At e.next) × (length (closed_items void whole.items) + first ≡ e.items)
+    → (whole.end ≡ Ok e.next) × (length (closed_items void whole.items) + first ≡ e.items)
     × (arguments_count whole.items + used ≡ e.arguments) × (length (labels_of whole.items) ≡ e.labels)
     × Stored ts void whole.items at first used e.next items₀ items arguments₀ arguments labels₀ labels
-    → (B.Done (record { next = e.next; items = e.items - first; arguments = e.arguments - used; labels = e.labels })
+    → (Ok (record { next = e.next; items = e.items - first; arguments = e.arguments - used; labels = e.labels })
     ≡ body_read void whole)
     × Held ts void whole.items at first used items₀ items arguments₀ arguments labels₀ labels whole.end
 unfolding body_read then_at
@@ -104,8 +103,8 @@ closed-read ts void at first used whole e items₀ items arguments₀ arguments 
 
 -- the answer of a body that is refused
 pub refused-read : (ts : List Tok) (void : Bool) (at first used : ℕ) (whole : Body) (e : Refusal)
-    (items₀ items arguments₀ arguments labels₀ labels : List ℕ) → whole.end ≡ C.Refused e
-    → (B.Refused e ≡ body_read void whole)
+    (items₀ items arguments₀ arguments labels₀ labels : List ℕ) → whole.end ≡ Err e
+    → (Err e ≡ body_read void whole)
     × Held ts void whole.items at first used items₀ items arguments₀ arguments labels₀ labels whole.end
 unfolding body_read then_at
 refused-read ts void at first used whole e items₀ items arguments₀ arguments labels₀ labels f = rw f (refl, tt)
@@ -178,7 +177,7 @@ module _ {ts : List Tok} {void : Bool} {at first used : ℕ} {whole : Body} {ite
     -- a refusal
     pub stop : (room blocks : ℕ) (e : Refusal)
         → Reading ts void at first used whole items₀ arguments₀ labels₀ s items arguments labels room blocks
-        → ((room : ℕ) → body_from ts (suc room) s labels ≡ body_stop e) → whole.end ≡ C.Refused e
+        → ((room : ℕ) → body_from ts (suc room) s labels ≡ body_stop e) → whole.end ≡ Err e
     stop zero blocks e v g = absurd (omega (arith, roomy v))
     stop (suc room) blocks e v g = let go = g room in sym (rw go at v.ends)
 
@@ -186,7 +185,7 @@ module _ {ts : List Tok} {void : Bool} {at first used : ℕ} {whole : Body} {ite
     pub finish : (room blocks : ℕ) {e : Closed} {items' arguments' labels' : List ℕ}
         → Reading ts void at first used whole items₀ arguments₀ labels₀ s items arguments labels room blocks
         → Ended ts void s e items items' arguments arguments' labels labels'
-        → (whole.end ≡ C.At e.next) × (length (closed_items void whole.items) + first ≡ e.items)
+        → (whole.end ≡ Ok e.next) × (length (closed_items void whole.items) + first ≡ e.items)
         × (arguments_count whole.items + used ≡ e.arguments) × (length (labels_of whole.items) ≡ e.labels)
         × Stored ts void whole.items at first used e.next items₀ items' arguments₀ arguments' labels₀ labels'
     unfolding closed_from items_cells arguments_cells arguments_count labels_of added

@@ -1,4 +1,5 @@
 -- The simulation of demand 3 for a body: its items are the other's, moved and renamed, and it ends or is refused alike.
+use Rattle.std.specs.Prelude.{Err, Ok, Result}
 use Prim.Native.Nat.{ℕ, zero, suc, ◌+◌, ◌≤◌, ◌<◌}
 use mathlib.Core.Path.{◌≡◌, refl, ap}
 use mathlib.Core.List.{List, [], ◌∷◌, ◌++◌}
@@ -18,8 +19,6 @@ use Rattle.parser.specs.Moved.{Move, Sim, SimName, SimE, SimC, SimO, SimV, SimP,
 use Rattle.body.specs.Moved.{SimItem, SimItemAt, SimBrace, SimBody}
 use Rattle.parser.specs.declared.Refusal.{Refusal}
 use Rattle.parser.specs.declared.Variable.{Variable}
-use Rattle.parser.specs.declared.Consumed.{Consumed}
-use Rattle.parser.specs.declared.Consumed.TheVariants as C
 use Rattle.parser.specs.declared.Parsed.{Parsed}
 use Rattle.parser.proofs.Sim.{pick_s, test_s, then_named_s, labelled_s, instruction_s, call_s}
 
@@ -96,7 +95,7 @@ closing-brace before kind = by (eqb before after_label)
     by false e = eqb-true kind 28 e
 
 module _ {m : Move} {n : ℕ} where
-  ended : (i : ℕ) → i ≤ n → 1 ≤ i → Rel m n SimBody (body_end (C.At (m.by + i))) (body_end (C.At i))
+  ended : (i : ℕ) → i ≤ n → 1 ≤ i → Rel m n SimBody (body_end (Ok (m.by + i))) (body_end (Ok i))
   ended i h g = Rel.is (record { items = Each.none; end = SimBrace.at i h g })
 
   stopped : (e e' : Refusal) → SimE m n e e' → Rel m n SimBody (body_stop e) (body_stop e')
@@ -120,7 +119,7 @@ module _ {m : Move} {n : ℕ} where
   unread e e' r = Rel.is (SimItemAt.refused e e' r)
 
   -- a call's end, whatever the call is made into
-  after_end : {c c' : Consumed} (i i' : Item) → SimC m n c c' → SimItem m n i i'
+  after_end : {c c' : Result ℕ Refusal} (i i' : Item) → SimC m n c c' → SimItem m n i i'
       → Rel m n SimItemAt (then_at ItemAt.refused c (λ at. ItemAt.item i at))
       (then_at ItemAt.refused c' (λ at. ItemAt.item i' at))
   unfolding then_at
@@ -144,7 +143,7 @@ module _ {m : Move} {n : ℕ} where
   after_item k k' (Rel.is (SimItemAt.refused e e' r)) go = stopped e e' r
 
 module _ {m : Move} {n : ℕ} {ts ts' : List Tok} (s : Sim m n ts ts') where
-  parsed : {p p' : Parsed} → Rel m n SimP p p' → Rel m n SimItemAt (parsed_item ts p) (parsed_item ts' p')
+  parsed : {p p' : Result Parsed Refusal} → Rel m n SimP p p' → Rel m n SimItemAt (parsed_item ts p) (parsed_item ts' p')
   unfolding parsed_item
   parsed (Rel.is (SimP.done q i h)) = read (SimItem.plain q) i h
   parsed (Rel.is (SimP.call i h)) = after_call _ _ (call_s s i h) (λ g g' xs xs' p q. SimItem.call i p q h)

@@ -1,4 +1,6 @@
 -- One turn: by the token at hand a label, an operation or the closing brace, as `body_d` takes it.
+use Rattle.std.specs.Prelude.{Err, Ok, Result}
+use Rattle.parser.specs.declared.Refusal.{Refusal}
 use Prim.Native.Nat.{ℕ, ◌+◌, ◌*◌, ◌≤◌, ◌<◌}
 use mathlib.Core.Path.{◌≡◌, refl, sym, ap, ◌∙◌}
 use mathlib.Core.Bool.{Bool, true, false}
@@ -19,8 +21,6 @@ use Rattle.parser.specs.Step.{opened}
 use Rattle.parser.specs.Runs.{variables_cells}
 use Rattle.parser.specs.Labels.{labelled_d}
 use Rattle.body.specs.Body.{label, body_d, body_then, closes, behind, labels_of, lacks_ret}
-use Rattle.parser.specs.declared.Named.{Named}
-use Rattle.parser.specs.declared.Named.TheVariants as N
 use Rattle.body.specs.Records.{none, item_record, record_of, record_cells, items_cells, arguments_count}
 use Rattle.body.specs.declared.Last.TheVariants as L
 use Rattle.body.specs.Room.{Within}
@@ -46,14 +46,14 @@ added_none true last = refl
 added_none false last = refl
 
 module _ (ts : List Tok) (void : Bool) (s : Going) {l : Identifier} {next : ℕ} (labels₀ : List ℕ) (g : Ready ts s)
-    (long : 255 ≤ length labels₀) {r : Named} (e : r ≡ labelled_d ts (take s.labels labels₀) s.at)
-    (f : r ≡ N.At l next)
+    (long : 255 ≤ length labels₀) {r : Result (Identifier × ℕ) Refusal} (e : r ≡ labelled_d ts (take s.labels labels₀) s.at)
+    (f : r ≡ Ok (l, next))
   where
     labelled : (s.at + 2 ≤ next) × (next ≤ g.within.last) × (s.labels < 255)
     labelled =
         let w = g.within in
         let few : s.labels ≤ length labels₀ = omega (arith, g.labels_few, long) in
-        let h : LabelIn s.at w.last (length (take s.labels labels₀)) (N.At l next) =
+        let h : LabelIn s.at w.last (length (take s.labels labels₀)) (Ok (l, next)) =
         rw (sym e ∙ f) at (label_in ts w.last w.ends (take s.labels labels₀) s.at w.reached) in
         (h.0, h.1, rw (length-take-le s.labels labels₀ few) at h.2)
 
@@ -155,11 +155,11 @@ body_ended ts void s e items₀ items arguments labels w h next n used count f =
 module _ (ts : List Tok) (void : Bool) (s : Going) (items₀ items labels₀ : List ℕ)
     (goes_on : closes s.before (token_at ts s.at).kind ≡ false) (few : s.labels ≤ 255)
     (long : 255 ≤ length labels₀) where
-  pub label_turned : (r : Turn) (arguments labels : List ℕ) → eqb (token_at ts s.at).kind 3 ≡ true
+  pub label_turned : (r : Result Turn Refusal) (arguments labels : List ℕ) → eqb (token_at ts s.at).kind 3 ≡ true
       → LabelTurned ts void s items₀ items labels₀ labels r
       → Turned ts void s items₀ items arguments arguments labels₀ labels r
   unfolding body_d opened labels_of before_next variables_cells
-  label_turned (T.On s') arguments labels k h =
+  label_turned (Ok (T.On s')) arguments labels k h =
       let t = h.taken in
       let so_far : take s'.labels labels ≡ take s.labels labels₀ ++ (h.name.0 ∷ []) =
       rw (h.labels_are, h.labels_next, add-one s.labels)
@@ -181,14 +181,14 @@ module _ (ts : List Tok) (void : Bool) (s : Going) (items₀ items labels₀ : L
               arguments_are = refl;
             };
       }
-  label_turned (T.Done e) arguments labels k h = absurd h
-  label_turned (T.Refused e) arguments labels k h = λ room. rw (goes_on, k, h)
+  label_turned (Ok (T.Done e)) arguments labels k h = absurd h
+  label_turned (Err e) arguments labels k h = λ room. rw (goes_on, k, h)
 
-  pub item_turned : (r : Turn) (arguments₀ arguments : List ℕ) → eqb (token_at ts s.at).kind 3 ≡ false
+  pub item_turned : (r : Result Turn Refusal) (arguments₀ arguments : List ℕ) → eqb (token_at ts s.at).kind 3 ≡ false
       → ItemTurned ts s items₀ items arguments₀ arguments r
       → Turned ts void s items₀ items arguments₀ arguments labels₀ labels₀ r
   unfolding body_d opened item_then
-  item_turned (T.On s') arguments₀ arguments k f =
+  item_turned (Ok (T.On s')) arguments₀ arguments k f =
       let h = f void in
       let t = h.taken in
       record {
@@ -203,5 +203,5 @@ module _ (ts : List Tok) (void : Bool) (s : Going) (items₀ items labels₀ : L
         passed = h.passed;
         taken = t;
       }
-  item_turned (T.Done e) arguments₀ arguments k h = absurd h
-  item_turned (T.Refused e) arguments₀ arguments k h = λ room. rw (goes_on, k) (h _)
+  item_turned (Ok (T.Done e)) arguments₀ arguments k h = absurd h
+  item_turned (Err e) arguments₀ arguments k h = λ room. rw (goes_on, k) (h _)

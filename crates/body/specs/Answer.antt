@@ -1,4 +1,7 @@
 -- A body's answer, and what its cells hold.
+use Rattle.std.specs.Prelude.{Err, Ok, Result}
+use Rattle.body.specs.declared.Closed.{Closed}
+use Rattle.parser.specs.declared.Refusal.{Refusal}
 use Rattle.std.specs.Prelude.{ℕ, ◌*◌, ◌≤◌, ◌≡◌, List, [], Bool, true, length}
 use Rattle.std.proofs.lemmas.List.Edits.{sets}
 use Rattle.lexer.specs.Decoded.{Tok}
@@ -6,22 +9,18 @@ use Rattle.parser.specs.Step.{then_at}
 use Rattle.utils.specs.Limits.{most_tokens, most_labels}
 use Rattle.body.specs.Body.{Item, Body, after_brace, body_d, labels_of, closed_items}
 use Rattle.body.specs.Shapes.{shapes_of}
-use Rattle.parser.specs.declared.Consumed.{Consumed}
-use Rattle.parser.specs.declared.Consumed.TheVariants as C
 use Rattle.body.specs.Records.{items_cells, arguments_cells, arguments_count}
 use Rattle.body.specs.Room.{Within, Bounds, filled}
-use Rattle.body.specs.declared.BodyRead.{BodyRead}
-use Rattle.body.specs.declared.BodyRead.TheVariants as B
 
 -- a function's body, from after its opening brace
 abbrev pub function_body : List Tok → ℕ → Body
 function_body ts at = body_d ts most_tokens [] after_brace at
 
 -- where to go on, and how many items, arguments and labels there are; or the refusal
-unfoldable pub body_read : Bool → Body → BodyRead
+unfoldable pub body_read : Bool → Body → Result Closed Refusal
 body_read void r =
-    then_at B.Refused r.end (λ next.
-    B.Done (record {
+    then_at Err r.end (λ next.
+    Ok (record {
       next = next;
       items = length (closed_items void r.items);
       arguments = arguments_count r.items;
@@ -41,7 +40,7 @@ pub record Stored (ts : List Tok) (void : Bool) (is : List Item) (at first used 
       (filled true (shapes_of (closed_items void is)))
 
 abbrev pub Held : (ts : List Tok) (void : Bool) (is : List Item) (at first used : ℕ)
-    (items₀ items arguments₀ arguments labels₀ labels : List ℕ) → Consumed → Type 0
-Held ts void is at first used items₀ items arguments₀ arguments labels₀ labels (C.At next) =
+    (items₀ items arguments₀ arguments labels₀ labels : List ℕ) → Result ℕ Refusal → Type 0
+Held ts void is at first used items₀ items arguments₀ arguments labels₀ labels (Ok next) =
     Stored ts void is at first used next items₀ items arguments₀ arguments labels₀ labels
-Held ts void is at first used items₀ items arguments₀ arguments labels₀ labels (C.Refused e) = Unit
+Held ts void is at first used items₀ items arguments₀ arguments labels₀ labels (Err e) = Unit

@@ -1,4 +1,5 @@
 -- A function's body (document 01, "Functions, labels, edges"): one list of items in text order.
+use Rattle.std.specs.Prelude.{Err, Ok, Result}
 use Rattle.std.specs.Prelude.{ℕ, zero, suc, List, [], ◌∷◌, ◌++◌, Bool, true, false, eqb}
 use Rattle.utils.specs.Bytes.{pick}
 use Rattle.lexer.specs.Decoded.{Tok, token_at}
@@ -12,8 +13,6 @@ use Rattle.parser.specs.declared.Refusal.{Refusal}
 use Rattle.parser.specs.declared.Variable.{Variable}
 use Rattle.parser.specs.declared.Operation.{Operation}
 use Rattle.parser.specs.declared.Operation.TheVariants as O
-use Rattle.parser.specs.declared.Consumed.{Consumed}
-use Rattle.parser.specs.declared.Consumed.TheVariants as C
 use Rattle.parser.specs.declared.Parsed.{Parsed}
 use Rattle.parser.specs.declared.Parsed.TheVariants as P
 
@@ -92,11 +91,11 @@ then_item fail (refused e) k = fail e
 unfoldable pub called_item : Calling → (Identifier → List Variable → Item) → ItemAt
 called_item c make = then_at refused c.arguments.end (λ at. item (make c.callee c.arguments.list) at)
 
-unfoldable pub parsed_item : List Tok → Parsed → ItemAt
-parsed_item ts (P.Done o at) = item (plain o) at
-parsed_item ts (P.Call w) = called_item (call_d ts w) (λ g xs. call w g xs)
-parsed_item ts (P.CallInto v w) = called_item (call_d ts w) (λ g xs. call_into w v g xs)
-parsed_item ts (P.Refused e) = refused e
+unfoldable pub parsed_item : List Tok → Result Parsed Refusal → ItemAt
+parsed_item ts (Ok (P.Done o at)) = item (plain o) at
+parsed_item ts (Ok (P.Call w)) = called_item (call_d ts w) (λ g xs. call w g xs)
+parsed_item ts (Ok (P.CallInto v w)) = called_item (call_d ts w) (λ g xs. call_into w v g xs)
+parsed_item ts (Err e) = refused e
 
 unfoldable pub item_d : List Tok → ℕ → ItemAt
 item_d ts at = parsed_item ts (instruction_d ts at)
@@ -106,13 +105,13 @@ item_d ts at = parsed_item ts (instruction_d ts at)
 -- The items that were read, and where the body ended or why it was refused.
 pub record Body : Type 0 where
   pub items : List Item
-  pub end : Consumed
+  pub end : Result ℕ Refusal
 
-abbrev pub body_end : Consumed → Body
+abbrev pub body_end : Result ℕ Refusal → Body
 body_end e = record { items = []; end = e }
 
 abbrev pub body_stop : Refusal → Body
-body_stop e = body_end (C.Refused e)
+body_stop e = body_end (Err e)
 
 abbrev pub body_then : Item → Body → Body
 body_then i r = record { items = i ∷ r.items; end = r.end }
@@ -144,7 +143,7 @@ unfoldable pub body_d : List Tok → ℕ → List ℕ → ℕ → ℕ → Body
 body_d ts zero labels before at = body_stop (refusal 0 at 0)
 body_d ts (suc room) labels before at =
     look (token_at ts at) (λ kind next.
-    pick (closes before kind) (body_end (C.At next))
+    pick (closes before kind) (body_end (Ok next))
     (pick (eqb kind T.label)
     (then_named body_stop (labelled_d ts labels at) (λ l at1.
     body_then (label at l) (body_d ts room (labels ++ (l.0 ∷ [])) after_label at1)))

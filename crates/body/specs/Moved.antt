@@ -1,4 +1,5 @@
 -- Two readings of one body: related items (crates/parser/specs/Moved.antt has the relation of tokens and names).
+use Rattle.std.specs.Prelude.{Err, Ok, Result}
 use Rattle.std.specs.Prelude.{ℕ, ◌+◌, ◌≤◌, ◌<◌, List}
 use Rattle.pieces.specs.declared.Identifier.{Identifier}
 use Rattle.body.specs.Body.{Item, ItemAt, Body}
@@ -6,8 +7,6 @@ use Rattle.body.specs.Shapes.{Shape}
 use Rattle.parser.specs.declared.Refusal.{Refusal}
 use Rattle.parser.specs.declared.Variable.{Variable}
 use Rattle.parser.specs.declared.Operation.{Operation}
-use Rattle.parser.specs.declared.Consumed.{Consumed}
-use Rattle.parser.specs.declared.Consumed.TheVariants as C
 use Rattle.parser.specs.Moved.{Move, SimName, SimE}
 use Rattle.parser.specs.Moved.{SimV, SimO, Each, SimNumber}
 
@@ -28,9 +27,9 @@ pub data SimItemAt (m : Move) (l : ℕ) : ItemAt → ItemAt → Type 0 where
   refused : (e e' : Refusal) → SimE m l e e' → SimItemAt m l (ItemAt.refused e) (ItemAt.refused e')
 
 -- where the closing brace, which may be the last token, was asked for; the index behind it isn't 0
-pub data SimBrace (m : Move) (l : ℕ) : Consumed → Consumed → Type 0 where
-  at : (i : ℕ) → i ≤ l → 1 ≤ i → SimBrace m l (C.At (m.by + i)) (C.At i)
-  refused : (e e' : Refusal) → SimE m l e e' → SimBrace m l (C.Refused e) (C.Refused e')
+pub data SimBrace (m : Move) (l : ℕ) : Result ℕ Refusal → Result ℕ Refusal → Type 0 where
+  at : (i : ℕ) → i ≤ l → 1 ≤ i → SimBrace m l (Ok (m.by + i)) (Ok i)
+  refused : (e e' : Refusal) → SimE m l e e' → SimBrace m l (Err e) (Err e')
 
 pub record SimBody (m : Move) (l : ℕ) (r r' : Body) : Type 0 where
   pub items : Each (SimItem m l) r.items r'.items

@@ -1,5 +1,6 @@
 -- One turn of the body's loop: an item read and stored, the body closed, or a refusal. `body_d` says the same of a whole
 -- body; that turns add up to it is shown in `proofs/Reading.antt`.
+use Rattle.std.specs.Prelude.{Err, Ok, Result}
 use Rattle.std.specs.Prelude.{ℕ, suc, ◌+◌, ◌*◌, ◌≤◌, ◌≡◌, List, [], ◌∷◌, ◌++◌, Bool, eqb, leb, length, take, set}
 use Rattle.std.proofs.lemmas.List.Edits.{sets}
 use Rattle.utils.specs.Bytes.{pick}
@@ -14,15 +15,11 @@ use Rattle.body.specs.Body.{Item, label, plain, call, call_into, operation_token
 use Rattle.body.specs.Body.{ItemAt, item, refused, then_item, item_d, Body, body_end, body_stop, body_then, body_d}
 use Rattle.body.specs.Body.{after_label, after_operation, after_terminator, behind, labels_of, ret, lacks_ret}
 use Rattle.parser.specs.declared.Refusal.{Refusal}
-use Rattle.parser.specs.declared.Consumed.{Consumed}
-use Rattle.parser.specs.declared.Consumed.TheVariants as C
-use Rattle.parser.specs.declared.Named.TheVariants as N
 use Rattle.body.specs.Records.{none, item_record, record_of, record_cells, items_cells}
 use Rattle.body.specs.Room.{Within}
 use Rattle.body.specs.declared.ItemRecord.{ItemRecord}
 use Rattle.body.specs.declared.Last.TheVariants as L
 use Rattle.body.specs.declared.ItemRead.{ItemRead}
-use Rattle.body.specs.declared.ItemRead.TheVariants as I
 use Rattle.body.specs.declared.Closed.{Closed}
 use Rattle.body.specs.declared.Going.{Going}
 use Rattle.body.specs.declared.Turn.{Turn}
@@ -31,9 +28,9 @@ use Rattle.body.specs.declared.Turn.TheVariants as T
 -- An operation. -----------------------------------------------------------------------------------------------------
 
 -- its record, how many arguments there are then, and where to go on; or the refusal
-unfoldable pub item_read : ℕ → ItemAt → ItemRead
-item_read used (item i next) = I.Done (record_of used i) (used + length (arguments_in i)) next
-item_read used (refused e) = I.Refused e
+unfoldable pub item_read : ℕ → ItemAt → Result ItemRead Refusal
+item_read used (item i next) = Ok (record { item = (record_of used i); arguments = (used + length (arguments_in i)); next = next })
+item_read used (refused e) = Err e
 
 -- a record stored at index n and a run of arguments from `used` on
 pub record Put (n used : ℕ) (r : ItemRecord) (run items₀ items arguments₀ arguments : List ℕ) : Type 0 where
@@ -51,19 +48,19 @@ abbrev pub call_record : ℕ → ℕ → Identifier → ℕ → ℕ → Calling 
 call_record kind word dest dty used c =
     item_record kind word dest dty c.callee 0 (L.Run used (length c.arguments.list))
 
-unfoldable pub call_read : ℕ → ℕ → Identifier → ℕ → ℕ → Calling → ItemRead
+unfoldable pub call_read : ℕ → ℕ → Identifier → ℕ → ℕ → Calling → Result ItemRead Refusal
 call_read kind word dest dty used c =
-    then_at I.Refused c.arguments.end (λ next.
-    I.Done (call_record kind word dest dty used c) (used + length c.arguments.list) next)
+    then_at Err c.arguments.end (λ next.
+    Ok (record { item = (call_record kind word dest dty used c); arguments = (used + length c.arguments.list); next = next }))
 
-abbrev pub CallHeld : ℕ → ℕ → ItemRecord → List ℕ → List ℕ → List ℕ → List ℕ → List ℕ → Consumed → Type 0
-CallHeld n used r run items₀ items arguments₀ arguments (C.At next) = Put n used r run items₀ items arguments₀ arguments
-CallHeld n used r run items₀ items arguments₀ arguments (C.Refused e) = Unit
+abbrev pub CallHeld : ℕ → ℕ → ItemRecord → List ℕ → List ℕ → List ℕ → List ℕ → List ℕ → Result ℕ Refusal → Type 0
+CallHeld n used r run items₀ items arguments₀ arguments (Ok next) = Put n used r run items₀ items arguments₀ arguments
+CallHeld n used r run items₀ items arguments₀ arguments (Err e) = Unit
 
 -- behind a terminator: its own refusal, or 12 with the operation's token
-abbrev pub late_refusal : ItemRead → Refusal
-late_refusal (I.Done r used next) = refusal 12 r.token 0
-late_refusal (I.Refused e) = e
+abbrev pub late_refusal : Result ItemRead Refusal → Refusal
+late_refusal (Ok (record { item = r; arguments = used; next = next })) = refusal 12 r.token 0
+late_refusal (Err e) = e
 
 -- what stands behind an operation, by its record's kind
 unfoldable pub behind_kind : ℕ → ℕ
@@ -135,11 +132,11 @@ pub record ItemTaken (ts : List Tok) (void : Bool) (s s' : Going)
   pub passed : Passed ts s.at s'.at read
   pub taken : Taken void read s s' items₀ items arguments₀ arguments
 
-abbrev pub ItemTurned : List Tok → Going → List ℕ → List ℕ → List ℕ → List ℕ → Turn → Type 0
-ItemTurned ts s items₀ items arguments₀ arguments (T.On s') =
+abbrev pub ItemTurned : List Tok → Going → List ℕ → List ℕ → List ℕ → List ℕ → Result Turn Refusal → Type 0
+ItemTurned ts s items₀ items arguments₀ arguments (Ok (T.On s')) =
     (void : Bool) → ItemTaken ts void s s' items₀ items arguments₀ arguments
-ItemTurned ts s items₀ items arguments₀ arguments (T.Done e) = ⊥
-ItemTurned ts s items₀ items arguments₀ arguments (T.Refused e) =
+ItemTurned ts s items₀ items arguments₀ arguments (Ok (T.Done e)) = ⊥
+ItemTurned ts s items₀ items arguments₀ arguments (Err e) =
     (k : Item → ℕ → Body) → item_then ts s.before s.at k ≡ body_stop e
 
 -- the state behind a label, and the items: the `ret` that the block before it may lack, and the label's record
@@ -162,18 +159,18 @@ label_put void s l items =
 
 pub record LabelTaken (ts : List Tok) (void : Bool) (s s' : Going) (items₀ items labels₀ labels : List ℕ) : Type 0 where
   pub name : Identifier
-  pub goes : labelled_d ts (take s.labels labels₀) s.at ≡ N.At name s'.at
+  pub goes : labelled_d ts (take s.labels labels₀) s.at ≡ Ok (name, s'.at)
   pub labels_next : s'.labels ≡ s.labels + 1
   pub labels_few : s'.labels ≤ most_labels
   pub labels_are : labels ≡ set labels₀ s.labels name.0
   pub passed : Passed ts s.at s'.at (label s.at name)
   pub taken : Taken void (label s.at name) s s' items₀ items [] []
 
-abbrev pub LabelTurned : List Tok → Bool → Going → List ℕ → List ℕ → List ℕ → List ℕ → Turn → Type 0
-LabelTurned ts void s items₀ items labels₀ labels (T.On s') = LabelTaken ts void s s' items₀ items labels₀ labels
-LabelTurned ts void s items₀ items labels₀ labels (T.Done e) = ⊥
-LabelTurned ts void s items₀ items labels₀ labels (T.Refused e) =
-    labelled_d ts (take s.labels labels₀) s.at ≡ N.Refused e
+abbrev pub LabelTurned : List Tok → Bool → Going → List ℕ → List ℕ → List ℕ → List ℕ → Result Turn Refusal → Type 0
+LabelTurned ts void s items₀ items labels₀ labels (Ok (T.On s')) = LabelTaken ts void s s' items₀ items labels₀ labels
+LabelTurned ts void s items₀ items labels₀ labels (Ok (T.Done e)) = ⊥
+LabelTurned ts void s items₀ items labels₀ labels (Err e) =
+    labelled_d ts (take s.labels labels₀) s.at ≡ Err e
 
 -- The body from a state on, with so much room.
 abbrev pub body_from : List Tok → ℕ → Going → List ℕ → Body
@@ -192,7 +189,7 @@ pub record Gone (ts : List Tok) (void : Bool) (s s' : Going) (items₀ items arg
 pub record Ended (ts : List Tok) (void : Bool) (s : Going) (e : Closed)
     (items₀ items arguments₀ arguments labels₀ labels : List ℕ)
     : Type 0 where
-  pub goes : (room : ℕ) → body_from ts (suc room) s labels₀ ≡ body_end (C.At e.next)
+  pub goes : (room : ℕ) → body_from ts (suc room) s labels₀ ≡ body_end (Ok e.next)
   pub one : s.at + 1 ≤ e.next
   pub within : Within ts e.next
   pub items_next : e.items ≡ s.items + length (added (lacks_ret void s.before) s.last)
@@ -203,10 +200,10 @@ pub record Ended (ts : List Tok) (void : Bool) (s : Going) (e : Closed)
   pub arguments_are : arguments ≡ arguments₀
   pub labels_are : labels ≡ labels₀
 
-abbrev pub Turned : List Tok → Bool → Going → List ℕ → List ℕ → List ℕ → List ℕ → List ℕ → List ℕ → Turn → Type 0
-Turned ts void s items₀ items arguments₀ arguments labels₀ labels (T.On s') =
+abbrev pub Turned : List Tok → Bool → Going → List ℕ → List ℕ → List ℕ → List ℕ → List ℕ → List ℕ → Result Turn Refusal → Type 0
+Turned ts void s items₀ items arguments₀ arguments labels₀ labels (Ok (T.On s')) =
     Gone ts void s s' items₀ items arguments₀ arguments labels₀ labels
-Turned ts void s items₀ items arguments₀ arguments labels₀ labels (T.Done e) =
+Turned ts void s items₀ items arguments₀ arguments labels₀ labels (Ok (T.Done e)) =
     Ended ts void s e items₀ items arguments₀ arguments labels₀ labels
-Turned ts void s items₀ items arguments₀ arguments labels₀ labels (T.Refused e) =
+Turned ts void s items₀ items arguments₀ arguments labels₀ labels (Err e) =
     (room : ℕ) → body_from ts (suc room) s labels₀ ≡ body_stop e

@@ -1,4 +1,5 @@
 -- How the check of a text ends, over plain variables.
+use Rattle.std.specs.Prelude.{Err, Ok}
 use Prim.Native.Nat.{ℕ, ◌*◌, ◌≤◌}
 use mathlib.Core.Path.{◌≡◌, refl, sym, ap, subst, ◌∙◌}
 use mathlib.Core.List.{List, []}
@@ -17,7 +18,6 @@ use Rattle.lexer.specs.declared.ReadAnswer.{ReadAnswer}
 use Rattle.parser.specs.declared.Refusal.{Refusal}
 use Rattle.functions.specs.Answer.{Slices, slices, counts_from}
 use Rattle.functions.specs.declared.Counts.{Counts}
-use Rattle.functions.specs.declared.ProgramRead.TheVariants as U
 use Rattle.unit.specs.Outcome.{UnitOutcome, checked, refused, unit_d, unit_read, unit_slices, as_long, fronts, none}
 use Rattle.unit.specs.Outcome.{UnitHeld}
 use Rattle.checker.specs.Check.{Checking, accepted, check_refusal, refusing, refused_at, checked_or, check_of}
@@ -90,7 +90,7 @@ module _ {text t n : List ℕ} {r : ReadAnswer} (v : Lexed 1 text r t n) (m₀ m
   unfolding check_of read_of pick
   goes_on = rw (eq-eqb _ _ (sym (ap (λ (a : ReadAnswer). a.number) v.answer) ∙ v.fine), tk-is)
 
-  accepts-by : (k : Counts) (u : Slices) (o : UnitOutcome) → U.Done k ≡ unit_read o → UnitHeld (tokens_of tk) nm u o
+  accepts-by : (k : Counts) (u : Slices) (o : UnitOutcome) → Ok k ≡ unit_read o → UnitHeld (tokens_of tk) nm u o
       → ChecksInto (checked_or text (read_from 1 text) (tokens_of tk) o) m₀ (accepted r.tokens r.names k) m t n u
   accepts-by k u (checked fs) h e =
       let counts-are : k ≡ counts_from none fs = cc in
@@ -98,12 +98,12 @@ module _ {text t n : List ℕ} {r : ReadAnswer} (v : Lexed 1 text r t n) (m₀ m
       counts-are (e ∙ ap (λ (x : List ℕ). unit_slices (tokens_of tk) x (checked fs)) nm-is)
   accepts-by k u (refused e') h e = absurd (let z : ◌≡◌ {A = ℕ} 0 1 = cc in omega arith)
 
-  pub ends-accepted : (k : Counts) (u : Slices) → U.Done k ≡ unit_read (unit_d (tokens_of tk))
+  pub ends-accepted : (k : Counts) (u : Slices) → Ok k ≡ unit_read (unit_d (tokens_of tk))
       → UnitHeld (tokens_of tk) nm u (unit_d (tokens_of tk))
       → ChecksInto (check_of text) m₀ (accepted r.tokens r.names k) m t n u
   ends-accepted k u h e = rw goes_on (accepts-by k u (unit_d (tokens_of tk)) h e)
 
-  refuses-by : (e : Refusal) (o : UnitOutcome) → U.Refused e ≡ unit_read o → IfRefused o
+  refuses-by : (e : Refusal) (o : UnitOutcome) → Err e ≡ unit_read o → IfRefused o
       → (checked_or text (read_from 1 text) (tokens_of tk) o ≡ refused_at text (read_from 1 text).names (tokens_of tk) e)
       × Listed e.number
   refuses-by e (checked fs) h g = absurd (let z : ◌≡◌ {A = ℕ} 0 1 = cc in omega arith)
@@ -111,7 +111,7 @@ module _ {text t n : List ℕ} {r : ReadAnswer} (v : Lexed 1 text r t n) (m₀ m
       let same : e ≡ e' = cc in
       rw same (refl, g)
 
-  pub ends-refused : (e : Refusal) (res : CheckAnswer) (u : Slices) → U.Refused e ≡ unit_read (unit_d (tokens_of tk))
+  pub ends-refused : (e : Refusal) (res : CheckAnswer) (u : Slices) → Err e ≡ unit_read (unit_d (tokens_of tk))
       → res ≡ (refused_at text (take (r.names * 2) n) (tokens_of (take (r.tokens * 4) t)) e).answer
       → m ≡ pad_to (length m₀) (refused_at text (take (r.names * 2) n) (tokens_of (take (r.tokens * 4) t)) e).message
       → ChecksInto (check_of text) m₀ res m t n u

@@ -1,4 +1,6 @@
 -- A header table that `check` wrote is inside the ranges of specs/Header.antt.
+use Rattle.std.specs.Prelude.{Err, Ok, Result}
+use Rattle.parser.specs.declared.Refusal.{Refusal}
 use Prim.Native.Nat.{ℕ, zero, suc, ◌+◌, ◌*◌, ◌-◌, ◌≤◌, ◌<◌}
 use mathlib.Core.Path.{◌≡◌, refl, sym, ap, subst, ◌∙◌}
 use mathlib.Core.Bool.{Bool, true, false}
@@ -31,14 +33,6 @@ use Rattle.parser.specs.Runs.{formals_d}
 use Rattle.parser.specs.declared.Ty.{Ty}
 use Rattle.parser.specs.declared.Ty.TheVariants as Y
 use Rattle.parser.specs.declared.Variable.{Variable}
-use Rattle.parser.specs.declared.Named.{Named}
-use Rattle.parser.specs.declared.Named.TheVariants as N
-use Rattle.parser.specs.declared.TypeRead.{TypeRead}
-use Rattle.parser.specs.declared.TypeRead.TheVariants as R
-use Rattle.parser.specs.declared.Defined.{Defined}
-use Rattle.parser.specs.declared.Defined.TheVariants as D
-use Rattle.parser.specs.declared.Consumed.{Consumed}
-use Rattle.parser.specs.declared.Consumed.TheVariants as C
 use Rattle.functions.specs.Known.{Known, signature, types_after}
 use Rattle.functions.specs.Functions.{Header, HeaderAt, header, no_header, then_header, then_formals, then_entered}
 use Rattle.functions.specs.Functions.{optional_formals}
@@ -56,12 +50,8 @@ use Rattle.functions.specs.declared.Counts.{Counts}
 use Rattle.functions.proofs.Types.{TypesFew, more-types, types_after_up, function-type-few}
 use Rattle.functions.proofs.Standing.{cell_there, rest_there, row-ret, row_type, row_count, row-formals, row_stands}
 use Rattle.functions.proofs.Standing.{rows_behind}
-use Rattle.functions.specs.declared.Entered.{Entered}
-use Rattle.functions.specs.declared.Entered.TheVariants as E
 use Rattle.lexer.specs.Read.{read_from, read_of}
 use Rattle.sema.specs.Program.{type_program_d as typed_d}
-use Rattle.sema.specs.declared.Checked.{Checked}
-use Rattle.sema.specs.declared.Checked.TheVariants as K
 use Rattle.unit.specs.Outcome.{UnitOutcome, checked, refused, after_typing, after_parsing, untyped, unit_d, none}
 use Rattle.checker.specs.Check.{checked_or, check_of}
 use Rattle.checker.specs.declared.CheckAnswer.{CheckAnswer}
@@ -74,17 +64,17 @@ use Rattle.headers.specs.Ranges.{Between, RowInRange, TableInRange}
 abbrev Good : Ty → Type 0
 Good t = (1 ≤ type_cell t) × (type_cell t ≤ 2)
 
-abbrev GoodRead : TypeRead → Type 0
-GoodRead (R.At t i) = Good t
-GoodRead (R.Refused e) = Unit
+abbrev GoodRead : Result (Ty × ℕ) Refusal → Type 0
+GoodRead (Ok (t, i)) = Good t
+GoodRead (Err e) = Unit
 
 type-good : (ts : List Tok) (at : ℕ) → GoodRead (type_d ts at)
 unfolding type_d look pick
 type-good ts at = by (eqb (token_at ts at).kind 32) (eqb (token_at ts at).kind 33)
   where
     by : (b d : Bool)
-        → GoodRead (pick b (R.At Y.Int (token_at ts at).next)
-        (pick d (R.At Y.Bool (token_at ts at).next) (R.Refused (refusal 9 at 0))))
+        → GoodRead (pick b (Ok (Y.Int, (token_at ts at).next))
+        (pick d (Ok (Y.Bool, (token_at ts at).next)) (Err (refusal 9 at 0))))
     by true d = (omega arith, omega arith)
     by false true = (omega arith, omega arith)
     by false false = tt
@@ -92,19 +82,19 @@ type-good ts at = by (eqb (token_at ts at).kind 32) (eqb (token_at ts at).kind 3
 abbrev GoodRet : Ty → Type 0
 GoodRet t = (1 ≤ type_cell t) × (type_cell t ≤ 3)
 
-abbrev GoodRetRead : TypeRead → Type 0
-GoodRetRead (R.At t i) = GoodRet t
-GoodRetRead (R.Refused e) = Unit
+abbrev GoodRetRead : Result (Ty × ℕ) Refusal → Type 0
+GoodRetRead (Ok (t, i)) = GoodRet t
+GoodRetRead (Err e) = Unit
 
-wider : (x : TypeRead) → GoodRead x → GoodRetRead x
-wider (R.At t i) h = (h.0, omega (arith, h.1))
-wider (R.Refused e) h = tt
+wider : (x : Result (Ty × ℕ) Refusal) → GoodRead x → GoodRetRead x
+wider (Ok (t, i)) h = (h.0, omega (arith, h.1))
+wider (Err e) h = tt
 
 ret-good : (ts : List Tok) (at : ℕ) → GoodRetRead (optional_type ts at)
 unfolding optional_type look pick
 ret-good ts at = by (eqb (token_at ts at).kind 29)
   where
-    by : (b : Bool) → GoodRetRead (pick b (type_d ts (token_at ts at).next) (R.At Y.Void at))
+    by : (b : Bool) → GoodRetRead (pick b (type_d ts (token_at ts at).next) (Ok (Y.Void, at)))
     by true = wider (type_d ts (token_at ts at).next) (type-good ts (token_at ts at).next)
     by false = (omega arith, omega arith)
 
@@ -114,39 +104,38 @@ abbrev GoodFormals : List Variable → Type 0
 GoodFormals [] = Unit
 GoodFormals (v ∷ vs) = Good v.ty × GoodFormals vs
 
-abbrev GoodDefined : Defined → Type 0
-GoodDefined (D.At v i) = Good v.ty
-GoodDefined (D.Refused e) = Unit
+abbrev GoodDefined : Result (Variable × ℕ) Refusal → Type 0
+GoodDefined (Ok (v, i)) = Good v.ty
+GoodDefined (Err e) = Unit
 
 formal_good : (ts : List Tok) (full : Bool) (at : ℕ) → GoodDefined (formal_d ts full at)
 unfolding formal_d then_named then_at then_type pick
 formal_good ts full at = named (local_d ts at) full
   where
-    typed : (x : Identifier) (t : TypeRead) → GoodRead t → GoodDefined
-        (then_type D.Refused t (λ y at3. D.At (variable x y) at3))
-    typed x (R.At y at3) h = h
-    typed x (R.Refused e) h = tt
+    typed : (x : Identifier) (t : Result (Ty × ℕ) Refusal) → GoodRead t → GoodDefined
+        (then_type Err t (λ y at3. Ok ((variable x y), at3)))
+    typed x (Ok (y, at3)) h = h
+    typed x (Err e) h = tt
 
-    colon : (x : Identifier) (k : Consumed)
-        → GoodDefined (then_at D.Refused k (λ at2. then_type D.Refused (type_d ts at2) (λ y at3. D.At (variable x y) at3)))
-    colon x (C.At at2) = typed x (type_d ts at2) (type-good ts at2)
-    colon x (C.Refused e) = tt
+    colon : (x : Identifier) (k : Result ℕ Refusal)
+        → GoodDefined (then_at Err k (λ at2. then_type Err (type_d ts at2) (λ y at3. Ok ((variable x y), at3))))
+    colon x (Ok at2) = typed x (type_d ts at2) (type-good ts at2)
+    colon x (Err e) = tt
 
-    named : (n : Named) (b : Bool)
-        → GoodDefined (then_named D.Refused n (λ x at1.
-        pick b (D.Refused (refusal 36 at 0))
-        (then_at D.Refused (consume_d ts at1 29) (λ at2. then_type D.Refused (type_d ts at2) (λ y at3. D.At (variable x y)
-        at3)))))
-    named (N.At x at1) true = tt
-    named (N.At x at1) false = colon x (consume_d ts at1 29)
-    named (N.Refused e) b = tt
+    named : (n : Result (Identifier × ℕ) Refusal) (b : Bool)
+        → GoodDefined (then_named Err n (λ x at1.
+        pick b (Err (refusal 36 at 0))
+        (then_at Err (consume_d ts at1 29) (λ at2. then_type Err (type_d ts at2) (λ y at3. Ok ((variable x y), at3))))))
+    named (Ok (x, at1)) true = tt
+    named (Ok (x, at1)) false = colon x (consume_d ts at1 29)
+    named (Err e) b = tt
 
 -- what follows a formal
-after_formal : (d : Defined) (k : Variable → ℕ → Variables) → GoodDefined d
+after_formal : (d : Result (Variable × ℕ) Refusal) (k : Variable → ℕ → Variables) → GoodDefined d
     → ((v : Variable) (i : ℕ) → Good v.ty → GoodFormals (k v i).list) → GoodFormals (then_defined stopped d k).list
 unfolding then_defined
-after_formal (D.At v i) k h g = g v i h
-after_formal (D.Refused e) k h g = tt
+after_formal (Ok (v, i)) k h g = g v i h
+after_formal (Err e) k h g = tt
 
 picked : (b : Bool) (x y : Variables) → GoodFormals x.list → GoodFormals y.list → GoodFormals (pick b x y).list
 unfolding pick
@@ -164,11 +153,11 @@ formals-good ts (suc room) at =
     ))
 
 -- at most sixteen
-after_few : (d : Defined) (k : Variable → ℕ → Variables) (most : ℕ)
+after_few : (d : Result (Variable × ℕ) Refusal) (k : Variable → ℕ → Variables) (most : ℕ)
     → ((v : Variable) (i : ℕ) → length (k v i).list ≤ most) → length (then_defined stopped d k).list ≤ most
 unfolding then_defined
-after_few (D.At v i) k most g = g v i
-after_few (D.Refused e) k most g = omega arith
+after_few (Ok (v, i)) k most g = g v i
+after_few (Err e) k most g = omega arith
 
 picked_few : (b : Bool) (x y : Variables) (most : ℕ) → length x.list ≤ most → length y.list ≤ most
     → length (pick b x y).list ≤ most
@@ -191,16 +180,16 @@ formals_few ts (suc room) at =
 optional_few : (ts : List Tok) (at : ℕ) → length (optional_formals ts at).list ≤ 16
 unfolding optional_formals formals_d look
 optional_few ts at =
-    picked_few (eqb (token_at ts at).kind 25) _ (ended (C.At at)) 16
+    picked_few (eqb (token_at ts at).kind 25) _ (ended (Ok at)) 16
     (picked_few (eqb (token_at ts (token_at ts at).next).kind 26)
-    (ended (C.At (token_at ts (token_at ts at).next).next))
+    (ended (Ok (token_at ts (token_at ts at).next).next))
     (formals_from_d ts 16 (token_at ts at).next) 16 (omega arith) (formals_few ts 16 (token_at ts at).next)) (omega arith)
 
 optional_good : (ts : List Tok) (at : ℕ) → GoodFormals (optional_formals ts at).list
 unfolding optional_formals formals_d look
 optional_good ts at =
-    picked (eqb (token_at ts at).kind 25) _ (ended (C.At at))
-    (picked (eqb (token_at ts (token_at ts at).next).kind 26) (ended (C.At (token_at ts (token_at ts at).next).next))
+    picked (eqb (token_at ts at).kind 25) _ (ended (Ok at))
+    (picked (eqb (token_at ts (token_at ts at).next).kind 26) (ended (Ok (token_at ts (token_at ts at).next).next))
     (formals_from_d ts 16 (token_at ts at).next) tt (formals-good ts 16 (token_at ts at).next)) tt
 
 -- Headers and functions. --------------------------------------------------------------------------------------------
@@ -209,9 +198,9 @@ optional_good ts at =
 abbrev IsGlobal : List Tok → ℕ → Identifier → Type 0
 IsGlobal ts at g = ((token_at ts at).kind ≡ 2) × (g.0 ≡ (token_at ts at).name.0)
 
-abbrev GoodNamed : List Tok → ℕ → Named → Type 0
-GoodNamed ts at (N.At g i) = IsGlobal ts at g
-GoodNamed ts at (N.Refused e) = Unit
+abbrev GoodNamed : List Tok → ℕ → Result (Identifier × ℕ) Refusal → Type 0
+GoodNamed ts at (Ok (g, i)) = IsGlobal ts at g
+GoodNamed ts at (Err e) = Unit
 
 global-good : (ts : List Tok) (at : ℕ) → GoodNamed ts at (global_d ts at)
 unfolding named_d pick
@@ -219,7 +208,7 @@ global-good ts at = by (eqb (token_at ts at).kind 2) refl
   where
     by : (b : Bool) → eqb (token_at ts at).kind 2 ≡ b
         → GoodNamed ts at
-        (pick b (N.At (token_at ts at).name (token_at ts at).next) (N.Refused (refusal 7 at 0)))
+        (pick b (Ok ((token_at ts at).name, (token_at ts at).next)) (Err (refusal 7 at 0)))
     by true e = (eqb-true _ _ e, refl)
     by false e = tt
 
@@ -239,37 +228,37 @@ header-good : (ts : List Tok) (full : Bool) (known : List Known) (types at : ℕ
 unfolding header_d signature_d then_named then_formals then_type then_at then_entered pick
 header-good ts full known types at = named (global_d ts at) full (global-good ts at)
   where
-    entered : (g : Identifier) (vs : List Variable) (ret : Ty) (x : Entered) → IsGlobal ts at g → GoodRet ret
+    entered : (g : Identifier) (vs : List Variable) (ret : Ty) (x : Result (ℕ × ℕ) Refusal) → IsGlobal ts at g → GoodRet ret
         → GoodFormals vs
         → length vs ≤ 16
         → GoodHeaderAt ts at
         (then_entered no_header x (λ type i. header (record { name = g; formals = vs; ret = ret; type = type }) i))
-    entered g vs ret (E.At type i) n h k l = record { global = n; ret = h; types = k; few = l }
-    entered g vs ret (E.Refused e) n h k l = tt
+    entered g vs ret (Ok (type, i)) n h k l = record { global = n; ret = h; types = k; few = l }
+    entered g vs ret (Err e) n h k l = tt
 
-    typed : (g : Identifier) (vs : List Variable) (x : TypeRead) → IsGlobal ts at g → GoodRetRead x → GoodFormals vs
+    typed : (g : Identifier) (vs : List Variable) (x : Result (Ty × ℕ) Refusal) → IsGlobal ts at g → GoodRetRead x → GoodFormals vs
         → length vs ≤ 16
         → GoodHeaderAt ts at (then_type no_header x (λ ret at2.
         then_entered no_header (entered_d ts known types at g (signature ret vs) at2) (λ type i.
         header (record { name = g; formals = vs; ret = ret; type = type }) i)))
-    typed g vs (R.At ret at2) n h k l = entered g vs ret (entered_d ts known types at g (signature ret vs) at2) n h k l
-    typed g vs (R.Refused e) n h k l = tt
+    typed g vs (Ok (ret, at2)) n h k l = entered g vs ret (entered_d ts known types at g (signature ret vs) at2) n h k l
+    typed g vs (Err e) n h k l = tt
 
-    formals : (g : Identifier) (vs : List Variable) (x : Consumed) → IsGlobal ts at g → GoodFormals vs → length vs ≤ 16
+    formals : (g : Identifier) (vs : List Variable) (x : Result ℕ Refusal) → IsGlobal ts at g → GoodFormals vs → length vs ≤ 16
         → GoodHeaderAt ts at (then_at no_header x (λ at2. then_type no_header (optional_type ts at2) (λ ret at3.
         then_entered no_header (entered_d ts known types at g (signature ret vs) at3) (λ type i.
         header (record { name = g; formals = vs; ret = ret; type = type }) i))))
-    formals g vs (C.At at2) n k l = typed g vs (optional_type ts at2) n (ret-good ts at2) k l
-    formals g vs (C.Refused e) n k l = tt
+    formals g vs (Ok at2) n k l = typed g vs (optional_type ts at2) n (ret-good ts at2) k l
+    formals g vs (Err e) n k l = tt
 
-    named : (x : Named) (b : Bool) → GoodNamed ts at x
+    named : (x : Result (Identifier × ℕ) Refusal) (b : Bool) → GoodNamed ts at x
         → GoodHeaderAt ts at
         (then_named no_header x (λ g at1. pick b (no_header (refusal 35 at 0)) (signature_d ts known types at g at1)))
-    named (N.At g at1) true n = tt
-    named (N.At g at1) false n =
+    named (Ok (g, at1)) true n = tt
+    named (Ok (g, at1)) false n =
         formals g (optional_formals ts at1).list (optional_formals ts at1).end n (optional_good ts at1)
         (optional_few ts at1)
-    named (N.Refused e) b n = tt
+    named (Err e) b n = tt
 
 -- 1 to 256 blocks
 abbrev GoodBlocks : List Item → Type 0
@@ -298,10 +287,10 @@ built-good ts void name at = ended_at_lem (function_body ts at).end
     resolved next fine = closed-blocks ts void at
     resolved next (unresolved e) = tt
 
-    ended_at_lem : (x : Consumed) → GoodBuilt (then_at not_built x (λ next. resolved_items is next
+    ended_at_lem : (x : Result ℕ Refusal) → GoodBuilt (then_at not_built x (λ next. resolved_items is next
         (resolve_d name (blocks_in is))))
-    ended_at_lem (C.At next) = resolved next (resolve_d name (blocks_in is))
-    ended_at_lem (C.Refused e) = tt
+    ended_at_lem (Ok next) = resolved next (resolve_d name (blocks_in is))
+    ended_at_lem (Err e) = tt
 
 abbrev GoodFunction : List Tok → Function → Type 0
 GoodFunction ts f = GoodHeader ts f.token f.head × GoodBlocks f.items
@@ -367,11 +356,11 @@ functions-good : (ts : List Tok) (room : ℕ) (known : List Known) (types at : �
     → GoodProgram ts room (functions_d ts room known types at)
 unfolding functions_d look
 functions-good ts zero known types at w l =
-    picked_program ts (eqb (token_at ts at).kind 38) (program_end (C.At at)) _ 0 (tt, omega arith)
+    picked_program ts (eqb (token_at ts at).kind 38) (program_end (Ok at)) _ 0 (tt, omega arith)
     (after_function ts (function_d ts true known types at) _ 0 (function-good ts true known types at)
     (λ f e h. (tt, omega arith)))
 functions-good ts (suc room) known types at w l =
-    picked_program ts (eqb (token_at ts at).kind 38) (program_end (C.At at)) _ (suc room) (tt, omega arith)
+    picked_program ts (eqb (token_at ts at).kind 38) (program_end (Ok at)) _ (suc room) (tt, omega arith)
     (after_function ts (function_d ts false known types at) _ (suc room) (function-good ts false known types at)
     (λ f e h.
     let few = function-type-few ts known types w false at e in
@@ -532,13 +521,13 @@ module _ (text : List ℕ) (ts : List Tok) (names rows rest : List ℕ)
 -- The whole. --------------------------------------------------------------------------------------------------------
 
 -- the functions of a text that is accepted are those that were parsed
-typed_are : (gs fs : List Function) (e : Checked) → after_typing gs e ≡ checked fs → fs ≡ gs
-typed_are gs fs K.Fine h = cc
-typed_are gs fs (K.Refused e) h = absurd (let z : ◌≡◌ {A = ℕ} 0 1 = cc in omega arith)
+typed_are : (gs fs : List Function) (e : Result Unit Refusal) → after_typing gs e ≡ checked fs → fs ≡ gs
+typed_are gs fs Ok tt h = cc
+typed_are gs fs (Err e) h = absurd (let z : ◌≡◌ {A = ℕ} 0 1 = cc in omega arith)
 
-ended_are : (ts : List Tok) (gs fs : List Function) (e : Consumed) → after_parsing ts gs e ≡ checked fs → fs ≡ gs
-ended_are ts gs fs (C.At next) h = typed_are gs fs (typed_d ts gs gs untyped).end h
-ended_are ts gs fs (C.Refused e) h = absurd (let z : ◌≡◌ {A = ℕ} 0 1 = cc in omega arith)
+ended_are : (ts : List Tok) (gs fs : List Function) (e : Result ℕ Refusal) → after_parsing ts gs e ≡ checked fs → fs ≡ gs
+ended_are ts gs fs (Ok next) h = typed_are gs fs (typed_d ts gs gs untyped).end h
+ended_are ts gs fs (Err e) h = absurd (let z : ◌≡◌ {A = ℕ} 0 1 = cc in omega arith)
 
 parsed_are : (ts : List Tok) (fs : List Function) → unit_d ts ≡ checked fs → fs ≡ (program_d ts).functions
 unfolding unit_d

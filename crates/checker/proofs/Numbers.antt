@@ -1,5 +1,6 @@
 -- Every number of `check` is one of document 01's: 0 for a text that is accepted, a listed one for any other, and 30
 -- where a lent slice is too short. By cases over lexing, then over what parsing and typing make of the tokens.
+use Rattle.std.specs.Prelude.{Result}
 use Prim.Native.Nat.{ℕ, ◌≤◌}
 use mathlib.Core.Path.{◌≡◌, refl}
 use mathlib.Core.Logic.{inl, inr}
@@ -16,7 +17,6 @@ use Rattle.lexer.specs.Decoded.{Tok, tokens_of}
 use Rattle.lexer.proofs.Sound.{never_cut}
 use Rattle.lexer.proofs.Numbers.{Refuses, below_gate, behind_gate, lexical_refuses, refusal_lexical, refusal-number}
 use Rattle.parser.specs.declared.Refusal.{Refusal}
-use Rattle.parser.specs.declared.Consumed.{Consumed}
 use Rattle.body.specs.Room.{Within}
 use Rattle.functions.specs.Functions.{Function}
 use Rattle.functions.specs.Answer.{Slices}
@@ -43,7 +43,7 @@ typing_listed : (fs : List Function) {x : Typed} → Is FineT x → IfRefused (a
 typing_listed fs (Is.so (FineT.fine t)) = tt
 typing_listed fs (Is.so (FineT.refused t e h)) = fine-listed h
 
-parsing_listed : (ts : List Tok) (fs : List Function) {c : Consumed} → FineEnd c → IfRefused (after_parsing ts fs c)
+parsing_listed : (ts : List Tok) (fs : List Function) {c : Result ℕ Refusal} → FineEnd c → IfRefused (after_parsing ts fs c)
 parsing_listed ts fs (FineEnd.found i) = typing_listed fs (typed-fine ts fs fs untyped)
 parsing_listed ts fs (FineEnd.refused e h) = fine-listed h
 parsing_listed ts fs (FineEnd.many e h) = inr (inr (omega (arith, h), omega (arith, h)))

@@ -1,6 +1,7 @@
 -- Every refusal of parsing has one of document 01's numbers for check. One lemma for each step helper, then for the
 -- definitions from below: their own refusals have such numbers, and those of their steps are handed on. A body's room
 -- is never used up, since each item goes on by two tokens and stays before the end token.
+use Rattle.std.specs.Prelude.{Err, Ok, Result}
 use Prim.Native.Nat.{ℕ, zero, suc, ◌+◌, ◌≤◌, ◌<◌}
 use mathlib.Core.Path.{◌≡◌, refl}
 use mathlib.Core.Bool.{Bool, true, false}
@@ -26,14 +27,6 @@ use Rattle.parser.specs.declared.Refusal.{Refusal}
 use Rattle.parser.specs.declared.Ty.{Ty}
 use Rattle.parser.specs.declared.Variable.{Variable}
 use Rattle.parser.specs.declared.Operation.{Operation}
-use Rattle.parser.specs.declared.Consumed.{Consumed}
-use Rattle.parser.specs.declared.Consumed.TheVariants as C
-use Rattle.parser.specs.declared.Named.{Named}
-use Rattle.parser.specs.declared.Named.TheVariants as N
-use Rattle.parser.specs.declared.TypeRead.{TypeRead}
-use Rattle.parser.specs.declared.TypeRead.TheVariants as R
-use Rattle.parser.specs.declared.Defined.{Defined}
-use Rattle.parser.specs.declared.Defined.TheVariants as D
 use Rattle.parser.specs.declared.Parsed.{Parsed}
 use Rattle.parser.specs.declared.Parsed.TheVariants as P
 use Rattle.body.proofs.Progress.{LabelIn, ItemIn, moves, label_in, item_in}
@@ -45,8 +38,6 @@ use Rattle.functions.specs.Functions.{not_built, then_built, resolved_items, bui
 use Rattle.functions.specs.Functions.{function, no_function, then_function, function_d, Program, program_stop, known_of}
 use Rattle.functions.specs.Functions.{functions_d}
 use Rattle.functions.proofs.HeaderOn.{HeaderIn, header_in}
-use Rattle.functions.specs.declared.Entered.{Entered}
-use Rattle.functions.specs.declared.Entered.TheVariants as E
 
 -- Refusals, and answers that may be one. ----------------------------------------------------------------------------
 
@@ -56,27 +47,27 @@ pub data Fine (e : Refusal) : Type 0 where
   high : leb 36 e.number ≡ true → leb e.number 38 ≡ true → Fine e
 
 -- for each type of answers: found, or a refusal that is fine
-pub data FineC : Consumed → Type 0 where
-  found : (i : ℕ) → FineC (C.At i)
-  refused : (e : Refusal) → Fine e → FineC (C.Refused e)
+pub data FineC : Result ℕ Refusal → Type 0 where
+  found : (i : ℕ) → FineC (Ok i)
+  refused : (e : Refusal) → Fine e → FineC (Err e)
 
-data FineN : Named → Type 0 where
-  found : (x : Identifier) (i : ℕ) → FineN (N.At x i)
-  refused : (e : Refusal) → Fine e → FineN (N.Refused e)
+data FineN : Result (Identifier × ℕ) Refusal → Type 0 where
+  found : (x : Identifier) (i : ℕ) → FineN (Ok (x, i))
+  refused : (e : Refusal) → Fine e → FineN (Err e)
 
-data FineR : TypeRead → Type 0 where
-  found : (t : Ty) (i : ℕ) → FineR (R.At t i)
-  refused : (e : Refusal) → Fine e → FineR (R.Refused e)
+data FineR : Result (Ty × ℕ) Refusal → Type 0 where
+  found : (t : Ty) (i : ℕ) → FineR (Ok (t, i))
+  refused : (e : Refusal) → Fine e → FineR (Err e)
 
-data FineD : Defined → Type 0 where
-  found : (v : Variable) (i : ℕ) → FineD (D.At v i)
-  refused : (e : Refusal) → Fine e → FineD (D.Refused e)
+data FineD : Result (Variable × ℕ) Refusal → Type 0 where
+  found : (v : Variable) (i : ℕ) → FineD (Ok (v, i))
+  refused : (e : Refusal) → Fine e → FineD (Err e)
 
-data FineP : Parsed → Type 0 where
-  done : (o : Operation) (i : ℕ) → FineP (P.Done o i)
-  call : (i : ℕ) → FineP (P.Call i)
-  call_into : (v : Variable) (i : ℕ) → FineP (P.CallInto v i)
-  refused : (e : Refusal) → Fine e → FineP (P.Refused e)
+data FineP : Result Parsed Refusal → Type 0 where
+  done : (o : Operation) (i : ℕ) → FineP (Ok (P.Done o i))
+  call : (i : ℕ) → FineP (Ok (P.Call i))
+  call_into : (v : Variable) (i : ℕ) → FineP (Ok (P.CallInto v i))
+  refused : (e : Refusal) → Fine e → FineP (Err e)
 
 data FineI : ItemAt → Type 0 where
   found : (x : Item) (i : ℕ) → FineI (ItemAt.item x i)
@@ -86,9 +77,9 @@ data FineS : Resolved → Type 0 where
   fine : FineS Resolved.fine
   refused : (e : Refusal) → Fine e → FineS (Resolved.refused e)
 
-data FineE : Entered → Type 0 where
-  found : (type i : ℕ) → FineE (E.At type i)
-  refused : (e : Refusal) → Fine e → FineE (E.Refused e)
+data FineE : Result (ℕ × ℕ) Refusal → Type 0 where
+  found : (type i : ℕ) → FineE (Ok (type, i))
+  refused : (e : Refusal) → Fine e → FineE (Err e)
 
 -- 35 comes only where there are 64 functions already
 data FineH (full : Bool) : HeaderAt → Type 0 where
@@ -97,10 +88,10 @@ data FineH (full : Bool) : HeaderAt → Type 0 where
   many : full ≡ true → (at : ℕ) → FineH full (no_header (refusal 35 at 0))
 
 -- all functions
-pub data FineEnd : Consumed → Type 0 where
-  found : (i : ℕ) → FineEnd (C.At i)
-  refused : (e : Refusal) → Fine e → FineEnd (C.Refused e)
-  many : (e : Refusal) → e.number ≡ 35 → FineEnd (C.Refused e)
+pub data FineEnd : Result ℕ Refusal → Type 0 where
+  found : (i : ℕ) → FineEnd (Ok i)
+  refused : (e : Refusal) → Fine e → FineEnd (Err e)
+  many : (e : Refusal) → e.number ≡ 35 → FineEnd (Err e)
 
 -- An answer of which T holds; a family of its own, so that a search can read T off.
 pub data Is {A : Type 0} (T : A → Type 0) (x : A) : Type 0 where
@@ -130,25 +121,25 @@ module _ {A : Type 0} (T : A → Type 0) where
   place_f nowhere k none g h = h
 
   module _ (f : Refusal → A) where
-    then_at_f : {c : Consumed} (k : ℕ → A) → Is FineC c → ((e : Refusal) → Fine e → Is T (f e)) → ((i : ℕ) → Is T (k i))
+    then_at_f : {c : Result ℕ Refusal} (k : ℕ → A) → Is FineC c → ((e : Refusal) → Fine e → Is T (f e)) → ((i : ℕ) → Is T (k i))
         → Is T (then_at f c k)
     unfolding then_at
     then_at_f k (Is.so (FineC.found i)) w g = g i
     then_at_f k (Is.so (FineC.refused e h)) w g = w e h
 
-    then_named_f : {c : Named} (k : Identifier → ℕ → A) → Is FineN c → ((e : Refusal) → Fine e → Is T (f e))
+    then_named_f : {c : Result (Identifier × ℕ) Refusal} (k : Identifier → ℕ → A) → Is FineN c → ((e : Refusal) → Fine e → Is T (f e))
         → ((x : Identifier) (i : ℕ) → Is T (k x i)) → Is T (then_named f c k)
     unfolding then_named
     then_named_f k (Is.so (FineN.found x i)) w g = g x i
     then_named_f k (Is.so (FineN.refused e h)) w g = w e h
 
-    then_type_f : {c : TypeRead} (k : Ty → ℕ → A) → Is FineR c → ((e : Refusal) → Fine e → Is T (f e))
+    then_type_f : {c : Result (Ty × ℕ) Refusal} (k : Ty → ℕ → A) → Is FineR c → ((e : Refusal) → Fine e → Is T (f e))
         → ((t : Ty) (i : ℕ) → Is T (k t i)) → Is T (then_type f c k)
     unfolding then_type
     then_type_f k (Is.so (FineR.found t i)) w g = g t i
     then_type_f k (Is.so (FineR.refused e h)) w g = w e h
 
-    then_defined_f : {c : Defined} (k : Variable → ℕ → A) → Is FineD c → ((e : Refusal) → Fine e → Is T (f e))
+    then_defined_f : {c : Result (Variable × ℕ) Refusal} (k : Variable → ℕ → A) → Is FineD c → ((e : Refusal) → Fine e → Is T (f e))
         → ((v : Variable) (i : ℕ) → Is T (k v i)) → Is T (then_defined f c k)
     unfolding then_defined
     then_defined_f k (Is.so (FineD.found v i)) w g = g v i
@@ -159,7 +150,7 @@ module _ {A : Type 0} (T : A → Type 0) where
     unfolding then_formals
     then_formals_f {r} k (Is.so h) w g = then_at_f (λ i. k r.list i) h w (λ i. g r.list i)
 
-    then_entered_f : {c : Entered} (k : ℕ → ℕ → A) → Is FineE c → ((e : Refusal) → Fine e → Is T (f e))
+    then_entered_f : {c : Result (ℕ × ℕ) Refusal} (k : ℕ → ℕ → A) → Is FineE c → ((e : Refusal) → Fine e → Is T (f e))
         → ((type i : ℕ) → Is T (k type i)) → Is T (then_entered f c k)
     unfolding then_entered
     then_entered_f k (Is.so (FineE.found type i)) w g = g type i
@@ -177,7 +168,7 @@ ruleset refusals = (FineC.refused, FineN.refused, FineR.refused, FineD.refused, 
 
 ruleset shapes = (numbers, followed, founds, parsed, refusals, FineH.refused, FineS.refused)
 
-ended_f : (c : Consumed) → Is FineC c → Is FineVs (ended c)
+ended_f : (c : Result ℕ Refusal) → Is FineC c → Is FineVs (ended c)
 ended_f c h = Is.so h
 
 and_then_f : (v : Variable) (r : Variables) → Is FineVs r → Is FineVs (and_then v r)
@@ -234,7 +225,7 @@ module _ (ts : List Tok) where
   unfolding called_item
   called_f make (Is.so h) = search shapes depth 14
 
-  parsed_f : {p : Parsed} → Is FineP p → Is FineI (parsed_item ts p)
+  parsed_f : {p : Result Parsed Refusal} → Is FineP p → Is FineI (parsed_item ts p)
   unfolding parsed_item
   parsed_f (Is.so (FineP.done o i)) = search shapes
   parsed_f (Is.so (FineP.call w)) = search (call_f, called_f)
@@ -271,9 +262,9 @@ resolve_f all name (b ∷ bs) = search (shapes, resolve_labels_f, resolve_f all 
 -- Bodies and functions: their refusals, and where they end. ---------------------------------------------------------
 
 module _ (ts : List Tok) (last : ℕ) (ends : (token_at ts last).kind ≡ 38) where
-  data EndOn : Consumed → Type 0 where
-    found : (i : ℕ) → i ≤ last → EndOn (C.At i)
-    refused : (e : Refusal) → Fine e → EndOn (C.Refused e)
+  data EndOn : Result ℕ Refusal → Type 0 where
+    found : (i : ℕ) → i ≤ last → EndOn (Ok i)
+    refused : (e : Refusal) → Fine e → EndOn (Err e)
 
   data BuiltOn : BuiltAt → Type 0 where
     found : (items : List Item) (i : ℕ) → i ≤ last → BuiltOn (built items i)
@@ -285,7 +276,7 @@ module _ (ts : List Tok) (last : ℕ) (ends : (token_at ts last).kind ≡ 38) wh
     many : full ≡ true → (e : Refusal) → e.number ≡ 35 → FunctionOn full (no_function e)
 
   -- what follows a label, an item
-  after_label_lem : (i n : ℕ) {x : Named} (k : Identifier → ℕ → Body) → Is FineN x → LabelIn i last n x
+  after_label_lem : (i n : ℕ) {x : Result (Identifier × ℕ) Refusal} (k : Identifier → ℕ → Body) → Is FineN x → LabelIn i last n x
       → ((l : Identifier) (next : ℕ) → i + 2 ≤ next → next ≤ last → EndOn (k l next).end)
       → EndOn (then_named body_stop x k).end
   unfolding then_named
@@ -321,7 +312,7 @@ module _ (ts : List Tok) (last : ℕ) (ends : (token_at ts last).kind ≡ 38) wh
   resolved_on items i h (Is.so FineS.fine) = BuiltOn.found items i h
   resolved_on items i h (Is.so (FineS.refused e f)) = BuiltOn.refused e f
 
-  after_body : {c : Consumed} (k : ℕ → BuiltAt) → EndOn c → ((i : ℕ) → i ≤ last → BuiltOn (k i))
+  after_body : {c : Result ℕ Refusal} (k : ℕ → BuiltAt) → EndOn c → ((i : ℕ) → i ≤ last → BuiltOn (k i))
       → BuiltOn (then_at not_built c k)
   unfolding then_at
   after_body k (EndOn.found i h) g = g i h

@@ -1,4 +1,5 @@
 -- Every refusal of typing has one of document 01's numbers for check, definition by definition.
+use Rattle.std.specs.Prelude.{Err, Ok}
 use Prim.Native.Nat.{ℕ}
 use mathlib.Core.List.{List, [], ◌∷◌}
 use Rattle.lexer.specs.Decoded.{Tok}
@@ -16,12 +17,11 @@ use Rattle.sema.specs.Typing.{global, present_d, same_all, type_arguments_d, the
 use Rattle.sema.specs.Typing.{type_plain_d, type_item_d}
 use Rattle.sema.specs.Blocks.{type_items_d, type_end_d, type_block_d, enter_formals_d, type_blocks_d, type_function_d}
 use Rattle.sema.specs.Program.{function_typed, type_program_d}
-use Rattle.sema.specs.declared.Checked.TheVariants as K
 use Rattle.checker.proofs.ParsedNumbers.{Fine, Is, pick_f}
 
 pub data FineT : Typed → Type 0 where
-  fine : (t : List ℕ) → FineT (typed t K.Fine)
-  refused : (t : List ℕ) (e : Refusal) → Fine e → FineT (typed t (K.Refused e))
+  fine : (t : List ℕ) → FineT (typed t Ok tt)
+  refused : (t : List ℕ) (e : Refusal) → Fine e → FineT (typed t (Err e))
 
 -- Steps. ------------------------------------------------------------------------------------------------------------
 

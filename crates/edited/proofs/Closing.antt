@@ -1,5 +1,7 @@
 -- A function that is read begins with a global and ends with a closing brace: what the definitions of crates/parser and
 -- crates/functions say of its first and its last token.
+use Rattle.std.specs.Prelude.{Err, Ok, Result}
+use Rattle.parser.specs.declared.Refusal.{Refusal}
 use Prim.Native.Nat.{ℕ, zero, suc, ◌+◌, ◌<◌}
 use mathlib.Core.Path.{◌≡◌, refl, subst}
 use mathlib.Core.List.{List, [], ◌∷◌, ◌++◌}
@@ -18,10 +20,6 @@ use Rattle.body.specs.Body.{Item, ItemAt, Body, body_stop, item_d, then_item, be
 use Rattle.body.specs.Body.{closed_items, after_brace, after_label}
 use Rattle.parser.specs.Labels.{labelled_d}
 use Rattle.link.specs.Edges.{Resolved, resolve_d}
-use Rattle.parser.specs.declared.Consumed.{Consumed}
-use Rattle.parser.specs.declared.Consumed.TheVariants as C
-use Rattle.parser.specs.declared.Named.{Named}
-use Rattle.parser.specs.declared.Named.TheVariants as N
 use Rattle.functions.specs.Known.{Known}
 use Rattle.functions.specs.Functions.{Header, HeaderAt, BuiltAt, Function, FunctionAt, then_header, then_built}
 use Rattle.functions.specs.Functions.{blocks_in, resolved_items, built_d, is_void, function_d, header_d}
@@ -54,15 +52,15 @@ closes-behind ts before at = by (eqb before after_label)
     by true e = let z : ◌≡◌ {A = ℕ} 0 1 = cc in absurd (omega arith)
     by false e = brace-behind ts at (eqb-true _ _ e)
 
-abbrev Ends : List Tok → Consumed → Type 0
-Ends ts (C.At next) = BehindBrace ts next
-Ends ts (C.Refused e) = Unit
+abbrev Ends : List Tok → Result ℕ Refusal → Type 0
+Ends ts (Ok next) = BehindBrace ts next
+Ends ts (Err e) = Unit
 
-label-ends : (ts : List Tok) (c : Named) (k : Identifier → ℕ → Body)
+label-ends : (ts : List Tok) (c : Result (Identifier × ℕ) Refusal) (k : Identifier → ℕ → Body)
     → ((l : Identifier) (next : ℕ) → Ends ts (k l next).end) → Ends ts (then_named body_stop c k).end
 unfolding then_named
-label-ends ts (N.At l next) k g = g l next
-label-ends ts (N.Refused e) k g = tt
+label-ends ts (Ok (l, next)) k g = g l next
+label-ends ts (Err e) k g = tt
 
 item-ends : (ts : List Tok) (c : ItemAt) (k : Item → ℕ → Body)
     → ((i : Item) (next : ℕ) → Ends ts (k i next).end) → Ends ts (then_item body_stop c k).end
@@ -94,11 +92,11 @@ resolved_ends : (ts : List Tok) (is : List Item) (next : ℕ) (r : Resolved) →
 resolved_ends ts is next Resolved.fine h = h
 resolved_ends ts is next (Resolved.refused e) h = tt
 
-ended-built : (ts : List Tok) (c : Consumed) (is : List Item) (name : ℕ) → Ends ts c
+ended-built : (ts : List Tok) (c : Result ℕ Refusal) (is : List Item) (name : ℕ) → Ends ts c
     → BuiltEnds ts (then_at BuiltAt.not_built c (λ next. resolved_items is next (resolve_d name (blocks_in is))))
 unfolding then_at
-ended-built ts (C.At next) is name h = resolved_ends ts is next (resolve_d name (blocks_in is)) h
-ended-built ts (C.Refused e) is name h = tt
+ended-built ts (Ok next) is name h = resolved_ends ts is next (resolve_d name (blocks_in is)) h
+ended-built ts (Err e) is name h = tt
 
 built-ends : (ts : List Tok) (void : Bool) (name at : ℕ) → BuiltEnds ts (built_d ts void name at)
 unfolding built_d

@@ -1,4 +1,5 @@
 -- A function's name as a token: it was read there, and the text has the name's bytes there.
+use Rattle.std.specs.Prelude.{Err, Ok}
 use Prim.Native.Nat.{ℕ, ◌+◌, ◌*◌, ◌-◌, ◌≤◌, ◌<◌}
 use mathlib.Core.Path.{◌≡◌, refl, sym, ap, ◌∙◌}
 use mathlib.Core.List.{List}
@@ -20,7 +21,6 @@ use Rattle.lexer.proofs.Cells.{tok_of, length-tokens_cells, cells-token_at, name
 use Rattle.lexer.proofs.Records.{tokens-count}
 use Rattle.parser.specs.Step.{refusal}
 use Rattle.parser.specs.Grammar.{named_d, global_d}
-use Rattle.parser.specs.declared.Named.TheVariants as N
 use Rattle.functions.specs.Functions.{Function}
 use Rattle.checker.proofs.Lexed.{unpadded}
 use Rattle.related.specs.Tables.{All}
@@ -30,13 +30,13 @@ use Rattle.related.proofs.Entry.{function_up_to}
 use Rattle.edited.specs.Rows.{NamedAt}
 
 -- a global that was read stands there
-global-read : (ts : List Tok) (i : ℕ) (g : Identifier) (next : ℕ) → global_d ts i ≡ N.At g next
+global-read : (ts : List Tok) (i : ℕ) (g : Identifier) (next : ℕ) → global_d ts i ≡ Ok (g, next)
     → ((token_at ts i).kind ≡ 2) × ((token_at ts i).name ≡ g)
 unfolding named_d pick
 global-read ts i g next = by (eqb (token_at ts i).kind 2) refl
   where
     by : (b : Bool) → eqb (token_at ts i).kind 2 ≡ b
-        → pick b (N.At (token_at ts i).name (token_at ts i).next) (N.Refused (refusal 7 i 0)) ≡ N.At g next
+        → pick b (Ok ((token_at ts i).name, (token_at ts i).next)) (Err (refusal 7 i 0)) ≡ Ok (g, next)
         → ((token_at ts i).kind ≡ 2) × ((token_at ts i).name ≡ g)
     by true e h = (eqb-true _ _ e, cc)
     by false e h = let z : ◌≡◌ {A = ℕ} 0 1 = cc in absurd (omega arith)

@@ -1,5 +1,6 @@
 -- A function that is read behind others is read with nothing known, too, and from its own tokens alone: the same
 -- function, but for the number of its function type.
+use Rattle.std.specs.Prelude.{Err, Ok}
 use Prim.Native.Nat.{ℕ, ◌+◌, ◌<◌}
 use mathlib.Core.Path.{◌≡◌, refl, sym, ap, subst, ◌∙◌}
 use mathlib.Core.Bool.{false}
@@ -13,8 +14,6 @@ use Rattle.parser.specs.Step.{look}
 use Rattle.parser.specs.Moved.{Move, Sim, Each, Rel}
 use Rattle.parser.specs.declared.Ty.{Ty}
 use Rattle.parser.specs.declared.Variable.{Variable}
-use Rattle.parser.specs.declared.Consumed.TheVariants as C
-use Rattle.parser.specs.declared.TypeRead.TheVariants as R
 use Rattle.functions.specs.Known.{Known}
 use Rattle.functions.specs.Functions.{Function, FunctionAt, function, no_function, then_function, optional_formals}
 use Rattle.functions.specs.Functions.{optional_type, function_d}
@@ -42,10 +41,10 @@ same_entry : {ts : List Tok} {at : ℕ} {g g' : Identifier} {vs vs' : List Varia
 same_entry {ts} {g = g} {g'} {ret = ret} {ret'} u w =
     let name : g ≡ g' = cc (u.named, w.named) in
     let at1 : u.at1 ≡ w.at1 = cc (u.named, w.named) in
-    let closed : C.At u.at2 ≡ C.At w.at2 =
+    let closed : Ok u.at2 ≡ Ok w.at2 =
     sym u.closed ∙ ap (λ (i : ℕ). (optional_formals ts i).end) at1 ∙ w.closed in
     let at2 : u.at2 ≡ w.at2 = cc in
-    let typed : R.At ret u.at3 ≡ R.At ret' w.at3 = sym u.typed ∙ ap (optional_type ts) at2 ∙ w.typed in
+    let typed : Ok (ret, u.at3) ≡ Ok (ret', w.at3) = sym u.typed ∙ ap (optional_type ts) at2 ∙ w.typed in
     record {
       name = name;
       formals = sym u.listed ∙ ap (λ (i : ℕ). (optional_formals ts i).list) at1 ∙ w.listed;

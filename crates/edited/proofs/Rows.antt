@@ -1,5 +1,6 @@
 -- The header table of an accepted text holds its functions, row by row: what recheck reads in a row is the function
 -- that was parsed, and what it finds by a name's spelling among the rows is found so among the functions.
+use Rattle.std.specs.Prelude.{None, Option, Some}
 use Prim.Native.Nat.{ℕ, suc, ◌+◌, ◌*◌, ◌-◌, ◌≤◌, ◌<◌}
 use mathlib.Core.Path.{◌≡◌, refl, sym, ap, subst, ◌∙◌}
 use mathlib.Core.List.{List, [], ◌∷◌, ◌++◌}
@@ -20,8 +21,6 @@ use Rattle.functions.proofs.Standing.{cell_there, row-token, row_name_lem, row-r
 use Rattle.functions.proofs.Standing.{row_stands, rows_behind}
 use Rattle.sema.specs.Typing.{Global}
 use Rattle.sema.specs.Globals.{row_global, global_of}
-use Rattle.functions.specs.declared.FoundRow.{FoundRow}
-use Rattle.functions.specs.declared.FoundRow.TheVariants as W
 use Rattle.elaborate.specs.Types.{type_cell_of}
 use Rattle.unit.specs.Outcome.{none}
 use Rattle.checker.specs.Check.{check_of}
@@ -56,14 +55,14 @@ module _ (text : List ℕ) (ts : List Tok) (names table : List ℕ) where
       let z : i + suc (length before) ≡ i + 1 + length before = omega arith in
       rw z (row-behind before f behind (i + 1) r.1)
 
-  global-pick : (t : Bool) (i : ℕ) (more : FoundRow) (g others : Global) → row_global table i ≡ g
-      → global_of table more ≡ others → global_of table (pick t (W.At i) more) ≡ pick t g others
+  global-pick : (t : Bool) (i : ℕ) (more : Option ℕ) (g others : Global) → row_global table i ≡ g
+      → global_of table more ≡ others → global_of table (pick t (Some i) more) ≡ pick t g others
   unfolding pick
   global-pick true i more g others e h = e
   global-pick false i more g others e h = h
 
-  callee-pick : (t : Bool) (i : ℕ) (more : FoundRow) (k others : ℕ) → get_or table (type_at i) 0 ≡ k
-      → type_cell_of table more ≡ others → type_cell_of table (pick t (W.At i) more) ≡ pick t (k + 4) others
+  callee-pick : (t : Bool) (i : ℕ) (more : Option ℕ) (k others : ℕ) → get_or table (type_at i) 0 ≡ k
+      → type_cell_of table more ≡ others → type_cell_of table (pick t (Some i) more) ≡ pick t (k + 4) others
   unfolding pick
   callee-pick true i more k others e h = ap (λ (x : ℕ). x + 4) e
   callee-pick false i more k others e h = h

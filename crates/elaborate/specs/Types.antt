@@ -2,6 +2,7 @@
 -- names, and a callee its function type. The operand kept in `ret`, `print`, `br` stays of placeholder type. The table
 -- is the one that the function's typing leaves; it may stand for the table at each visit, since it has the type that
 -- was found there for every name looked up (`Final`, crates/sema/specs/Visits.antt).
+use Rattle.std.specs.Prelude.{None, Option, Some}
 use Rattle.std.specs.Prelude.{ℕ, zero, suc, ◌+◌, ◌*◌, ◌≡◌, List, [], ◌∷◌, ◌++◌, Bool, true, eqb, length, get_or, set}
 use Rattle.std.proofs.lemmas.List.Edits.{sets}
 use Rattle.utils.specs.Bytes.{pick}
@@ -16,8 +17,6 @@ use Rattle.body.specs.declared.Last.TheVariants as L
 use Rattle.functions.specs.Functions.{Function}
 use Rattle.functions.specs.Columns.{type_at}
 use Rattle.functions.specs.Rows.{row_from}
-use Rattle.functions.specs.declared.FoundRow.{FoundRow}
-use Rattle.functions.specs.declared.FoundRow.TheVariants as W
 
 -- a name's type
 abbrev pub type_of : List ℕ → ℕ → ℕ
@@ -82,9 +81,9 @@ pub record Elaborated (table : List ℕ) (callees : ℕ → ℕ) (first count : 
 -- The same on any cells, whatever they hold. ------------------------------------------------------------------------
 
 -- a callee's type, by the rows of the header table: the cell of the type of the row that was found
-abbrev pub type_cell_of : List ℕ → FoundRow → ℕ
-type_cell_of rows (W.At i) = get_or rows (type_at i) 0 + Types.function
-type_cell_of rows W.Absent = 0
+abbrev pub type_cell_of : List ℕ → Option ℕ → ℕ
+type_cell_of rows (Some i) = get_or rows (type_at i) 0 + Types.function
+type_cell_of rows None = 0
 
 abbrev pub callee_of : List ℕ → ℕ → ℕ → ℕ
 callee_of rows n name = type_cell_of rows (row_from rows 0 n name)

@@ -1,4 +1,6 @@
 -- A header takes two tokens or more, its name and its brace, and stays before the end token.
+use Rattle.std.specs.Prelude.{Err, Ok, Result}
+use Rattle.parser.specs.declared.Refusal.{Refusal}
 use Prim.Native.Nat.{ℕ, zero, suc, ◌+◌, ◌≤◌}
 use mathlib.Core.Path.{◌≡◌, refl}
 use mathlib.Core.Bool.{Bool, true, false}
@@ -13,39 +15,31 @@ use Rattle.parser.specs.Grammar.{consume_d, type_d}
 use Rattle.parser.specs.Runs.{Variables, stopped, formal_d, formals_from_d, formals_d}
 use Rattle.parser.specs.declared.Ty.{Ty}
 use Rattle.parser.specs.declared.Variable.{Variable}
-use Rattle.parser.specs.declared.Consumed.{Consumed}
-use Rattle.parser.specs.declared.Consumed.TheVariants as C
-use Rattle.parser.specs.declared.Defined.{Defined}
-use Rattle.parser.specs.declared.Defined.TheVariants as D
-use Rattle.parser.specs.declared.TypeRead.{TypeRead}
-use Rattle.parser.specs.declared.TypeRead.TheVariants as R
 use Rattle.body.proofs.Progress.{DefinedIn, moved, consume_step, named_step, type_step}
 use Rattle.functions.specs.Known.{Known}
 use Rattle.functions.specs.Functions.{HeaderAt, header, no_header, then_formals, then_entered, optional_formals}
 use Rattle.functions.specs.Functions.{optional_type}
 use Rattle.functions.specs.Functions.{entered_d, signature_d, header_d}
-use Rattle.functions.specs.declared.Entered.{Entered}
-use Rattle.functions.specs.declared.Entered.TheVariants as E
 
 abbrev pub HeaderIn : ℕ → ℕ → HeaderAt → Type 0
 HeaderIn from last (header h next) = (from + 2 ≤ next) × (next ≤ last)
 HeaderIn from last (no_header e) = Unit
 
-abbrev EndIn : ℕ → ℕ → Consumed → Type 0
-EndIn from last (C.At next) = (from ≤ next) × (next ≤ last)
-EndIn from last (C.Refused e) = Unit
+abbrev EndIn : ℕ → ℕ → Result ℕ Refusal → Type 0
+EndIn from last (Ok next) = (from ≤ next) × (next ≤ last)
+EndIn from last (Err e) = Unit
 
-abbrev TypeIn : ℕ → ℕ → TypeRead → Type 0
-TypeIn from last (R.At t next) = (from ≤ next) × (next ≤ last)
-TypeIn from last (R.Refused e) = Unit
+abbrev TypeIn : ℕ → ℕ → Result (Ty × ℕ) Refusal → Type 0
+TypeIn from last (Ok (t, next)) = (from ≤ next) × (next ≤ last)
+TypeIn from last (Err e) = Unit
 
-abbrev EnteredIn : ℕ → ℕ → Entered → Type 0
-EnteredIn from last (E.At type next) = (from + 1 ≤ next) × (next ≤ last)
-EnteredIn from last (E.Refused e) = Unit
+abbrev EnteredIn : ℕ → ℕ → Result (ℕ × ℕ) Refusal → Type 0
+EnteredIn from last (Ok (type, next)) = (from + 1 ≤ next) × (next ≤ last)
+EnteredIn from last (Err e) = Unit
 
-wider : (from from' last : ℕ) (c : Consumed) → from' ≤ from → EndIn from last c → EndIn from' last c
-wider from from' last (C.At next) h g = (omega (arith, g.0), g.1)
-wider from from' last (C.Refused e) h g = tt
+wider : (from from' last : ℕ) (c : Result ℕ Refusal) → from' ≤ from → EndIn from last c → EndIn from' last c
+wider from from' last (Ok next) h g = (omega (arith, g.0), g.1)
+wider from from' last (Err e) h g = tt
 
 module _ (ts : List Tok) (last : ℕ) (ends : (token_at ts last).kind ≡ 38) where
   consumed_in : (at kind : ℕ) → at ≤ last → eqb kind 38 ≡ false → EndIn at last (consume_d ts at kind)
@@ -63,12 +57,12 @@ module _ (ts : List Tok) (last : ℕ) (ends : (token_at ts last).kind ≡ 38) wh
       type_step ts last ends (DefinedIn at last) _ _ (at + 1 + 1) f (λ e. tt) (λ y k. (omega arith, k)))))
 
   -- what follows a formal
-  after_formal : (at : ℕ) (d : Defined) (k : Variable → ℕ → Variables) → DefinedIn at last d
+  after_formal : (at : ℕ) (d : Result (Variable × ℕ) Refusal) (k : Variable → ℕ → Variables) → DefinedIn at last d
       → ((v : Variable) (next : ℕ) → at ≤ next → next ≤ last → EndIn at last (k v next).end)
       → EndIn at last (then_defined stopped d k).end
   unfolding then_defined
-  after_formal at (D.At v next) k h g = g v next (omega (arith, h.0)) h.1
-  after_formal at (D.Refused e) k h g = tt
+  after_formal at (Ok (v, next)) k h g = g v next (omega (arith, h.0)) h.1
+  after_formal at (Err e) k h g = tt
 
   formals_from_lem : (room at : ℕ) → at ≤ last → EndIn at last (formals_from_d ts room at).end
   unfolding formals_from_d look
@@ -104,9 +98,9 @@ module _ (ts : List Tok) (last : ℕ) (ends : (token_at ts last).kind ≡ 38) wh
       pick_either (TypeIn at last) (eqb (token_at ts at).kind 33) _ _
       (λ t. let m = moved ts last ends at 33 h refl t in rw m.0 (omega arith, m.1)) (λ t. tt))
 
-  type_wider : (from from' : ℕ) (c : TypeRead) → from' ≤ from → TypeIn from last c → TypeIn from' last c
-  type_wider from from' (R.At y next) h g = (omega (arith, g.0), g.1)
-  type_wider from from' (R.Refused e) h g = tt
+  type_wider : (from from' : ℕ) (c : Result (Ty × ℕ) Refusal) → from' ≤ from → TypeIn from last c → TypeIn from' last c
+  type_wider from from' (Ok (y, next)) h g = (omega (arith, g.0), g.1)
+  type_wider from from' (Err e) h g = tt
 
   optional_type_lem : (at : ℕ) → at ≤ last → TypeIn at last (optional_type ts at)
   unfolding optional_type look
@@ -132,23 +126,23 @@ module _ (ts : List Tok) (last : ℕ) (ends : (token_at ts last).kind ≡ 38) wh
   unfolding then_formals then_at
   after_formals from at r k h g = by r.end h
     where
-      by : (c : Consumed) → EndIn at last c → HeaderIn from last (then_at no_header c (λ i. k r.list i))
-      by (C.At next) f = g r.list next f.0 f.1
-      by (C.Refused e) f = tt
+      by : (c : Result ℕ Refusal) → EndIn at last c → HeaderIn from last (then_at no_header c (λ i. k r.list i))
+      by (Ok next) f = g r.list next f.0 f.1
+      by (Err e) f = tt
 
-  after_type : (from at : ℕ) (c : TypeRead) (k : Ty → ℕ → HeaderAt) → TypeIn at last c
+  after_type : (from at : ℕ) (c : Result (Ty × ℕ) Refusal) (k : Ty → ℕ → HeaderAt) → TypeIn at last c
       → ((y : Ty) (next : ℕ) → at ≤ next → next ≤ last → HeaderIn from last (k y next))
       → HeaderIn from last (then_type no_header c k)
   unfolding then_type
-  after_type from at (R.At y next) k h g = g y next h.0 h.1
-  after_type from at (R.Refused e) k h g = tt
+  after_type from at (Ok (y, next)) k h g = g y next h.0 h.1
+  after_type from at (Err e) k h g = tt
 
-  after_entry : (from at : ℕ) (c : Entered) (k : ℕ → ℕ → HeaderAt) → EnteredIn at last c
+  after_entry : (from at : ℕ) (c : Result (ℕ × ℕ) Refusal) (k : ℕ → ℕ → HeaderAt) → EnteredIn at last c
       → ((type next : ℕ) → at + 1 ≤ next → next ≤ last → HeaderIn from last (k type next))
       → HeaderIn from last (then_entered no_header c k)
   unfolding then_entered
-  after_entry from at (E.At type next) k h g = g type next h.0 h.1
-  after_entry from at (E.Refused e) k h g = tt
+  after_entry from at (Ok (type, next)) k h g = g type next h.0 h.1
+  after_entry from at (Err e) k h g = tt
 
   pub header_in : (full : Bool) (known : List Known) (types at : ℕ) → at ≤ last
       → HeaderIn at last (header_d ts full known types at)

@@ -1,4 +1,6 @@
 -- A header has at most 16 formals, and is entered by the rows as by the headers so far.
+use Rattle.std.specs.Prelude.{Err, Ok, Result}
+use Rattle.parser.specs.declared.Refusal.{Refusal}
 use Prim.Native.Nat.{ℕ, zero, suc, ◌+◌, ◌*◌, ◌≤◌, ◌<◌}
 use mathlib.Core.Path.{◌≡◌}
 use mathlib.Core.List.{List, ◌∷◌}
@@ -14,10 +16,7 @@ use Rattle.parser.specs.Grammar.{consume_d}
 use Rattle.pieces.specs.declared.Identifier.{Identifier}
 use Rattle.parser.specs.Runs.{Variables, ended, stopped, formal_d, formals_from_d, formals_d, variables_cells, type_cell}
 use Rattle.parser.specs.declared.Ty.{Ty}
-use Rattle.parser.specs.declared.Consumed.TheVariants as C
 use Rattle.parser.specs.declared.Variable.{Variable}
-use Rattle.parser.specs.declared.Defined.{Defined}
-use Rattle.parser.specs.declared.Defined.TheVariants as D
 use Rattle.functions.specs.Functions.{optional_formals, entered_d}
 use Rattle.functions.specs.Known.{signature}
 use Rattle.functions.specs.Columns.{formals_at}
@@ -33,11 +32,11 @@ unfolding pick
 pick-few true x y n h g = h
 pick-few false x y n h g = g
 
-then_few : (d : Defined) (k : Variable → ℕ → Variables) (n : ℕ) → ((v : Variable) (at : ℕ) → length (k v at).list ≤ n)
+then_few : (d : Result (Variable × ℕ) Refusal) (k : Variable → ℕ → Variables) (n : ℕ) → ((v : Variable) (at : ℕ) → length (k v at).list ≤ n)
     → length (then_defined stopped d k).list ≤ n
 unfolding then_defined
-then_few (D.At v i) k n h = h v i
-then_few (D.Refused e) k n h = omega arith
+then_few (Ok (v, i)) k n h = h v i
+then_few (Err e) k n h = omega arith
 
 from-few : (ts : List Tok) (room at : ℕ) → length (formals_from_d ts room at).list ≤ room
 unfolding formals_from_d look
@@ -51,8 +50,8 @@ pub formals_few : (ts : List Tok) (at : ℕ) → length (optional_formals ts at)
 unfolding optional_formals formals_d look
 formals_few ts at =
     let next = (token_at ts at).next in
-    pick-few (eqb (token_at ts at).kind 25) _ (ended (C.At at)) 16
-    (pick-few (eqb (token_at ts next).kind 26) (ended (C.At (token_at ts next).next)) (formals_from_d ts 16 next) 16
+    pick-few (eqb (token_at ts at).kind 25) _ (ended (Ok at)) 16
+    (pick-few (eqb (token_at ts next).kind 26) (ended (Ok (token_at ts next).next)) (formals_from_d ts 16 next) 16
     (omega arith)
     (from-few ts 16 next))
     (omega arith)

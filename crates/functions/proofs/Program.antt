@@ -1,4 +1,5 @@
 -- The loop over the functions of a text: what is left to read, read from here, gives the whole.
+use Rattle.std.specs.Prelude.{Err, Ok}
 use Prim.Native.Nat.{ℕ, zero, suc, ◌+◌, ◌-◌, ◌≤◌, ◌<◌}
 use mathlib.Core.Path.{◌≡◌, refl, sym, ap, ◌∙◌}
 use mathlib.Core.List.{List, [], ◌∷◌, ◌++◌}
@@ -15,7 +16,6 @@ use Rattle.lexer.specs.Decoded.{Tok, token_at}
 use Rattle.lexer.specs.declared.TokenAt.{TokenAt}
 use Rattle.parser.specs.Step.{opened}
 use Rattle.parser.specs.declared.Refusal.{Refusal}
-use Rattle.parser.specs.declared.Consumed.TheVariants as C
 use Rattle.functions.specs.Known.{Known, types_after}
 use Rattle.functions.specs.Functions.{Function, Program, program_end, program_stop, program_then, known_of, program_d}
 use Rattle.functions.specs.Functions.{FunctionAt, function, no_function, then_function, function_d, functions_d}
@@ -23,16 +23,14 @@ use Rattle.functions.specs.Rows.{known_from}
 use Rattle.functions.specs.Answer.{counts, counts_with, counts_from, Room, Slices}
 use Rattle.functions.specs.Answer.{stored_from}
 use Rattle.functions.specs.Answer.{Taken, function_read, FunctionHeld, with_count, Held, program_read}
-use Rattle.functions.specs.declared.FunctionRead.TheVariants as F
 use Rattle.functions.specs.Laid.{Fits, FitsFrom, AllFit}
 use Rattle.functions.specs.declared.Counts.{Counts}
-use Rattle.functions.specs.declared.ProgramRead.TheVariants as U
 use Rattle.functions.proofs.Types.{TypesFew, more-types, types_after_up, function-type-few}
 
 module _ (ts : List Tok) where
   -- One turn, by what the calls gave; k functions are read.
   functions-end : (room : ℕ) (known : List Known) (types at : ℕ) {t : TokenAt} → t ≡ token_at ts at → t.kind ≡ 38
-      → functions_d ts room known types at ≡ program_end (C.At at)
+      → functions_d ts room known types at ≡ program_end (Ok at)
   unfolding functions_d opened
   functions-end zero known types at q h = rw (← q, eq-eqb _ _ h)
   functions-end (suc room) known types at q h = rw (← q, eq-eqb _ _ h)
@@ -125,29 +123,29 @@ module _ (ts : List Tok) (names : List ℕ) (s₀ : Slices) where
 
     -- the end token
     pub at_end : {t : TokenAt} → t ≡ token_at ts at → t.kind ≡ 38
-        → (U.Done n ≡ program_read (program_d ts))
+        → (Ok n ≡ program_read (program_d ts))
         × (Held ts names (program_d ts).functions s₀ (with_count n.functions s) (program_d ts).end × AllFit
         (program_d ts))
     unfolding program_read counts_from stored_from FitsFrom opened
     at_end q h =
         let e = functions-end ts (64 - n.functions) (known_from s.functions 0 n.functions) types at q h in
-        let f : (program_d ts).end ≡ C.At at = sym g.ends ∙ ap (λ (p : Program). p.end) e in
+        let f : (program_d ts).end ≡ Ok at = sym g.ends ∙ ap (λ (p : Program). p.end) e in
         let k : n.functions ≡ length (program_d ts).functions = omega (arith, rw e at g.number) in
         rw f (
-          ap U.Done (rw e at g.counted),
+          ap Ok (rw e at g.counted),
           (rw k (ap (with_count (length (program_d ts).functions)) (rw e at g.stored)), g.fits (rw e tt)),
         )
 
     pub at-refused : {t : TokenAt} {e : Refusal} → t ≡ token_at ts at → (t.kind ≡ 38 → ⊥)
         → function_d ts (leb 64 n.functions) (known_from s.functions 0 n.functions) types at ≡ no_function e
         → (s' : Slices)
-        → (U.Refused e ≡ program_read (program_d ts)) × (Held ts names (program_d ts).functions s₀ s' (program_d ts).end
+        → (Err e ≡ program_read (program_d ts)) × (Held ts names (program_d ts).functions s₀ s' (program_d ts).end
         × AllFit (program_d ts))
     unfolding program_read FitsFrom opened
     at-refused {e = r} q h a s' =
         let e = functions-refused ts n.functions (known_from s.functions 0 n.functions) types at g.few q h
         a in
-        let f : (program_d ts).end ≡ C.Refused r = sym g.ends ∙ ap (λ (p : Program). p.end) e in
+        let f : (program_d ts).end ≡ Err r = sym g.ends ∙ ap (λ (p : Program). p.end) e in
         rw f (refl, (tt, g.fits (rw e tt)))
 
     pub onward : {t : TokenAt} {f : Function} → t ≡ token_at ts at → (t.kind ≡ 38 → ⊥)
@@ -190,8 +188,8 @@ module _ (ts : List Tok) (names : List ℕ) (s₀ : Slices) where
     -- the same by what `parse_function` answers
     pub refused-read : {t : TokenAt} {e : Refusal} → t ≡ token_at ts at → (t.kind ≡ 38 → ⊥) → (x : FunctionAt)
         → function_d ts (leb 64 n.functions) (known_from s.functions 0 n.functions) types at ≡ x
-        → F.Refused e ≡ function_read types n x → (s' : Slices)
-        → (U.Refused e ≡ program_read (program_d ts)) × (Held ts names (program_d ts).functions s₀ s' (program_d ts).end
+        → Err e ≡ function_read types n x → (s' : Slices)
+        → (Err e ≡ program_read (program_d ts)) × (Held ts names (program_d ts).functions s₀ s' (program_d ts).end
         × AllFit (program_d ts))
     refused-read {e = e} q h (no_function r) a g s' = at-refused q h (a ∙ cc) s'
     refused-read q h (function f) a g s' = absurd (let z : ◌≡◌ {A = ℕ} 0 1 = cc in omega arith)
@@ -199,7 +197,7 @@ module _ (ts : List Tok) (names : List ℕ) (s₀ : Slices) where
     pub read-on : {t : TokenAt} → t ≡ token_at ts at → (t.kind ≡ 38 → ⊥) → (x : FunctionAt)
         → function_d ts (leb 64 n.functions) (known_from s.functions 0 n.functions) types at ≡ x
         → (s' : Slices) → FunctionHeld ts names n s s' x → (next types' : ℕ) (m : Counts)
-        → F.Done next types' m ≡ function_read types n x
+        → Ok (record { next = next; types = types'; counts = m }) ≡ function_read types n x
         → Going next types' m s' × (n.functions < 64) × (m.functions ≡ n.functions + 1)
     read-on q h (function f) a s' w next types' m e =
         let p : next ≡ f.next = cc in

@@ -1,6 +1,7 @@
 -- The simulation of demand 3 for one function: on related tokens its header, its body and its blocks are read alike,
 -- moved and renamed, or refused alike. Names of functions are compared by equality alone, which the renaming keeps. At
 -- the end, the same for all functions of a text, where both readings end behind the related tokens.
+use Rattle.std.specs.Prelude.{Err, Ok, Result}
 use Prim.Native.Nat.{ℕ, zero, suc, ◌+◌, ◌≤◌, ◌<◌}
 use mathlib.Core.Path.{◌≡◌, refl, sym, subst}
 use mathlib.Core.List.{List, [], ◌∷◌, ◌++◌}
@@ -21,15 +22,11 @@ use Rattle.link.specs.Moved.{SimResolved}
 use Rattle.parser.specs.declared.Refusal.{Refusal}
 use Rattle.parser.specs.declared.Ty.{Ty}
 use Rattle.parser.specs.declared.Variable.{Variable}
-use Rattle.parser.specs.declared.Consumed.{Consumed}
-use Rattle.parser.specs.declared.Consumed.TheVariants as C
 use Rattle.parser.proofs.Sim.{pick_s, then_at_s, then_named_s, then_type_s, ended_s, eqb_s, look_s, kind_s, consume_s, global_s}
 use Rattle.parser.proofs.Sim.{type_s, formals_s}
 use Rattle.body.proofs.SimBody.{number_of, body_s}
 use Rattle.body.proofs.SimItems.{count_s, closed_items_s}
 use Rattle.link.proofs.SimBlocks.{body_blocks_s, resolve_s}
-use Rattle.functions.specs.declared.Entered.{Entered}
-use Rattle.functions.specs.declared.Entered.TheVariants as E
 use Rattle.functions.specs.Known.{Known, formal_types, signature, type_number, types_after, expected_type}
 use Rattle.functions.specs.Functions.{Header, HeaderAt, BuiltAt, FunctionAt, then_header, then_formals, then_entered}
 use Rattle.functions.specs.Functions.{then_built, optional_formals, optional_type, entered_d, signature_d, header_d}
@@ -90,7 +87,7 @@ module _ {A : Type 0} (T : Move → ℕ → A → A → Type 0) (m : Move) (n : 
       (λ i h. g c.list c'.list q.list i h)
 
   -- what follows a name that was entered
-  pub then_entered_s : {c c' : Entered} (k k' : ℕ → ℕ → A) → Rel m n SimEntered c c'
+  pub then_entered_s : {c c' : Result (ℕ × ℕ) Refusal} (k k' : ℕ → ℕ → A) → Rel m n SimEntered c c'
       → ((e e' : Refusal) → SimE m n e e' → Rel m n T (f e) (f' e'))
       → ((type i : ℕ) → i < n → Rel m n T (k type (m.by + i)) (k' type i))
       → Rel m n T (then_entered f c k) (then_entered f' c' k')
@@ -119,7 +116,7 @@ module _ {A : Type 0} (T : Move → ℕ → A → A → Type 0) (m : Move) (n : 
 
 module _ {m : Move} {n : ℕ} where
   -- related refusals, in the answer of each definition
-  unentered : (e e' : Refusal) → SimE m n e e' → Rel m n SimEntered (E.Refused e) (E.Refused e')
+  unentered : (e e' : Refusal) → SimE m n e e' → Rel m n SimEntered (Err e) (Err e')
   unentered e e' r = Rel.is (SimEntered.refused e e' r)
 
   unheaded : (e e' : Refusal) → SimE m n e e' → Rel m n SimHeaderAt (HeaderAt.no_header e) (HeaderAt.no_header e')
@@ -139,7 +136,7 @@ module _ {m : Move} {n : ℕ} where
   resolved_s i q h o (SimResolved.refused e e' r) = unbuilt e e' r
 
   -- what a body gives with its blocks, from where its closing brace was asked for
-  end_s : {c c' : Consumed} (is is' : List Item) (name : ℕ) → SimBrace m n c c' → Each (SimItem m n) is is'
+  end_s : {c c' : Result ℕ Refusal} (is is' : List Item) (name : ℕ) → SimBrace m n c c' → Each (SimItem m n) is is'
       → SimResolved m n (resolve_d (m.by + name) (blocks_in is)) (resolve_d name (blocks_in is'))
       → Rel m n SimBuilt
       (then_at BuiltAt.not_built c (λ next. resolved_items is next (resolve_d (m.by + name) (blocks_in is))))
@@ -188,7 +185,7 @@ module _ {m : Move} {n : ℕ} {ts ts' : List Tok} (s : Sim m n ts ts') where
         let type = type_number known' signed types in
         rw (type_number_s signed types r, expected_type_s type r (number_of q))
         (pick_s SimEntered m n (eqb (expected_type known' x'.0 type) type) _ _ _ _
-        (λ _. then_at_s SimEntered m n E.Refused E.Refused _ _ (consume_s s i 27 h refl) unentered
+        (λ _. then_at_s SimEntered m n Err Err _ _ (consume_s s i 27 h refl) unentered
         (λ next g. Rel.is (SimEntered.at type next g)))
         (unentered _ _ (SimE.named 15 token 4 4 q l)))
 
@@ -250,7 +247,7 @@ module _ {m : Move} {n : ℕ} where
   unended : (e e' : Refusal) → SimE m n e e' → Rel m n SimProgram (program_stop e) (program_stop e')
   unended e e' r = Rel.is (record { functions = Each.none; end = SimClose.refused e e' r })
 
-  ended_at : (i : ℕ) → i ≤ n → Rel m n SimProgram (program_end (C.At (m.by + i))) (program_end (C.At i))
+  ended_at : (i : ℕ) → i ≤ n → Rel m n SimProgram (program_end (Ok (m.by + i))) (program_end (Ok i))
   ended_at i h = Rel.is (record { functions = Each.none; end = SimClose.at i h })
 
   program_then_s : {f f' : Function} {u u' : Program} → SimFunction m n f f' → Rel m n SimProgram u u'
@@ -267,7 +264,7 @@ module _ {m : Move} {n : ℕ} where
 
 -- the end token here, or what follows
 abbrev end_or : List Tok → ℕ → Program → Program
-end_or ts at u = look (token_at ts at) (λ kind next. pick (eqb kind 38) (program_end (C.At at)) u)
+end_or ts at u = look (token_at ts at) (λ kind next. pick (eqb kind 38) (program_end (Ok at)) u)
 
 module _ {m : Move} {n : ℕ} {ts ts' : List Tok} (s : Sim m n ts ts')
     (over : (token_at ts (m.by + n)).kind ≡ 38) (over' : (token_at ts' n).kind ≡ 38) where
@@ -275,8 +272,8 @@ module _ {m : Move} {n : ℕ} {ts ts' : List Tok} (s : Sim m n ts ts')
   among_s : (i : ℕ) {u u' : Program} → i < n → Rel m n SimProgram u u'
       → Rel m n SimProgram (end_or ts (m.by + i) u) (end_or ts' i u')
   among_s i {u} {u'} h q =
-      look_s s SimProgram i (λ kind next. pick (eqb kind 38) (program_end (C.At (m.by + i))) u)
-      (λ kind next. pick (eqb kind 38) (program_end (C.At i)) u') h
+      look_s s SimProgram i (λ kind next. pick (eqb kind 38) (program_end (Ok (m.by + i))) u)
+      (λ kind next. pick (eqb kind 38) (program_end (Ok i)) u') h
       (λ kind next near inner. pick_s SimProgram m n (eqb kind 38) _ _ _ _ (λ _. ended_at i (omega arith)) q)
 
   -- behind them both readings end

@@ -1,4 +1,5 @@
 -- From a header and a body to the function: what was read is what the definition gives, and it stands in the slices.
+use Rattle.std.specs.Prelude.{Err, Ok}
 use Prim.Native.Nat.{ℕ, ◌+◌, ◌*◌, ◌-◌, ◌≤◌, ◌<◌}
 use mathlib.Core.Path.{◌≡◌, refl, sym, ap, subst, ◌∙◌}
 use mathlib.Core.List.{List, [], ◌∷◌}
@@ -27,9 +28,6 @@ use Rattle.functions.specs.Answer.{function_read, Taken, FunctionHeld}
 use Rattle.functions.specs.declared.Counts.{Counts}
 use Rattle.functions.specs.declared.Head.{Head}
 use Rattle.functions.specs.declared.Body.{Body}
-use Rattle.functions.specs.declared.HeaderRead.TheVariants as H
-use Rattle.functions.specs.declared.Building.TheVariants as G
-use Rattle.functions.specs.declared.FunctionRead.TheVariants as F
 use Rattle.functions.proofs.Stores.{row-stored}
 use Rattle.functions.proofs.Seen.{seen, length_variables}
 use Rattle.functions.proofs.HeaderOn.{HeaderIn, header_in}
@@ -43,12 +41,12 @@ pub record Headed (x : HeaderAt) (h : Head) : Type 0 where
   pub ret_is : h.ret ≡ type_cell head.ret
   pub type_is : h.ty ≡ head.type
 
-pub headed : (x : HeaderAt) (h : Head) → H.At h ≡ header_read x → Headed x h
+pub headed : (x : HeaderAt) (h : Head) → Ok h ≡ header_read x → Headed x h
 headed (header hd next) h e =
     record { head = hd; is = ap (header hd) cc; name_is = cc; formals_is = cc; ret_is = cc; type_is = cc }
 headed (no_header r) h e = absurd (let z : ◌≡◌ {A = ℕ} 0 1 = cc in omega arith)
 
-pub unheaded : (x : HeaderAt) (e : Refusal) → H.Refused e ≡ header_read x → x ≡ no_header e
+pub unheaded : (x : HeaderAt) (e : Refusal) → Err e ≡ header_read x → x ≡ no_header e
 unheaded (header hd next) e h = absurd (let z : ◌≡◌ {A = ℕ} 0 1 = cc in omega arith)
 unheaded (no_header r) e h = cc
 
@@ -61,12 +59,12 @@ pub record Bodied (x : BuiltAt) (b : Body) : Type 0 where
   pub blocks_is : b.blocks ≡ length (blocks_in items)
   pub predecessors_is : b.predecessors ≡ length (predecessors_in items)
 
-pub bodied : (x : BuiltAt) (b : Body) → G.Done b ≡ build_read x → Bodied x b
+pub bodied : (x : BuiltAt) (b : Body) → Ok b ≡ build_read x → Bodied x b
 bodied (built is next) b e =
     record { items = is; is = ap (built is) cc; items_is = cc; arguments_is = cc; blocks_is = cc; predecessors_is = cc }
 bodied (not_built r) b e = absurd (let z : ◌≡◌ {A = ℕ} 0 1 = cc in omega arith)
 
-pub unbodied : (x : BuiltAt) (e : Refusal) → G.Refused e ≡ build_read x → x ≡ not_built e
+pub unbodied : (x : BuiltAt) (e : Refusal) → Err e ≡ build_read x → x ≡ not_built e
 unbodied (built is next) e h = absurd (let z : ◌≡◌ {A = ℕ} 0 1 = cc in omega arith)
 unbodied (not_built r) e h = cc
 
@@ -92,7 +90,7 @@ done-same : (types : ℕ) (n m : Counts) (f : Function) (types' type items argum
       blocks = n.blocks + blocks;
       predecessors = n.predecessors + preds;
     }
-    → F.Done f.next types' m ≡ function_read types n (function f)
+    → Ok (record { next = f.next; types = types'; counts = m }) ≡ function_read types n (function f)
 done-same types n m f types' type items arguments blocks preds a b c d e g h = rw (a, h, b, c, d, e, g)
 
 slices-same : {f f' i i' a a' b b' p p' : List ℕ} → f ≡ f' → i ≡ i' → a ≡ a' → b ≡ b' → p ≡ p'
@@ -106,11 +104,11 @@ module _ (ts : List Tok) (names : List ℕ) (at types : ℕ) (n : Counts) (rows�
   abbrev whole : FunctionAt
   whole = function_d ts (leb 64 n.functions) (known_from rows₀ 0 n.functions) types at
 
-  pub header_refused : (e : Refusal) → H.Refused e ≡ header_read read → whole ≡ no_function e
+  pub header_refused : (e : Refusal) → Err e ≡ header_read read → whole ≡ no_function e
   unfolding function_d then_header
   header_refused e h = rw (unheaded read e h)
 
-  module _ (h : Head) (headed-by : H.At h ≡ header_read read) (room : Room ts at n) where
+  module _ (h : Head) (headed-by : Ok h ≡ header_read read) (room : Room ts at n) where
     hd : Headed read h
     hd = headed read h headed-by
 
@@ -141,12 +139,12 @@ module _ (ts : List Tok) (names : List ℕ) (at types : ℕ) (n : Counts) (rows�
     pub inner-behind : n.blocks * 4 + 2 ≤ h.next
     inner-behind = omega (arith, room.blocks_few, on.0)
 
-    pub body_refused : (e : Refusal) → G.Refused e ≡ build_read inner → whole ≡ no_function e
+    pub body_refused : (e : Refusal) → Err e ≡ build_read inner → whole ≡ no_function e
     unfolding function_d then_header then_built
     body_refused e g = rw (hd.is, ← hd.ret_is, unbodied inner e g)
 
     module _ (rows₁ : List ℕ) (held : HeaderHeld n.functions rows₀ rows₁ read) (b : Body)
-        (Bodied-by : G.Done b ≡ build_read inner)
+        (Bodied-by : Ok b ≡ build_read inner)
         (items₀ items arguments₀ arguments blocks₀ blocks preds₀ preds : List ℕ)
         (body-held : BuildHeld ts n items₀ items arguments₀ arguments blocks₀ blocks preds₀ preds inner)
         (rows_long : 2881 ≤ length rows₀) where
@@ -262,7 +260,7 @@ module _ (ts : List Tok) (names : List ℕ) (at types : ℕ) (n : Counts) (rows�
               blocks = n.blocks + b.blocks;
               predecessors = n.predecessors + b.predecessors;
             }
-            → F.Done b.next types' m ≡ function_read types n whole
+            → Ok (record { next = b.next; types = types'; counts = m }) ≡ function_read types n whole
         unfolding f
         answered types' m p q =
             done-same types n m f types' h.ty b.items b.arguments b.blocks b.predecessors p hd.type_is

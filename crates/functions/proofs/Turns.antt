@@ -1,4 +1,5 @@
 -- One turn of each loop over the rows: what stands from here on is the first of it and the rest, or nothing.
+use Rattle.std.specs.Prelude.{None, Option, Some}
 use Prim.Native.Nat.{ℕ, zero, suc, ◌+◌, ◌-◌, ◌≤◌, ◌<◌}
 use mathlib.Core.Path.{◌≡◌, refl}
 use mathlib.Core.Bool.{Bool, true, false}
@@ -11,8 +12,6 @@ use Rattle.utils.specs.Bytes.{pick}
 use Rattle.functions.specs.Columns.{name_at, type_at}
 use Rattle.functions.specs.Known.{expected_type}
 use Rattle.functions.specs.Rows.{types_at, known_at, known_from, row_from, type_found}
-use Rattle.functions.specs.declared.FoundRow.{FoundRow}
-use Rattle.functions.specs.declared.FoundRow.TheVariants as W
 
 pub known_more : (cells : List ℕ) (i n : ℕ) → i < n
     → known_from cells i (n - i) ≡ known_at cells i ∷ known_from cells (i + 1) (n - (i + 1))
@@ -33,7 +32,7 @@ unfolding types_at
 types-none cells at k n h = let m : n - k ≡ 0 = omega arith in rw m
 
 module _ (rows : List ℕ) (i n name : ℕ) where
-  pub row_here : i < n → get_or rows (name_at i) 0 ≡ name → row_from rows i (n - i) name ≡ W.At i
+  pub row_here : i < n → get_or rows (name_at i) 0 ≡ name → row_from rows i (n - i) name ≡ Some i
   unfolding row_from pick
   row_here h g = let m : n - i ≡ suc (n - (i + 1)) = omega arith in rw (m, eq-eqb _ _ g)
 
@@ -42,13 +41,13 @@ module _ (rows : List ℕ) (i n name : ℕ) where
   unfolding row_from pick
   row-later h g = let m : n - i ≡ suc (n - (i + 1)) = omega arith in rw (m, ne_eqb _ _ g)
 
-  pub row-none : n ≤ i → row_from rows i (n - i) name ≡ W.Absent
+  pub row-none : n ≤ i → row_from rows i (n - i) name ≡ None
   unfolding row_from
   row-none h = let m : n - i ≡ 0 = omega arith in rw m
 
 -- The functions so far give a name the type that its row gives.
-found-pick : (t : Bool) (rows : List ℕ) (i : ℕ) (more : FoundRow) (type : ℕ)
-    → type_found rows (pick t (W.At i) more) type ≡ pick t (get_or rows (type_at i) 0) (type_found rows more type)
+found-pick : (t : Bool) (rows : List ℕ) (i : ℕ) (more : Option ℕ) (type : ℕ)
+    → type_found rows (pick t (Some i) more) type ≡ pick t (get_or rows (type_at i) 0) (type_found rows more type)
 unfolding pick
 found-pick true rows i more type = refl
 found-pick false rows i more type = refl

@@ -1,4 +1,7 @@
 -- Function types are numbered from 0, and there are no more of them than functions.
+use Rattle.std.specs.Prelude.{Err, Ok, Result}
+use Rattle.parser.specs.declared.Refusal.{Refusal}
+use Rattle.parser.specs.declared.Ty.{Ty}
 use Prim.Native.Nat.{ℕ, ◌+◌, ◌≤◌}
 use mathlib.Core.Path.{◌≡◌, refl, subst}
 use mathlib.Core.Bool.{Bool, true, false}
@@ -10,19 +13,12 @@ use Rattle.lexer.specs.Decoded.{Tok}
 use Rattle.pieces.specs.declared.Identifier.{Identifier}
 use Rattle.parser.specs.Step.{refusal, then_at, then_named, then_type}
 use Rattle.parser.specs.Grammar.{consume_d, global_d}
-use Rattle.parser.specs.declared.Named.{Named}
-use Rattle.parser.specs.declared.Named.TheVariants as N
-use Rattle.parser.specs.declared.TypeRead.{TypeRead}
-use Rattle.parser.specs.declared.TypeRead.TheVariants as R
-use Rattle.parser.specs.declared.Consumed.{Consumed}
-use Rattle.parser.specs.declared.Consumed.TheVariants as C
 use Rattle.functions.specs.Known.{Known, signature, type_number, types_after, expected_type, unexpected}
 use Rattle.functions.specs.Functions.{Header, HeaderAt, header, no_header, then_header, then_formals, then_entered}
 use Rattle.functions.specs.Functions.{optional_formals}
 use Rattle.functions.specs.Functions.{optional_type, entered_d, signature_d, header_d, BuiltAt, built, not_built}
 use Rattle.functions.specs.Functions.{then_built, built_d}
 use Rattle.functions.specs.Functions.{is_void, Function, FunctionAt, function, no_function, function_d}
-use Rattle.functions.specs.declared.Entered.TheVariants as E
 
 -- no number among these is above `types`
 abbrev pub TypesFew : ℕ → List Known → Type 0
@@ -66,46 +62,46 @@ module _ (ts : List Tok) (known : List Known) (types : ℕ) (w : TypesFew types 
       by (eqb (expected_type known name.0 (type_number known signed types)) (type_number known signed types))
       (consume_d ts at 27)
     where
-      by : (b : Bool) (x : Consumed)
+      by : (b : Bool) (x : Result ℕ Refusal)
           → HeaderTyped types (then_entered no_header
-          (pick b (then_at E.Refused x (λ next. E.At (type_number known signed types) next))
-          (E.Refused (unexpected token name))) (λ type next. header (k type) next))
-      by true (C.At next) = rw (e (type_number known signed types)) (number-few known signed types w)
-      by true (C.Refused r) = tt
+          (pick b (then_at Err x (λ next. Ok ((type_number known signed types), next)))
+          (Err (unexpected token name))) (λ type next. header (k type) next))
+      by true (Ok next) = rw (e (type_number known signed types)) (number-few known signed types w)
+      by true (Err r) = tt
       by false x = tt
 
   header-typed : (full : Bool) (at : ℕ) → HeaderTyped types (header_d ts full known types at)
   unfolding header_d signature_d then_named then_formals then_type then_at pick
   header-typed full at = named (global_d ts at) full
     where
-      typed : (g : Identifier) (at1 : ℕ) (x : TypeRead)
+      typed : (g : Identifier) (at1 : ℕ) (x : Result (Ty × ℕ) Refusal)
           → HeaderTyped types (then_type no_header x (λ ret at2.
           then_entered no_header (entered_d ts known types at g (signature ret (optional_formals ts at1).list) at2)
           (λ type next.
           header (record { name = g; formals = (optional_formals ts at1).list; ret = ret; type = type }) next)))
-      typed g at1 (R.At ret at2) =
+      typed g at1 (Ok (ret, at2)) =
           typed-entered g (signature ret (optional_formals ts at1).list) at at2 (λ type. record {
             name = g;
             formals = (optional_formals ts at1).list;
             ret = ret;
             type = type;
           }) (λ type. refl)
-      typed g at1 (R.Refused e) = tt
+      typed g at1 (Err e) = tt
 
-      formals : (g : Identifier) (at1 : ℕ) (x : Consumed)
+      formals : (g : Identifier) (at1 : ℕ) (x : Result ℕ Refusal)
           → HeaderTyped types (then_at no_header x (λ at2. then_type no_header (optional_type ts at2) (λ ret at3.
           then_entered no_header (entered_d ts known types at g (signature ret (optional_formals ts at1).list) at3)
           (λ type next.
           header (record { name = g; formals = (optional_formals ts at1).list; ret = ret; type = type }) next))))
-      formals g at1 (C.At at2) = typed g at1 (optional_type ts at2)
-      formals g at1 (C.Refused e) = tt
+      formals g at1 (Ok at2) = typed g at1 (optional_type ts at2)
+      formals g at1 (Err e) = tt
 
-      named : (x : Named) (full : Bool)
+      named : (x : Result (Identifier × ℕ) Refusal) (full : Bool)
           → HeaderTyped types (then_named no_header x (λ g at1. pick full (no_header (refusal 35 at 0))
           (signature_d ts known types at g at1)))
-      named (N.At g at1) true = tt
-      named (N.At g at1) false = formals g at1 (optional_formals ts at1).end
-      named (N.Refused e) full = tt
+      named (Ok (g, at1)) true = tt
+      named (Ok (g, at1)) false = formals g at1 (optional_formals ts at1).end
+      named (Err e) full = tt
 
   abbrev FunctionTyped : FunctionAt → Type 0
   FunctionTyped (function f) = f.head.type ≤ types

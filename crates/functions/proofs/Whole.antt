@@ -1,5 +1,6 @@
 -- From a body read and its blocks linked to the whole: what was read is what the definition gives, it stands in the
 -- slices, and there is room to go on.
+use Rattle.std.specs.Prelude.{Err, Ok, Result}
 use Prim.Native.Nat.{ℕ, ◌+◌, ◌*◌, ◌≤◌}
 use mathlib.Core.Path.{◌≡◌, refl, ap, subst, ◌∙◌}
 use mathlib.Core.Bool.{Bool, true}
@@ -15,58 +16,53 @@ use Rattle.link.specs.Blocks.{Block}
 use Rattle.link.specs.Edges.{Resolved, fine, refused, resolve_d, successors}
 use Rattle.body.proofs.BodyLaws.{names-closed}
 use Rattle.parser.specs.declared.Refusal.{Refusal}
-use Rattle.parser.specs.declared.Consumed.{Consumed}
-use Rattle.parser.specs.declared.Consumed.TheVariants as C
 use Rattle.body.specs.Records.{items_cells, arguments_count, parts_at}
 use Rattle.body.specs.Room.{Bounds, filled}
 use Rattle.body.specs.Answer.{function_body, body_read, Stored, Held}
 use Rattle.body.proofs.Decode.{parts_stored}
 use Rattle.body.proofs.Lay.{arguments_cells-closed, arguments_count-closed}
 use Rattle.body.specs.declared.Closed.{Closed}
-use Rattle.body.specs.declared.BodyRead.TheVariants as B
 use Rattle.link.specs.Cells.{predecessor_cells, linked_by, link_d, Linking}
 use Rattle.link.specs.Steps.{Ready}
 use Rattle.link.proofs.Laws.{at_most_256, blocks-counted}
 use Rattle.link.proofs.Edges.{thin_blocks, entries-few}
 use Rattle.link.proofs.Whole.{entries_are}
-use Rattle.link.specs.declared.Linked.TheVariants as L
 use Rattle.functions.specs.Functions.{built, not_built, blocks_in, built_d}
 use Rattle.functions.specs.Answer.{edges_in, predecessors_in, Room, Long, BuildHeld, build_read}
 use Rattle.functions.specs.declared.Counts.{Counts}
-use Rattle.functions.specs.declared.Building.TheVariants as G
 
 -- what a body's answer says of where it ended
-done_at : (e : Consumed) (next items arguments labels : ℕ) (c : Closed)
-    → B.Done c ≡ then_at B.Refused e (λ next. B.Done (record {
+done_at : (e : Result ℕ Refusal) (next items arguments labels : ℕ) (c : Closed)
+    → Ok c ≡ then_at Err e (λ next. Ok (record {
       next = next;
       items = items;
       arguments =
           arguments;
       labels = labels;
     }))
-    → (e ≡ C.At c.next) × (c.items ≡ items) × (c.arguments ≡ arguments) × (c.labels ≡ labels)
+    → (e ≡ Ok c.next) × (c.items ≡ items) × (c.arguments ≡ arguments) × (c.labels ≡ labels)
 unfolding then_at
-done_at (C.At i) next items arguments labels c h = (cc, cc, cc, cc)
-done_at (C.Refused e) next items arguments labels c h = absurd (let z : ◌≡◌ {A = ℕ} 0 1 = cc in omega arith)
+done_at (Ok i) next items arguments labels c h = (cc, cc, cc, cc)
+done_at (Err e) next items arguments labels c h = absurd (let z : ◌≡◌ {A = ℕ} 0 1 = cc in omega arith)
 
-refused_at_lem : (e : Consumed) (items arguments labels : ℕ) (r : Refusal)
-    → B.Refused r ≡ then_at B.Refused e (λ next. B.Done (record {
+refused_at_lem : (e : Result ℕ Refusal) (items arguments labels : ℕ) (r : Refusal)
+    → Err r ≡ then_at Err e (λ next. Ok (record {
       next = next;
       items = items;
       arguments =
           arguments;
       labels = labels;
     }))
-    → e ≡ C.Refused r
+    → e ≡ Err r
 unfolding then_at
-refused_at_lem (C.At i) items arguments labels r h = absurd (let z : ◌≡◌ {A = ℕ} 0 1 = cc in omega arith)
-refused_at_lem (C.Refused e) items arguments labels r h = cc
+refused_at_lem (Ok i) items arguments labels r h = absurd (let z : ◌≡◌ {A = ℕ} 0 1 = cc in omega arith)
+refused_at_lem (Err e) items arguments labels r h = cc
 
-linked_refused : (bs : List Block) (x : Resolved) (e : Refusal) → L.Refused e ≡ linked_by bs x → x ≡ refused e
+linked_refused : (bs : List Block) (x : Resolved) (e : Refusal) → Err e ≡ linked_by bs x → x ≡ refused e
 linked_refused bs fine e h = let z : ◌≡◌ {A = ℕ} 0 1 = cc in absurd (omega arith)
 linked_refused bs (refused e') e h = cc
 
-linked_done : (bs : List Block) (x : Resolved) (n m : ℕ) → L.Done n m ≡ linked_by bs x
+linked_done : (bs : List Block) (x : Resolved) (n m : ℕ) → Ok (record { blocks = n; predecessors = m }) ≡ linked_by bs x
     → (x ≡ fine) × (n ≡ length bs) × (m ≡ length (predecessor_cells 0 (successors bs bs) bs))
 linked_done bs fine n m h = (refl, cc, cc)
 linked_done bs (refused e) n m h = let z : ◌≡◌ {A = ℕ} 0 1 = cc in absurd (omega arith)
@@ -82,17 +78,17 @@ module _ (ts : List Tok) (void : Bool) (named at : ℕ) (n : Counts)
   abbrev bs : List Block
   bs = blocks_in is
 
-  pub body_refused : (e : Refusal) → B.Refused e ≡ body_read void body → built_d ts void named at ≡ not_built e
+  pub body_refused : (e : Refusal) → Err e ≡ body_read void body → built_d ts void named at ≡ not_built e
   unfolding body_read built_d then_at
   body_refused e h =
       rw (refused_at_lem body.end (length is) (arguments_count body.items) (length (labels_of body.items)) e h)
 
-  module _ (c : Closed) (done : B.Done c ≡ body_read void body)
+  module _ (c : Closed) (done : Ok c ≡ body_read void body)
       (held : Held ts void body.items at n.items n.arguments items₀ items arguments₀ arguments labels₀ labels
       body.end)
       (room : Room ts at n) (behind : n.blocks * 4 + 2 ≤ at) (blocks₀ preds₀ : List ℕ)
       (long : Long items₀ arguments₀ blocks₀ preds₀) (labels-long : 255 ≤ length labels) where
-    ended : (body.end ≡ C.At c.next) × (c.items ≡ length is) × (c.arguments ≡ arguments_count body.items)
+    ended : (body.end ≡ Ok c.next) × (c.items ≡ length is) × (c.arguments ≡ arguments_count body.items)
         × (c.labels ≡ length (labels_of body.items))
     unfolding body_read
     ended = done_at body.end 0 (length is) (arguments_count body.items) (length (labels_of body.items)) c done
@@ -100,7 +96,7 @@ module _ (ts : List Tok) (void : Bool) (named at : ℕ) (n : Counts)
     stored : Stored ts void body.items at n.items n.arguments c.next items₀ items arguments₀ arguments
         labels₀ labels
     stored =
-        subst (λ (e : Consumed).
+        subst (λ (e : Result ℕ Refusal).
         Held ts void body.items at n.items n.arguments items₀ items arguments₀ arguments labels₀ labels e)
         ended.0 held
 
@@ -146,13 +142,13 @@ module _ (ts : List Tok) (void : Bool) (named at : ℕ) (n : Counts)
           predecessors_there = long.predecessors_long;
         }
 
-    pub link_refused : (e : Refusal) → L.Refused e ≡ link_d named (parts_at items n.items c.items)
+    pub link_refused : (e : Refusal) → Err e ≡ link_d named (parts_at items n.items c.items)
         → built_d ts void named at ≡ not_built e
     unfolding built_d then_at link_d
     link_refused e h =
         rw (ended.0, linked_refused bs (resolve_d named bs) e (rw parts at h))
 
-    module _ (k m : ℕ) (linked : L.Done k m ≡ link_d named (parts_at items n.items c.items)) (blocks preds : List ℕ)
+    module _ (k m : ℕ) (linked : Ok (record { blocks = k; predecessors = m }) ≡ link_d named (parts_at items n.items c.items)) (blocks preds : List ℕ)
         (kept : Linking (parts_at items n.items c.items) n.items n.blocks n.predecessors blocks₀ blocks
         preds₀ preds)
       where
@@ -169,7 +165,7 @@ module _ (ts : List Tok) (void : Bool) (named at : ℕ) (n : Counts)
             let thin = rw parts at (thin_blocks items n.items c.items) in
             omega (arith, entries-few bs bs (length bs) thin, ap length (entries_are bs 0 (edges_in is)))
 
-        pub answered : G.Done (record {
+        pub answered : Ok (record {
           next = c.next;
           items = c.items;
           arguments = c.arguments;

@@ -1,4 +1,7 @@
 -- What `parse` answers and writes.
+use Rattle.std.specs.Prelude.{Err, Ok, Result}
+use Rattle.functions.specs.declared.Body.{Body}
+use Rattle.parser.specs.declared.Refusal.{Refusal}
 use Rattle.std.specs.Prelude.{ℕ, ◌+◌, ◌*◌, ◌≤◌, ◌<◌, ◌≡◌, List, [], ◌∷◌, ◌++◌, length, set}
 use Rattle.std.proofs.lemmas.List.Edits.{sets}
 use Rattle.utils.specs.Bytes.{pad_to}
@@ -8,8 +11,6 @@ use Rattle.body.specs.Body.{Item}
 use Rattle.link.specs.Edges.{successors}
 use Rattle.link.specs.Steps.{blocks_size, predecessors_size}
 use Rattle.utils.specs.Limits.{most_blocks, most_functions, most_formals}
-use Rattle.parser.specs.declared.Consumed.{Consumed}
-use Rattle.parser.specs.declared.Consumed.TheVariants as C
 use Rattle.body.specs.Records.{items_cells, arguments_cells, arguments_count}
 use Rattle.body.specs.Room.{Within, items_size, arguments_size}
 use Rattle.link.specs.Cells.{block_cells, predecessor_cells}
@@ -19,12 +20,7 @@ use Rattle.functions.specs.Functions.{FunctionAt, function, no_function}
 use Rattle.functions.specs.Columns.{row_width, row_at}
 use Rattle.functions.specs.Rows.{row_cells, known_from}
 use Rattle.functions.specs.declared.FunctionRead.{FunctionRead}
-use Rattle.functions.specs.declared.FunctionRead.TheVariants as F
 use Rattle.functions.specs.declared.Counts.{Counts}
-use Rattle.functions.specs.declared.Building.{Building}
-use Rattle.functions.specs.declared.Building.TheVariants as B
-use Rattle.functions.specs.declared.ProgramRead.{ProgramRead}
-use Rattle.functions.specs.declared.ProgramRead.TheVariants as U
 
 -- a function's successors, block by block, and its predecessors
 abbrev pub edges_in : List Item → List (List ℕ)
@@ -47,16 +43,16 @@ abbrev pub counts_with : Counts → Function → Counts
 counts_with n f = counts_after n f.items
 
 -- A body with its blocks and edges: where to go on and how much it takes, or the refusal.
-abbrev pub build_read : BuiltAt → Building
+abbrev pub build_read : BuiltAt → Result Body Refusal
 build_read (built is next) =
-    B.Done (record {
+    Ok (record {
       next = next;
       items = length is;
       arguments = arguments_count is;
       blocks = length (blocks_in is);
       predecessors = length (predecessors_in is);
     })
-build_read (not_built e) = B.Refused e
+build_read (not_built e) = Err e
 
 -- The tokens so far have room for what is counted (crates/body/specs/Room.antt).
 pub record Room (ts : List Tok) (at : ℕ) (n : Counts) : Type 0 where
@@ -77,8 +73,8 @@ unfoldable pub counts_from : Counts → List Function → Counts
 counts_from n [] = n
 counts_from n (f ∷ fs) = counts_from (counts_with n f) fs
 
-unfoldable pub program_read : Program → ProgramRead
-program_read u = then_at U.Refused u.end (λ next. U.Done (counts_from (counts 0 0 0 0 0) u.functions))
+unfoldable pub program_read : Program → Result Counts Refusal
+program_read u = then_at Err u.end (λ next. Ok (counts_from (counts 0 0 0 0 0) u.functions))
 
 -- A body's records stand behind those that are counted. A refusal says nothing of the slices.
 pub record Built (ts : List Tok) (n : Counts) (is : List Item) (next : ℕ)
@@ -122,9 +118,9 @@ stored_function ts names n s f =
     (sets s.predecessors n.predecessors (predecessors_in is))
 
 -- a function that was read: where to go on, how many types there are, and how much is used; or the refusal
-abbrev pub function_read : ℕ → Counts → FunctionAt → FunctionRead
-function_read types n (function f) = F.Done f.next (types_after types f.head.type) (counts_with n f)
-function_read types n (no_function e) = F.Refused e
+abbrev pub function_read : ℕ → Counts → FunctionAt → Result FunctionRead Refusal
+function_read types n (function f) = Ok (record { next = f.next; types = (types_after types f.head.type); counts = (counts_with n f) })
+function_read types n (no_function e) = Err e
 
 -- It stands in the slices, later headers see it, and there is room to go on.
 pub record Taken (ts : List Tok) (names : List ℕ) (n : Counts) (f : Function) (s₀ s : Slices) : Type 0 where
@@ -149,6 +145,6 @@ abbrev pub with_count : ℕ → Slices → Slices
 with_count n s = slices (set s.functions 0 n) s.items s.arguments s.blocks s.predecessors
 
 -- All functions are stored one behind the other. A refusal says nothing of the slices: the caller clears them.
-abbrev pub Held : List Tok → List ℕ → List Function → Slices → Slices → Consumed → Type 0
-Held ts names fs s₀ s (C.At next) = s ≡ with_count (length fs) (stored_from ts names (counts 0 0 0 0 0) s₀ fs)
-Held ts names fs s₀ s (C.Refused e) = Unit
+abbrev pub Held : List Tok → List ℕ → List Function → Slices → Slices → Result ℕ Refusal → Type 0
+Held ts names fs s₀ s (Ok next) = s ≡ with_count (length fs) (stored_from ts names (counts 0 0 0 0 0) s₀ fs)
+Held ts names fs s₀ s (Err e) = Unit

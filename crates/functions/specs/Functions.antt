@@ -1,5 +1,6 @@
 -- Document 01, "Functions, labels, edges": "A text is any number of functions: global; optionally formals in
 -- parentheses; optionally colon and type; `{` body `}`."
+use Rattle.std.specs.Prelude.{Err, Ok, Result}
 use Rattle.std.specs.Prelude.{ℕ, zero, suc, List, [], ◌∷◌, ◌++◌, Bool, true, false, eqb}
 use Rattle.utils.specs.Bytes.{pick}
 use Rattle.lexer.specs.Decoded.{Tok, token_at}
@@ -18,13 +19,7 @@ use Rattle.parser.specs.declared.Refusal.{Refusal}
 use Rattle.parser.specs.declared.Ty.{Ty}
 use Rattle.parser.specs.declared.Ty.TheVariants as Y
 use Rattle.parser.specs.declared.Variable.{Variable}
-use Rattle.parser.specs.declared.Consumed.{Consumed}
-use Rattle.parser.specs.declared.Consumed.TheVariants as C
-use Rattle.parser.specs.declared.TypeRead.{TypeRead}
-use Rattle.parser.specs.declared.TypeRead.TheVariants as R
 use Rattle.body.specs.Answer.{function_body}
-use Rattle.functions.specs.declared.Entered.{Entered}
-use Rattle.functions.specs.declared.Entered.TheVariants as E
 use Rattle.functions.specs.Known.{Known, signature, type_number, types_after, expected_type, unexpected}
 
 -- The header: the name, the formals, the result type, the function type's number.
@@ -48,23 +43,23 @@ then_formals fail r k = then_at fail r.end (λ at. k r.list at)
 -- optionally formals in parentheses
 unfoldable pub optional_formals : List Tok → ℕ → Variables
 optional_formals ts at =
-    look (token_at ts at) (λ kind next. pick (eqb kind T.left_paren) (formals_d ts next) (ended (C.At at)))
+    look (token_at ts at) (λ kind next. pick (eqb kind T.left_paren) (formals_d ts next) (ended (Ok at)))
 
 -- optionally colon and type
-unfoldable pub optional_type : List Tok → ℕ → TypeRead
-optional_type ts at = look (token_at ts at) (λ kind next. pick (eqb kind T.colon) (type_d ts next) (R.At Y.Void at))
+unfoldable pub optional_type : List Tok → ℕ → Result (Ty × ℕ) Refusal
+optional_type ts at = look (token_at ts at) (λ kind next. pick (eqb kind T.colon) (type_d ts next) (Ok (Y.Void, at)))
 
 -- The name is entered with its function type, after the type and before `{`.
-unfoldable pub entered_d : List Tok → List Known → ℕ → ℕ → Identifier → List ℕ → ℕ → Entered
+unfoldable pub entered_d : List Tok → List Known → ℕ → ℕ → Identifier → List ℕ → ℕ → Result (ℕ × ℕ) Refusal
 entered_d ts known types token name signed at =
     let type = type_number known signed types in
     let expected = expected_type known name.0 type in
-    pick (eqb expected type) (then_at E.Refused (consume_d ts at T.left_brace) (λ next. E.At type next))
-    (E.Refused (unexpected token name))
+    pick (eqb expected type) (then_at Err (consume_d ts at T.left_brace) (λ next. Ok (type, next)))
+    (Err (unexpected token name))
 
-unfoldable pub then_entered : {A : Type 0} → (Refusal → A) → Entered → (ℕ → ℕ → A) → A
-then_entered fail (E.At type next) k = k type next
-then_entered fail (E.Refused e) k = fail e
+unfoldable pub then_entered : {A : Type 0} → (Refusal → A) → Result (ℕ × ℕ) Refusal → (ℕ → ℕ → A) → A
+then_entered fail (Ok (type, next)) k = k type next
+then_entered fail (Err e) k = fail e
 
 -- what stands behind the name
 unfoldable pub signature_d : List Tok → List Known → ℕ → ℕ → Identifier → ℕ → HeaderAt
@@ -132,13 +127,13 @@ function_d ts full known types at =
 -- All functions that were read, and where the text ended or why it was refused.
 pub record Program : Type 0 where
   pub functions : List Function
-  pub end : Consumed
+  pub end : Result ℕ Refusal
 
-abbrev pub program_end : Consumed → Program
+abbrev pub program_end : Result ℕ Refusal → Program
 program_end e = record { functions = []; end = e }
 
 abbrev pub program_stop : Refusal → Program
-program_stop e = program_end (C.Refused e)
+program_stop e = program_end (Err e)
 
 abbrev pub program_then : Function → Program → Program
 program_then f u = record { functions = f ∷ u.functions; end = u.end }
@@ -152,11 +147,11 @@ known_of h = record { name = h.name.0; type = h.type; signed = signature h.ret h
 unfoldable pub functions_d : List Tok → ℕ → List Known → ℕ → ℕ → Program
 functions_d ts zero known types at =
     look (token_at ts at) (λ kind next.
-    pick (eqb kind T.end_of_file) (program_end (C.At at))
+    pick (eqb kind T.end_of_file) (program_end (Ok at))
     (then_function program_stop (function_d ts true known types at) (λ f. program_stop (refusal 35 at 0))))
 functions_d ts (suc room) known types at =
     look (token_at ts at) (λ kind next.
-    pick (eqb kind T.end_of_file) (program_end (C.At at))
+    pick (eqb kind T.end_of_file) (program_end (Ok at))
     (then_function program_stop (function_d ts false known types at) (λ f.
     program_then f
     (functions_d ts room (known ++ (known_of f.head ∷ [])) (types_after types f.head.type) f.next))))

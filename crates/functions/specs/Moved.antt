@@ -1,13 +1,12 @@
 -- Two readings of one function (demand 3), on from the parser's relations: what the functions so far, a header, a body
 -- with its blocks and a function are to those of the other reading. `proofs/SimFunctions.antt` shows that the
 -- definitions give related answers on related tokens.
+use Rattle.std.specs.Prelude.{Err, Ok, Result}
 use Rattle.std.specs.Prelude.{ℕ, ◌+◌, ◌≤◌, ◌<◌, ◌≡◌, List, eqb}
 use Rattle.body.specs.Body.{Item}
 use Rattle.parser.specs.Moved.{Move, SimName, SimE, SimV, SimClose, Each}
 use Rattle.body.specs.Moved.{SimItem}
 use Rattle.parser.specs.declared.Refusal.{Refusal}
-use Rattle.functions.specs.declared.Entered.{Entered}
-use Rattle.functions.specs.declared.Entered.TheVariants as E
 use Rattle.functions.specs.Known.{Known}
 use Rattle.functions.specs.Functions.{Header, HeaderAt, BuiltAt, Function, FunctionAt, Program}
 
@@ -19,9 +18,9 @@ pub record SimKnown (m : Move) (k k' : Known) : Type 0 where
   pub signed : k.signed ≡ k'.signed
 
 -- a name that was entered, or related refusals; the index to go on at is below l
-pub data SimEntered (m : Move) (l : ℕ) : Entered → Entered → Type 0 where
-  at : (type i : ℕ) → i < l → SimEntered m l (E.At type (m.by + i)) (E.At type i)
-  refused : (e e' : Refusal) → SimE m l e e' → SimEntered m l (E.Refused e) (E.Refused e')
+pub data SimEntered (m : Move) (l : ℕ) : Result (ℕ × ℕ) Refusal → Result (ℕ × ℕ) Refusal → Type 0 where
+  at : (type i : ℕ) → i < l → SimEntered m l (Ok (type, (m.by + i))) (Ok (type, i))
+  refused : (e e' : Refusal) → SimE m l e e' → SimEntered m l (Err e) (Err e')
 
 -- the same header, with its name and its formals renamed
 pub record SimHeader (m : Move) (h h' : Header) : Type 0 where

@@ -1,4 +1,5 @@
 -- What a function's row of the header table holds, and what is read back of it; Columns.antt says where it stands.
+use Rattle.std.specs.Prelude.{None, Option, Some}
 use Rattle.std.specs.Prelude.{ℕ, zero, suc, ◌+◌, ◌*◌, ◌-◌, ◌<◌, List, [], ◌∷◌, ◌++◌, leb, eqb, length, get_or}
 use Rattle.utils.specs.Bytes.{pick}
 use Rattle.lexer.specs.Decoded.{Tok, token_at}
@@ -7,8 +8,6 @@ use Rattle.utils.specs.Limits.{most_formals}
 use Rattle.functions.specs.Columns.{name_at, ret_at, type_at, count_at, formals_at, IsRow}
 use Rattle.functions.specs.Known.{Known}
 use Rattle.functions.specs.Functions.{Function, blocks_in}
-use Rattle.functions.specs.declared.FoundRow.{FoundRow}
-use Rattle.functions.specs.declared.FoundRow.TheVariants as W
 
 -- the thirteen cells before the formals
 abbrev pub head_cells : List Tok → List ℕ → Function → ℕ → ℕ → List ℕ
@@ -49,18 +48,18 @@ known_from cells i zero = []
 known_from cells i (suc n) = known_at cells i ∷ known_from cells (i + 1) n
 
 -- the first of n rows, from row i on, with this name
-unfoldable pub row_from : List ℕ → ℕ → ℕ → ℕ → FoundRow
-row_from rows i zero name = W.Absent
+unfoldable pub row_from : List ℕ → ℕ → ℕ → ℕ → Option ℕ
+row_from rows i zero name = None
 row_from rows i (suc n) name =
     let more = row_from rows (i + 1) n name in
-    pick (eqb (get_or rows (name_at i) 0) name) (W.At i) more
+    pick (eqb (get_or rows (name_at i) 0) name) (Some i) more
 
 -- a row that was found is one of the n
-abbrev pub FoundIn : List ℕ → ℕ → FoundRow → Type 0
-FoundIn rows n (W.At i) = (i < n) × IsRow rows i
-FoundIn rows n W.Absent = Unit
+abbrev pub FoundIn : List ℕ → ℕ → Option ℕ → Type 0
+FoundIn rows n (Some i) = (i < n) × IsRow rows i
+FoundIn rows n None = Unit
 
 -- the number of the function type of a row that was found, or the given one
-abbrev pub type_found : List ℕ → FoundRow → ℕ → ℕ
-type_found rows (W.At i) type = get_or rows (type_at i) 0
-type_found rows W.Absent type = type
+abbrev pub type_found : List ℕ → Option ℕ → ℕ → ℕ
+type_found rows (Some i) type = get_or rows (type_at i) 0
+type_found rows None type = type

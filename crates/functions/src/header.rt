@@ -7,7 +7,6 @@ ghost use Rattle.utils.specs.Limits.{most_functions, most_formals};
 ghost use Rattle.pieces.specs.Kinds as T;
 ghost use Rattle.parser.specs.Grammar.{consume_d};
 ghost use Rattle.parser.specs.Step.{then_at};
-ghost use Rattle.functions.specs.declared.Entered.TheVariants as E;
 ghost use Rattle.functions.specs.Functions.{optional_formals, optional_type, entered_d, signature_d, header_d};
 ghost use Rattle.functions.specs.Rows.{known_from, types_at};
 ghost use Rattle.functions.specs.Columns.{formals_at, IsRow, HasRows, table_size};
@@ -45,8 +44,8 @@ pub fn parse_optional_type(tokens: &[u32], at: usize) -> TypeRead
 
 // The brace behind a header; `ty` is the number of its function type.
 fn open_body(tokens: &[u32], at: usize, ty: u32) -> Entered
-    ensures { result ≡ then_at E.Refused (consume_d (tokens_of tokens.now) at T.left_brace)
-        (λ next. E.At ty next) }
+    ensures { result ≡ then_at Err (consume_d (tokens_of tokens.now) at T.left_brace)
+        (λ next. Ok (ty, next)) }
 {
     match parser::consume(tokens, at, kinds::LEFT_BRACE) {
         Consumed::Refused(e) => Entered::Refused(e),

@@ -1,5 +1,6 @@
 -- Two tables whose rows have the same names, function types and type numbers answer alike. So the replaced function's
 -- row may hold the new function's items, blocks and formals' names, its header being kept.
+use Rattle.std.specs.Prelude.{None, Option, Some}
 use Prim.Native.Nat.{ℕ, zero, suc, ◌+◌, ◌≤◌, ◌<◌}
 use mathlib.Core.Path.{◌≡◌, refl, ◌∙◌}
 use mathlib.Core.List.{List, [], ◌∷◌}
@@ -14,8 +15,6 @@ use Rattle.functions.specs.Columns.{row_at, name_at, type_at}
 use Rattle.functions.proofs.Stores.{get_or-sets-below}
 use Rattle.functions.specs.Rows.{row_from}
 use Rattle.sema.specs.Globals.{row_global, global_of, globals_in}
-use Rattle.functions.specs.declared.FoundRow.{FoundRow}
-use Rattle.functions.specs.declared.FoundRow.TheVariants as W
 use Rattle.elaborate.specs.Types.{type_cell_of, callee_of}
 use Rattle.elaborate.proofs.Rows.{type-pick}
 use Rattle.headers.proofs.Brought.{RowSame, global-same, cell_same}
@@ -26,7 +25,7 @@ pub record Alike (cells cells' : List ℕ) (k : ℕ) : Type 0 where
   pub global : row_global cells k ≡ row_global cells' k
   pub type : get_or cells (type_at k) 0 ≡ get_or cells' (type_at k) 0
 
-global-pick : (cells : List ℕ) (t : Bool) (f g : FoundRow)
+global-pick : (cells : List ℕ) (t : Bool) (f g : Option ℕ)
     → global_of cells (pick t f g) ≡ pick t (global_of cells f) (global_of cells g)
 unfolding pick
 global-pick cells true f g = refl
@@ -40,8 +39,8 @@ module _ (cells cells' : List ℕ) (x : ℕ) where
   globals_from (suc n) i h =
       let a = h i (omega arith) (omega arith) in
       rw (
-        global-pick cells (eqb (get_or cells (name_at i) 0) x) (W.At i) (row_from cells (i + 1) n x),
-        global-pick cells' (eqb (get_or cells' (name_at i) 0) x) (W.At i) (row_from cells' (i + 1) n x),
+        global-pick cells (eqb (get_or cells (name_at i) 0) x) (Some i) (row_from cells (i + 1) n x),
+        global-pick cells' (eqb (get_or cells' (name_at i) 0) x) (Some i) (row_from cells' (i + 1) n x),
         a.name,
         a.global,
         globals_from n (i + 1) (λ k p q. h k (omega arith) (omega arith)),
@@ -54,8 +53,8 @@ module _ (cells cells' : List ℕ) (x : ℕ) where
   callees_from (suc n) i h =
       let a = h i (omega arith) (omega arith) in
       rw (
-        type-pick cells (eqb (get_or cells (name_at i) 0) x) (W.At i) (row_from cells (i + 1) n x),
-        type-pick cells' (eqb (get_or cells' (name_at i) 0) x) (W.At i) (row_from cells' (i + 1) n x),
+        type-pick cells (eqb (get_or cells (name_at i) 0) x) (Some i) (row_from cells (i + 1) n x),
+        type-pick cells' (eqb (get_or cells' (name_at i) 0) x) (Some i) (row_from cells' (i + 1) n x),
         a.name,
         a.type,
         callees_from n (i + 1) (λ k p q. h k (omega arith) (omega arith)),
@@ -83,7 +82,7 @@ row-alike cells cells' k h =
     let s : RowSame cells cells' k k = λ j l other. h j l in
     record {
       name = rw m (h 1 (omega arith));
-      global = global-same cells cells' (W.At k) (W.At k) s;
+      global = global-same cells cells' (Some k) (Some k) s;
       type = cell_same cells cells' k k 7 s (omega arith) (λ q. omega (arith, q));
     }
 

@@ -1,5 +1,6 @@
 -- What is looked up by its number among the rows that were brought is what its spelling finds in the old table: a row
 -- is brought with the one number that is spelled as its name, and its other cells as they were.
+use Rattle.std.specs.Prelude.{None, Option, Some}
 use Prim.Native.Nat.{ℕ, zero, suc, ◌+◌, ◌-◌, ◌*◌, ◌≤◌, ◌<◌}
 use mathlib.Core.Path.{◌≡◌, refl, sym, ap, subst, ◌∙◌}
 use mathlib.Core.List.{List}
@@ -22,8 +23,6 @@ use Rattle.functions.proofs.Stores.{get_or-sets-below}
 use Rattle.functions.proofs.Seen.{get_or-sets-at}
 use Rattle.functions.specs.Rows.{row_from}
 use Rattle.sema.specs.Globals.{global_of, globals_in}
-use Rattle.functions.specs.declared.FoundRow.{FoundRow}
-use Rattle.functions.specs.declared.FoundRow.TheVariants as W
 use Rattle.elaborate.specs.Types.{type_cell_of, callee_of}
 use Rattle.headers.specs.Ranges.{RowInRange}
 use Rattle.headers.specs.Spelled.{row_name, name_spelled, row_spelled, callee_row, globals_spelled}
@@ -92,13 +91,13 @@ module _ (cells rows : List ℕ) where
   abbrev pub RowSame : ℕ → ℕ → Type 0
   RowSame k i = (j : ℕ) → j < 45 → (j ≡ 1 → ⊥) → get_or cells (row_at k + j) 0 ≡ get_or rows (row_at i + j) 0
 
-  abbrev pub Same : FoundRow → FoundRow → Type 0
-  Same (W.At k) (W.At i) = RowSame k i
-  Same (W.At k) W.Absent = ⊥
-  Same W.Absent (W.At i) = ⊥
-  Same W.Absent W.Absent = Unit
+  abbrev pub Same : Option ℕ → Option ℕ → Type 0
+  Same (Some k) (Some i) = RowSame k i
+  Same (Some k) None = ⊥
+  Same None (Some i) = ⊥
+  Same None None = Unit
 
-  same-pick : (t : Bool) (f g f' g' : FoundRow) → Same f f' → Same g g' → Same (pick t f g) (pick t f' g')
+  same-pick : (t : Bool) (f g f' g' : Option ℕ) → Same f f' → Same g g' → Same (pick t f g) (pick t f' g')
   unfolding pick
   same-pick true f g f' g' p q = p
   same-pick false f g f' g' p q = q
@@ -132,8 +131,8 @@ module _ (cells rows : List ℕ) where
       let b : 1 + j + i * 45 ≡ row_at i + j = omega arith in
       rw (a, b) (s j l other)
 
-  pub global-same : (f g : FoundRow) → Same f g → global_of cells f ≡ global_of rows g
-  global-same (W.At k) (W.At i) s =
+  pub global-same : (f g : Option ℕ) → Same f g → global_of cells f ≡ global_of rows g
+  global-same (Some k) (Some i) s =
       let ret : get_or cells (ret_at k) 0 ≡ get_or rows (ret_at i) 0 =
       cell_same k i 6 s (omega arith) (λ q. omega (arith, q)) in
       let count : get_or cells (count_at k) 0 ≡ get_or rows (count_at i) 0 =
@@ -143,15 +142,15 @@ module _ (cells rows : List ℕ) where
       let a : formals_at k ≡ row_at k + 13 = omega arith in
       let b : formals_at i ≡ row_at i + 13 = omega arith in
       rw (ret, count, a, b, types_same n k i 13 s (omega arith) (omega arith))
-  global-same (W.At k) W.Absent s = absurd s
-  global-same W.Absent (W.At i) s = absurd s
-  global-same W.Absent W.Absent s = refl
+  global-same (Some k) None s = absurd s
+  global-same None (Some i) s = absurd s
+  global-same None None s = refl
 
-  type-same : (f g : FoundRow) → Same f g → type_cell_of cells f ≡ type_cell_of rows g
-  type-same (W.At k) (W.At i) s = ap (λ (t : ℕ). t + 4) (cell_same k i 7 s (omega arith) (λ q. omega (arith, q)))
-  type-same (W.At k) W.Absent s = absurd s
-  type-same W.Absent (W.At i) s = absurd s
-  type-same W.Absent W.Absent s = refl
+  type-same : (f g : Option ℕ) → Same f g → type_cell_of cells f ≡ type_cell_of rows g
+  type-same (Some k) (Some i) s = ap (λ (t : ℕ). t + 4) (cell_same k i 7 s (omega arith) (λ q. omega (arith, q)))
+  type-same (Some k) None s = absurd s
+  type-same None (Some i) s = absurd s
+  type-same None None s = refl
 
 -- What stays of a table while more rows are brought. -----------------------------------------------------------------
 
@@ -217,8 +216,8 @@ module _ (old rows new names : List ℕ) (x i n : ℕ) (b e : Brought) where
       let name : get_or e.cells (name_at b.count) 0 ≡ y =
       k (name_at b.count) (omega arith) ∙ put_name b.cells rows b.count i y room in
       rw (m, name, d x)
-      (same-pick e.cells rows (eqb y x) (W.At b.count)
-      (row_from e.cells (b.count + 1) (e.count - (b.count + 1)) x) (W.At i)
+      (same-pick e.cells rows (eqb y x) (Some b.count)
+      (row_from e.cells (b.count + 1) (e.count - (b.count + 1)) x) (Some i)
       (row_spelled old rows (i + 1) n (name_of new names x))
       (λ j l o. k (row_at b.count + j) (omega arith) ∙ put_cell b.cells rows b.count i y room j l o) s)
 

@@ -1,5 +1,6 @@
 -- Names by spelling: "A looked-up name is a part of the old text or of the new." The headers' names are parts of the
 -- old text, the new function's names parts of the new one.
+use Rattle.std.specs.Prelude.{None, Option, Some}
 use Rattle.std.specs.Prelude.{ℕ, zero, suc, ◌+◌, ◌≤◌, ◌<◌, ◌≡◌, List, [], leb, length, get_or}
 use Rattle.std.proofs.Math.Seq.{slice}
 use Rattle.utils.specs.Bytes.{pick, same_bytes}
@@ -10,8 +11,6 @@ use Rattle.lexer.specs.declared.Found.TheVariants as F
 use Rattle.functions.specs.Columns.{place_at, length_at}
 use Rattle.sema.specs.Typing.{Global}
 use Rattle.sema.specs.Globals.{global_of}
-use Rattle.functions.specs.declared.FoundRow.{FoundRow}
-use Rattle.functions.specs.declared.FoundRow.TheVariants as W
 use Rattle.elaborate.specs.Types.{type_cell_of}
 use Rattle.headers.specs.declared.Looked.{Looked}
 use Rattle.headers.specs.declared.Looked.TheVariants as L
@@ -41,14 +40,14 @@ name_spelled new names x (suc n) name =
     pick (same_bytes name (name_of new names x)) (F.At record { 0 = x }) more
 
 -- the first of n rows, from row i on, whose name is spelled so
-unfoldable pub row_spelled : List ℕ → List ℕ → ℕ → ℕ → List ℕ → FoundRow
-row_spelled old rows i zero name = W.Absent
+unfoldable pub row_spelled : List ℕ → List ℕ → ℕ → ℕ → List ℕ → Option ℕ
+row_spelled old rows i zero name = None
 row_spelled old rows i (suc n) name =
     let more = row_spelled old rows (i + 1) n name in
-    pick (same_bytes (row_name old rows i) name) (W.At i) more
+    pick (same_bytes (row_name old rows i) name) (Some i) more
 
 -- the row of a callee, by its number among the new text's names
-abbrev pub callee_row : List ℕ → List ℕ → List ℕ → List ℕ → ℕ → FoundRow
+abbrev pub callee_row : List ℕ → List ℕ → List ℕ → List ℕ → ℕ → Option ℕ
 callee_row old rows new names x = row_spelled old rows 0 (get_or rows 0 0) (name_of new names x)
 
 -- its function type, for typing

@@ -1,4 +1,5 @@
 -- The items cut into blocks, one block a turn: what is left, resolved and stored from here, gives the whole.
+use Rattle.std.specs.Prelude.{Err, Ok, Result}
 use Prim.Native.Nat.{ℕ, zero, suc, ◌+◌, ◌-◌, ◌*◌, ◌≤◌, ◌<◌}
 use mathlib.Core.Path.{◌≡◌, refl, sym, ap, subst, ◌∙◌}
 use mathlib.Core.Bool.{Bool, true, false}
@@ -24,9 +25,6 @@ use Rattle.link.specs.Table.{leading, label_place}
 use Rattle.link.specs.Steps.{Cut, goes_d, run, put_goes, counted_by, added_d, added_cells, closed_of, put_closed}
 use Rattle.link.specs.Steps.{numbered_by}
 use Rattle.link.specs.declared.Goes.{Goes}
-use Rattle.link.specs.declared.Goes.TheVariants as G
-use Rattle.link.specs.declared.Numbered.{Numbered}
-use Rattle.link.specs.declared.Numbered.TheVariants as N
 use Rattle.link.proofs.Places.{Gone, gone, same_place}
 use Rattle.link.proofs.Closing.{closing, opened, beyond, others, first-closed, others_none, others_more}
 use Rattle.link.proofs.Closing.{filled_beyond, parts_length, beyond_at, Closed, closed_at}
@@ -109,9 +107,9 @@ cut-start items first count before base named cells e few room =
 
 -- A turn. -----------------------------------------------------------------------------------------------------------
 
-counted-refused : (k : ℕ) (g : Goes) (e : Refusal) → counted_by k g ≡ N.Refused e → g ≡ G.Refused e
-counted-refused k (G.Done c x y) e h = let z : ◌≡◌ {A = ℕ} 0 1 = cc in absurd (omega arith)
-counted-refused k (G.Refused e') e h = cc
+counted-refused : (k : ℕ) (g : Result Goes Refusal) (e : Refusal) → counted_by k g ≡ Err e → g ≡ Err e
+counted-refused k (Ok (record { count = c; to = x; other = y })) e h = let z : ◌≡◌ {A = ℕ} 0 1 = cc in absurd (omega arith)
+counted-refused k (Err e') e h = cc
 
 module _ (items : List ℕ) (all : List Block) (named first end base : ℕ) (cells₀ cells : List ℕ) (from k : ℕ)
     (cut : Cutting items all named first end base cells₀ cells from k) (stop : ℕ)
@@ -161,21 +159,21 @@ module _ (items : List ℕ) (all : List Block) (named first end base : ℕ) (cel
         (goes_d before names (record_at items (stop - 1)))
     last_gone = gone all before names same (record_at items (stop - 1))
 
-    went_wrong : (e : Refusal) → goes_d before names (record_at items (stop - 1)) ≡ G.Refused e
+    went_wrong : (e : Refusal) → goes_d before names (record_at items (stop - 1)) ≡ Err e
         → resolve_from all named all ≡ refused e
     went_wrong e h =
         let r = record_at items (stop - 1) in
-        let g : Gone all r.token (goes_of r) (G.Refused e) =
-        subst (λ (x : Goes). Gone all r.token (goes_of r) x) h last_gone in
+        let g : Gone all r.token (goes_of r) (Err e) =
+        subst (λ (x : Result Goes Refusal). Gone all r.token (goes_of r) x) h last_gone in
         resolved ∙ g (resolve_from all named more)
 
-    went : (c : ℕ) (x y : BlockId) → goes_d before names (record_at items (stop - 1)) ≡ G.Done c x y
-        → Left all named first base cells₀ (put_goes cells k from (stop - from) (G.Done c x y)) (k + 1) more
+    went : (c : ℕ) (x y : BlockId) → goes_d before names (record_at items (stop - 1)) ≡ Ok (record { count = c; to = x; other = y })
+        → Left all named first base cells₀ (put_goes cells k from (stop - from) (Ok (record { count = c; to = x; other = y }))) (k + 1) more
     unfolding put_closed
     went c x y h =
         let r = record_at items (stop - 1) in
-        let g : Gone all r.token (goes_of r) (G.Done c x y) =
-        subst (λ (x : Goes). Gone all r.token (goes_of r) x) h last_gone in
+        let g : Gone all r.token (goes_of r) (Ok (record { count = c; to = x; other = y })) =
+        subst (λ (x : Result Goes Refusal). Gone all r.token (goes_of r) x) h last_gone in
         let e : from + run here - 1 ≡ stop - 1 = omega arith in
         let l : block.goes ≡ goes_of r = rw e at (shut.last_goes some) in
         let f : first + block.first ≡ from = omega (arith, shut.begins, cut.low) in
@@ -197,8 +195,8 @@ module _ (items : List ℕ) (all : List Block) (named first end base : ℕ) (cel
         }
 
   refused-by : (e : Refusal) (t : Bool) → eqb stop from ≡ t
-      → pick t (N.Refused (refusal 22 named 0)) (counted_by k (goes_d before names (record_at items (stop - 1))))
-      ≡ N.Refused e
+      → pick t (Err (refusal 22 named 0)) (counted_by k (goes_d before names (record_at items (stop - 1))))
+      ≡ Err e
       → resolve_from all named all ≡ refused e
   unfolding pick
   refused-by e true q u =
@@ -212,19 +210,19 @@ module _ (items : List ℕ) (all : List Block) (named first end base : ℕ) (cel
       above_of h = omega (arith, h, ends)
 
   -- a refusal of the block is the function's
-  pub turn_refused : (e : Refusal) → added_d before names items from stop (refusal 22 named 0) k ≡ N.Refused e
+  pub turn_refused : (e : Refusal) → added_d before names items from stop (refusal 22 named 0) k ≡ Err e
       → resolve_from all named all ≡ refused e
   unfolding added_d
   turn_refused e h = refused-by e (eqb stop from) refl h
 
-  done-by : (m : ℕ) (t : Bool) (g : Goes) → eqb stop from ≡ t → goes_d before names (record_at items (stop - 1)) ≡ g
-      → pick t (N.Refused (refusal 22 named 0)) (counted_by k g) ≡ N.Done m
+  done-by : (m : ℕ) (t : Bool) (g : Result Goes Refusal) → eqb stop from ≡ t → goes_d before names (record_at items (stop - 1)) ≡ g
+      → pick t (Err (refusal 22 named 0)) (counted_by k g) ≡ Ok m
       → (m ≡ k + 1) × (from < stop)
       × Left all named first base cells₀ (pick t cells (put_goes cells k from (stop - from) g)) (k + 1) more
   unfolding pick
   done-by m true g q h u = let z : ◌≡◌ {A = ℕ} 0 1 = cc in absurd (omega arith)
-  done-by m false (G.Refused e) q h u = let z : ◌≡◌ {A = ℕ} 0 1 = cc in absurd (omega arith)
-  done-by m false (G.Done c x y) q h u =
+  done-by m false (Err e) q h u = let z : ◌≡◌ {A = ℕ} 0 1 = cc in absurd (omega arith)
+  done-by m false (Ok (record { count = c; to = x; other = y })) q h u =
       let n : k + 1 ≡ m = cc in
       (sym n, above_of (eqb-false stop from q), went (above_of (eqb-false stop from q)) c x y h)
     where
@@ -232,16 +230,16 @@ module _ (items : List ℕ) (all : List Block) (named first end base : ℕ) (cel
       above_of h = omega (arith, h, ends)
 
   -- a block more is done
-  pub turn_done : (m : ℕ) → added_d before names items from stop (refusal 22 named 0) k ≡ N.Done m
+  pub turn_done : (m : ℕ) → added_d before names items from stop (refusal 22 named 0) k ≡ Ok m
       → (m ≡ k + 1) × (from < stop) × Left all named first base cells₀ (added_cells before names items from stop cells
       k) (k + 1) more
   unfolding added_d added_cells
   turn_done m h = done-by m (eqb stop from) (goes_d before names (record_at items (stop - 1))) refl refl h
 
   -- it was the last
-  pub cut-end : (m : ℕ) (cells' : List ℕ) → added_d before names items from stop (refusal 22 named 0) k ≡ N.Done m
+  pub cut-end : (m : ℕ) (cells' : List ℕ) → added_d before names items from stop (refusal 22 named 0) k ≡ Ok m
       → cells' ≡ added_cells before names items from stop cells k → stop ≡ end
-      → (N.Done (m - base) ≡ numbered_by all (resolve_from all named all))
+      → (Ok (m - base) ≡ numbered_by all (resolve_from all named all))
       × (cells' ≡ put_closed all first cells₀ base all)
   unfolding resolve_from put_closed
   cut-end m cells' h e last =
@@ -256,7 +254,7 @@ module _ (items : List ℕ) (all : List Block) (named first end base : ℕ) (cel
       (rw (← l.resolves, n), e ∙ l.stored)
 
   -- it was not
-  pub cut_on : (m : ℕ) (cells' : List ℕ) → added_d before names items from stop (refusal 22 named 0) k ≡ N.Done m
+  pub cut_on : (m : ℕ) (cells' : List ℕ) → added_d before names items from stop (refusal 22 named 0) k ≡ Ok m
       → cells' ≡ added_cells before names items from stop cells k → stop < end
       → Cutting items all named first end base cells₀ cells' (stop + 1) m
   cut_on m cells' h e on =
@@ -304,32 +302,32 @@ module _ {items : List ℕ} {first count named : ℕ} {labels : List ℕ} {label
     pub next-room : from < stop → k < 1024
     next-room = cut-room items all named first (first + count) base cells₀ cells from k cut stop ends before names same
 
-    module _ {empty : Refusal} {r : Numbered} (e : empty ≡ refusal 22 named 0)
+    module _ {empty : Refusal} {r : Result ℕ Refusal} (e : empty ≡ refusal 22 named 0)
         (adds : r ≡ added_d before names items from stop empty k)
       where
-        added : {x : Numbered} → r ≡ x → added_d before names items from stop (refusal 22 named 0) k ≡ x
+        added : {x : Result ℕ Refusal} → r ≡ x → added_d before names items from stop (refusal 22 named 0) k ≡ x
         added h = rw (← e) (sym adds ∙ h)
 
-        pub next-refused : {x : Refusal} → r ≡ N.Refused x → resolve_from all named all ≡ refused x
+        pub next-refused : {x : Refusal} → r ≡ Err x → resolve_from all named all ≡ refused x
         next-refused {x} h =
             turn_refused items all named first (first + count) base cells₀ cells from k cut stop ends before names same
             x (added h)
 
-        pub next_above : {m : ℕ} → r ≡ N.Done m → base ≤ m
+        pub next_above : {m : ℕ} → r ≡ Ok m → base ≤ m
         next_above {m} h =
             let d = turn_done items all named first (first + count) base cells₀ cells from k cut stop ends before names
             same m (added h) in
             omega (arith, d.0, d.2.above)
 
-        pub next_last : {m : ℕ} {cells' : List ℕ} → r ≡ N.Done m
+        pub next_last : {m : ℕ} {cells' : List ℕ} → r ≡ Ok m
             → cells' ≡ added_cells before names items from stop cells k → stop ≡ first + count
-            → (N.Done (m - base) ≡ numbered_by all (resolve_from all named all))
+            → (Ok (m - base) ≡ numbered_by all (resolve_from all named all))
             × (cells' ≡ put_closed all first cells₀ base all)
         next_last {m} {cells'} h =
             cut-end items all named first (first + count) base cells₀ cells from k cut stop ends before names same
             m cells' (added h)
 
-        pub next-on : {m : ℕ} {cells' : List ℕ} → r ≡ N.Done m
+        pub next-on : {m : ℕ} {cells' : List ℕ} → r ≡ Ok m
             → cells' ≡ added_cells before names items from stop cells k → stop < first + count
             → Cutting items all named first (first + count) base cells₀ cells' (stop + 1) m
         next-on {m} {cells'} h =

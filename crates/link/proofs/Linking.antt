@@ -1,4 +1,5 @@
 -- From the blocks cut and the edges entered to the whole answer.
+use Rattle.std.specs.Prelude.{Err, Ok, Result}
 use Prim.Native.Nat.{ℕ, ◌+◌, ◌-◌, ◌*◌, ◌≤◌}
 use mathlib.Core.Path.{◌≡◌, refl, sym, ap, subst, ◌∙◌}
 use mathlib.Core.Bool.{true}
@@ -16,31 +17,28 @@ use Rattle.body.specs.Records.{parts_at}
 use Rattle.body.specs.Room.{filled}
 use Rattle.link.specs.Cells.{predecessor_cells, link_d, Linking}
 use Rattle.link.specs.Steps.{Ready, ClosedHeld, put_closed, numbered_by, links_from, entries_from, put_entered}
-use Rattle.link.specs.declared.Linked.TheVariants as L
-use Rattle.link.specs.declared.Numbered.{Numbered}
-use Rattle.link.specs.declared.Numbered.TheVariants as N
 use Rattle.link.proofs.Edges.{thin_blocks, entries-few}
 use Rattle.link.proofs.Laws.{blocks-counted, at_most_256}
 use Rattle.link.proofs.Whole.{links_back, records-whole, entries_are}
 
-numbered-refused : (bs : List Block) (x : Resolved) (e : Refusal) → N.Refused e ≡ numbered_by bs x → x ≡ refused e
+numbered-refused : (bs : List Block) (x : Resolved) (e : Refusal) → Err e ≡ numbered_by bs x → x ≡ refused e
 numbered-refused bs fine e h = let z : ◌≡◌ {A = ℕ} 0 1 = cc in absurd (omega arith)
 numbered-refused bs (refused e') e h = cc
 
-numbered-done : (bs : List Block) (x : Resolved) (n : ℕ) → N.Done n ≡ numbered_by bs x → (x ≡ fine) × (n ≡ length bs)
+numbered-done : (bs : List Block) (x : Resolved) (n : ℕ) → Ok n ≡ numbered_by bs x → (x ≡ fine) × (n ≡ length bs)
 numbered-done bs fine n h = (refl, cc)
 numbered-done bs (refused e) n h = let z : ◌≡◌ {A = ℕ} 0 1 = cc in absurd (omega arith)
 
 pub link_refused : (ps : List Shape) (named : ℕ) (e : Refusal)
-    → N.Refused e ≡ numbered_by (blocks_of ps) (resolve_d named (blocks_of ps)) → L.Refused e ≡ link_d named ps
+    → Err e ≡ numbered_by (blocks_of ps) (resolve_d named (blocks_of ps)) → Err e ≡ link_d named ps
 unfolding link_d
 link_refused ps named e h = rw (numbered-refused (blocks_of ps) (resolve_d named (blocks_of ps)) e h)
 
 module _ {items : List ℕ} {first count : ℕ} {labels : List ℕ} {labelled : ℕ} {cells₀ : List ℕ} {base : ℕ}
     {preds₀ : List ℕ} {used : ℕ} (ready : Ready items first count labels labelled cells₀ base preds₀ used)
-    (named : ℕ) (cells : List ℕ) {r : Numbered} {n : ℕ}
+    (named : ℕ) (cells : List ℕ) {r : Result ℕ Refusal} {n : ℕ}
     (e : r ≡ numbered_by (blocks_of (parts_at items first count)) (resolve_d named (blocks_of (parts_at items first count))))
-    (h : ClosedHeld (blocks_of (parts_at items first count)) first base cells₀ cells r) (f : r ≡ N.Done n)
+    (h : ClosedHeld (blocks_of (parts_at items first count)) first base cells₀ cells r) (f : r ≡ Ok n)
   where
     abbrev ps : List Shape
     ps = parts_at items first count
@@ -51,11 +49,11 @@ module _ {items : List ℕ} {first count : ℕ} {labels : List ℕ} {labelled : 
     abbrev links : List (List ℕ)
     links = successors all all
 
-    done : N.Done n ≡ numbered_by all (resolve_d named all)
+    done : Ok n ≡ numbered_by all (resolve_d named all)
     done = sym f ∙ e
 
     closed : cells ≡ put_closed all first cells₀ base all
-    closed = subst (λ (x : Numbered). ClosedHeld all first base cells₀ cells x) f h
+    closed = subst (λ (x : Result ℕ Refusal). ClosedHeld all first base cells₀ cells x) f h
 
     few : base + filled true ps ≤ 1024
     few = ready.few_blocks
@@ -102,7 +100,7 @@ module _ {items : List ℕ} {first count : ℕ} {labels : List ℕ} {labelled : 
     enter-ready long = (rows_enough, fits, omega (arith, long, room), entries_fit, ready.predecessors_there)
 
     pub link_done : (next : ℕ) → next ≡ used + length (entries_from 0 (links_from (recorded cells base) 0 n) n)
-        → L.Done n (next - used) ≡ link_d named ps
+        → Ok (record { blocks = n; predecessors = (next - used) }) ≡ link_d named ps
     unfolding link_d
     link_done next h =
         let m : next - used ≡ length (predecessor_cells 0 links all) = omega (arith, h, ap length entries) in

@@ -1,4 +1,5 @@
 -- What each function of this crate does, in terms of the cells that it reads.
+use Rattle.std.specs.Prelude.{Err, None, Ok, Option, Result, Some}
 use Rattle.std.specs.Prelude.{ℕ, zero, suc, ◌+◌, ◌-◌, ◌*◌, ◌≤◌, ◌≡◌, List, [], ◌∷◌, ◌++◌, Bool, true, false, ltb, eqb, length, get_or, take}
 use Rattle.std.proofs.lemmas.List.Edits.{sets}
 use Rattle.utils.specs.Bytes.{pick}
@@ -18,12 +19,7 @@ use Rattle.body.specs.declared.Last.{Last}
 use Rattle.body.specs.declared.Last.TheVariants as L
 use Rattle.link.specs.Table.{label_place, leading}
 use Rattle.link.specs.Cells.{bit}
-use Rattle.link.specs.declared.Found.{Found}
-use Rattle.link.specs.declared.Found.TheVariants as F
 use Rattle.link.specs.declared.Goes.{Goes}
-use Rattle.link.specs.declared.Goes.TheVariants as G
-use Rattle.link.specs.declared.Numbered.{Numbered}
-use Rattle.link.specs.declared.Numbered.TheVariants as N
 
 -- a block's cells
 abbrev pub block_width : ℕ
@@ -67,35 +63,35 @@ pub record Cut (items : List ℕ) (first count : ℕ) (labels : List ℕ) (label
 abbrev pub block_id : ℕ → BlockId
 block_id k = record { 0 = k }
 
-abbrev pub found_of : Place → Found
-found_of (at k) = F.At (block_id k)
-found_of nowhere = F.Nowhere
+abbrev pub found_of : Place → Option BlockId
+found_of (at k) = Some (block_id k)
+found_of nowhere = None
 
 -- what follows a label that was found, and one that was not
-unfoldable pub then_found : {A : Type 0} → Found → (BlockId → A) → A → A
-then_found (F.At k) found none = found k
-then_found F.Nowhere found none = none
+unfoldable pub then_found : {A : Type 0} → Option BlockId → (BlockId → A) → A → A
+then_found (Some k) found none = found k
+then_found None found none = none
 
 -- where the label of a `jmp` leads
-unfoldable pub one_d : ℕ → List ℕ → ℕ → ℕ → Goes
+unfoldable pub one_d : ℕ → List ℕ → ℕ → ℕ → Result Goes Refusal
 one_d before names token l =
-    then_found (found_of (label_place before 0 names l)) (λ x. G.Done 1 x (block_id 0)) (G.Refused (missing token l))
+    then_found (found_of (label_place before 0 names l)) (λ x. Ok (record { count = 1; to = x; other = (block_id 0) })) (Err (missing token l))
 
 -- where those of a `br` lead, the first of them resolved first
-unfoldable pub two_d : ℕ → List ℕ → ℕ → ℕ → ℕ → Goes
+unfoldable pub two_d : ℕ → List ℕ → ℕ → ℕ → ℕ → Result Goes Refusal
 two_d before names token l m =
     then_found (found_of (label_place before 0 names l)) (λ x.
-    then_found (found_of (label_place before 0 names m)) (λ y. G.Done 2 x y) (G.Refused (missing token m)))
-    (G.Refused (missing token l))
+    then_found (found_of (label_place before 0 names m)) (λ y. Ok (record { count = 2; to = x; other = y })) (Err (missing token m)))
+    (Err (missing token l))
 
 -- where a block leads whose last operation has this record: by its kind and its last two cells
-unfoldable pub leads_by : ℕ → List ℕ → ℕ → ℕ → Last → Goes
+unfoldable pub leads_by : ℕ → List ℕ → ℕ → ℕ → Last → Result Goes Refusal
 leads_by before names kind token (L.Name l t) =
-    pick (eqb kind K.jump) (one_d before names token l.0) (G.Done 0 (block_id 0) (block_id 0))
+    pick (eqb kind K.jump) (one_d before names token l.0) (Ok (record { count = 0; to = (block_id 0); other = (block_id 0) }))
 leads_by before names kind token (L.Labels l m) = two_d before names token l.0 m.0
-leads_by before names kind token (L.Run first count) = G.Done 0 (block_id 0) (block_id 0)
+leads_by before names kind token (L.Run first count) = Ok (record { count = 0; to = (block_id 0); other = (block_id 0) })
 
-unfoldable pub goes_d : ℕ → List ℕ → ItemRecord → Goes
+unfoldable pub goes_d : ℕ → List ℕ → ItemRecord → Result Goes Refusal
 goes_d before names r = leads_by before names r.kind r.token r.last
 
 -- Blocks. -----------------------------------------------------------------------------------------------------------
@@ -107,20 +103,20 @@ run (name l ∷ ps) = 0
 run (operation w goes ∷ ps) = run ps + 1
 
 -- record k, once the block's labels are resolved; its predecessors and its dead mark are 0 until all blocks stand
-abbrev pub put_goes : List ℕ → ℕ → ℕ → ℕ → Goes → List ℕ
-put_goes cells k from n (G.Done c x y) = sets cells (k * 8) (cells_of (block_record from n c x.0 y.0 0 0 0))
-put_goes cells k from n (G.Refused e) = cells
+abbrev pub put_goes : List ℕ → ℕ → ℕ → ℕ → Result Goes Refusal → List ℕ
+put_goes cells k from n (Ok (record { count = c; to = x; other = y })) = sets cells (k * 8) (cells_of (block_record from n c x.0 y.0 0 0 0))
+put_goes cells k from n (Err e) = cells
 
 -- how many blocks there are after one that leads there
-abbrev pub counted_by : ℕ → Goes → Numbered
-counted_by n (G.Done c x y) = N.Done (n + 1)
-counted_by n (G.Refused e) = N.Refused e
+abbrev pub counted_by : ℕ → Result Goes Refusal → Result ℕ Refusal
+counted_by n (Ok (record { count = c; to = x; other = y })) = Ok (n + 1)
+counted_by n (Err e) = Err e
 
 -- Record k after the block of the operations from `from` to before `stop`, which stands there then: `empty` where there
 -- are none.
-unfoldable pub added_d : ℕ → List ℕ → List ℕ → ℕ → ℕ → Refusal → ℕ → Numbered
+unfoldable pub added_d : ℕ → List ℕ → List ℕ → ℕ → ℕ → Refusal → ℕ → Result ℕ Refusal
 added_d before names items from stop empty k =
-    pick (eqb stop from) (N.Refused empty) (counted_by k (goes_d before names (record_at items (stop - 1))))
+    pick (eqb stop from) (Err empty) (counted_by k (goes_d before names (record_at items (stop - 1))))
 
 unfoldable pub added_cells : ℕ → List ℕ → List ℕ → ℕ → ℕ → List ℕ → ℕ → List ℕ
 added_cells before names items from stop cells k =
@@ -136,13 +132,13 @@ put_closed all first cells k [] = cells
 put_closed all first cells k (b ∷ bs) =
     put_closed all first (sets cells (k * 8) (cells_of (closed_of first b (places all b.goes)))) (k + 1) bs
 
-abbrev pub numbered_by : List Block → Resolved → Numbered
-numbered_by bs fine = N.Done (length bs)
-numbered_by bs (refused e) = N.Refused e
+abbrev pub numbered_by : List Block → Resolved → Result ℕ Refusal
+numbered_by bs fine = Ok (length bs)
+numbered_by bs (refused e) = Err e
 
-abbrev pub ClosedHeld : List Block → ℕ → ℕ → List ℕ → List ℕ → Numbered → Type 0
-ClosedHeld all first base cells₀ cells (N.Done n) = cells ≡ put_closed all first cells₀ base all
-ClosedHeld all first base cells₀ cells (N.Refused e) = Unit
+abbrev pub ClosedHeld : List Block → ℕ → ℕ → List ℕ → List ℕ → Result ℕ Refusal → Type 0
+ClosedHeld all first base cells₀ cells (Ok n) = cells ≡ put_closed all first cells₀ base all
+ClosedHeld all first base cells₀ cells (Err e) = Unit
 
 -- Edges. ------------------------------------------------------------------------------------------------------------
 

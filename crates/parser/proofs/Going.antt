@@ -1,5 +1,7 @@
 -- The loops that store a run: what is left to read, read from here, gives the whole run; what is stored is what was
 -- read. One lemma for each way a turn can end, for formals and arguments alike.
+use Rattle.std.specs.Prelude.{Err, Ok, Result}
+use Rattle.parser.specs.declared.Refusal.{Refusal}
 use Prim.Native.Nat.{ℕ, suc, ◌+◌, ◌*◌, ◌≤◌, ◌<◌}
 use mathlib.Core.Path.{◌≡◌, refl, sym, ap, ◌∙◌}
 use mathlib.Core.List.{List}
@@ -10,8 +12,6 @@ use lib.Seq.{sets, length-sets}
 use Rattle.parser.specs.Step.{then_at}
 use Rattle.parser.specs.Runs.{Variables, ended, and_then, variable_cells, variables_cells, run_of}
 use Rattle.parser.specs.declared.Variable.{Variable}
-use Rattle.parser.specs.declared.Consumed.{Consumed}
-use Rattle.parser.specs.declared.Run.TheVariants as U
 
 -- of the whole run n variables are stored, and `rest` is left
 pub record Going (whole rest : Variables) (used : ℕ) (b₀ b : List ℕ) (n : ℕ) : Type 0 where
@@ -25,9 +25,9 @@ pub begin : (whole : Variables) (used : ℕ) (b : List ℕ) → Going whole whol
 begin whole used b = record { few = omega arith; long = refl; ends = refl; count = omega arith; stored = rw add-zero }
 
 -- nothing is left
-pub stop : {whole rest : Variables} {used : ℕ} {b₀ b : List ℕ} {n : ℕ} (e : Consumed)
+pub stop : {whole rest : Variables} {used : ℕ} {b₀ b : List ℕ} {n : ℕ} (e : Result ℕ Refusal)
     → Going whole rest used b₀ b n → rest ≡ ended e
-    → (then_at U.Refused e (λ i. U.Done n i) ≡ run_of whole) × (b ≡ sets b₀ used (variables_cells whole.list))
+    → (then_at Err e (λ i. Ok (record { count = n; next = i })) ≡ run_of whole) × (b ≡ sets b₀ used (variables_cells whole.list))
 unfolding run_of variables_cells
 stop {whole} {rest} {n = n} e g h =
     let i : whole.end ≡ e = sym g.ends ∙ ap (λ (r : Variables). r.end) h in

@@ -1,6 +1,5 @@
 -- Steps, runs of formals and arguments, and demand 3, in reading order.
 -- the steps that lead to a return
-pub mod Taken
 -- one turn of each loop over a run, a label, a call
 pub mod Turning
 -- the loops that store a run: what is left to read gives the whole

@@ -1,5 +1,6 @@
 -- The simulation of demand 3, one lemma for each definition: related tokens give related answers. What follows a step
 -- is related where it is related whatever the step gave; each definition is a chain of such steps.
+use Rattle.std.specs.Prelude.{Result}
 use Prim.Native.Nat.{ℕ, zero, suc, ◌+◌, ◌≤◌, ◌<◌}
 use mathlib.Core.Path.{◌≡◌, refl, sym, ap, ◌∙◌}
 use mathlib.Core.List.{List}
@@ -24,10 +25,6 @@ use Rattle.parser.specs.Moved.{Each, SimVs, SimCalling, SimNumber}
 use Rattle.parser.specs.declared.Refusal.{Refusal}
 use Rattle.parser.specs.declared.Ty.{Ty}
 use Rattle.parser.specs.declared.Variable.{Variable}
-use Rattle.parser.specs.declared.Consumed.{Consumed}
-use Rattle.parser.specs.declared.Named.{Named}
-use Rattle.parser.specs.declared.TypeRead.{TypeRead}
-use Rattle.parser.specs.declared.Defined.{Defined}
 
 -- What follows a step, whatever it is.
 module _ {A : Type 0} (T : Move → ℕ → A → A → Type 0) (m : Move) (n : ℕ) where
@@ -38,7 +35,7 @@ module _ {A : Type 0} (T : Move → ℕ → A → A → Type 0) (m : Move) (n : 
   pick_s false x y x' y' f g = g
 
   module _ (f f' : Refusal → A) where
-    pub then_at_s : {c c' : Consumed} (k k' : ℕ → A) → Rel m n SimC c c'
+    pub then_at_s : {c c' : Result ℕ Refusal} (k k' : ℕ → A) → Rel m n SimC c c'
         → ((e e' : Refusal) → SimE m n e e' → Rel m n T (f e) (f' e'))
         → ((i : ℕ) → i < n → Rel m n T (k (m.by + i)) (k' i))
         → Rel m n T (then_at f c k) (then_at f' c' k')
@@ -46,7 +43,7 @@ module _ {A : Type 0} (T : Move → ℕ → A → A → Type 0) (m : Move) (n : 
     then_at_s k k' (Rel.is (SimC.at i h)) w g = g i h
     then_at_s k k' (Rel.is (SimC.refused e e' r)) w g = w e e' r
 
-    pub then_named_s : {c c' : Named} (k k' : Identifier → ℕ → A) → Rel m n SimN c c'
+    pub then_named_s : {c c' : Result (Identifier × ℕ) Refusal} (k k' : Identifier → ℕ → A) → Rel m n SimN c c'
         → ((e e' : Refusal) → SimE m n e e' → Rel m n T (f e) (f' e'))
         → ((x x' : Identifier) → SimName m x x' → (i : ℕ) → i < n → Rel m n T (k x (m.by + i)) (k' x' i))
         → Rel m n T (then_named f c k) (then_named f' c' k')
@@ -54,7 +51,7 @@ module _ {A : Type 0} (T : Move → ℕ → A → A → Type 0) (m : Move) (n : 
     then_named_s k k' (Rel.is (SimN.at {x} {x'} q i h)) w g = g x x' q i h
     then_named_s k k' (Rel.is (SimN.refused e e' r)) w g = w e e' r
 
-    pub then_type_s : {c c' : TypeRead} (k k' : Ty → ℕ → A) → Rel m n SimR c c'
+    pub then_type_s : {c c' : Result (Ty × ℕ) Refusal} (k k' : Ty → ℕ → A) → Rel m n SimR c c'
         → ((e e' : Refusal) → SimE m n e e' → Rel m n T (f e) (f' e'))
         → ((t : Ty) (i : ℕ) → i < n → Rel m n T (k t (m.by + i)) (k' t i))
         → Rel m n T (then_type f c k) (then_type f' c' k')
@@ -62,7 +59,7 @@ module _ {A : Type 0} (T : Move → ℕ → A → A → Type 0) (m : Move) (n : 
     then_type_s k k' (Rel.is (SimR.at t i h)) w g = g t i h
     then_type_s k k' (Rel.is (SimR.refused e e' r)) w g = w e e' r
 
-    pub then_defined_s : {c c' : Defined} (k k' : Variable → ℕ → A) → Rel m n SimD c c'
+    pub then_defined_s : {c c' : Result (Variable × ℕ) Refusal} (k k' : Variable → ℕ → A) → Rel m n SimD c c'
         → ((e e' : Refusal) → SimE m n e e' → Rel m n T (f e) (f' e'))
         → ((v v' : Variable) → SimV m v v' → (i : ℕ) → i < n → Rel m n T (k v (m.by + i)) (k' v' i))
         → Rel m n T (then_defined f c k) (then_defined f' c' k')
@@ -103,7 +100,7 @@ pub ruleset shapes = (
 )
 
 -- a run that has ended, and one with a variable more
-pub ended_s : {m : Move} {n : ℕ} (c c' : Consumed) → Rel m n SimC c c' → Rel m n SimVs (ended c) (ended c')
+pub ended_s : {m : Move} {n : ℕ} (c c' : Result ℕ Refusal) → Rel m n SimC c c' → Rel m n SimVs (ended c) (ended c')
 ended_s c c' (Rel.is q) = Rel.is (record { list = Each.none; end = q })
 
 pub and_then_s : {m : Move} {n : ℕ} {v v' : Variable} (r r' : Variables) → SimV m v v' → Rel m n SimVs r r'

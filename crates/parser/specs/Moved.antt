@@ -2,6 +2,7 @@
 -- other, moved: tokens go on by `by`, lines by `down`, bytes by `on`, and names, of which there are `names`, are
 -- renamed and stay apart. The parser's definitions give related answers on related tokens; `proofs/Sim.antt` shows it
 -- of each.
+use Rattle.std.specs.Prelude.{Err, Ok, Result}
 use Rattle.std.specs.Prelude.{ℕ, ◌+◌, ◌≤◌, ◌<◌, ◌≡◌, List, [], ◌∷◌, true}
 use Rattle.utils.specs.Bytes.{pick}
 use Rattle.lexer.specs.Decoded.{Tok, is_name, token_at}
@@ -15,14 +16,6 @@ use Rattle.parser.specs.declared.Ty.{Ty}
 use Rattle.parser.specs.declared.Variable.{Variable}
 use Rattle.parser.specs.declared.Operation.{Operation}
 use Rattle.parser.specs.declared.Operation.TheVariants as O
-use Rattle.parser.specs.declared.Consumed.{Consumed}
-use Rattle.parser.specs.declared.Consumed.TheVariants as C
-use Rattle.parser.specs.declared.Named.{Named}
-use Rattle.parser.specs.declared.Named.TheVariants as N
-use Rattle.parser.specs.declared.TypeRead.{TypeRead}
-use Rattle.parser.specs.declared.TypeRead.TheVariants as R
-use Rattle.parser.specs.declared.Defined.{Defined}
-use Rattle.parser.specs.declared.Defined.TheVariants as D
 use Rattle.parser.specs.declared.Parsed.{Parsed}
 use Rattle.parser.specs.declared.Parsed.TheVariants as P
 
@@ -73,25 +66,25 @@ pub data SimE (m : Move) (l : ℕ) : Refusal → Refusal → Type 0 where
       (spelling number token wanted found (record { 0 = 0 }))
 
 -- related answers; an index to go on at is below l
-pub data SimC (m : Move) (l : ℕ) : Consumed → Consumed → Type 0 where
-  at : (i : ℕ) → i < l → SimC m l (C.At (m.by + i)) (C.At i)
-  refused : (e e' : Refusal) → SimE m l e e' → SimC m l (C.Refused e) (C.Refused e')
+pub data SimC (m : Move) (l : ℕ) : Result ℕ Refusal → Result ℕ Refusal → Type 0 where
+  at : (i : ℕ) → i < l → SimC m l (Ok (m.by + i)) (Ok i)
+  refused : (e e' : Refusal) → SimE m l e e' → SimC m l (Err e) (Err e')
 
-pub data SimN (m : Move) (l : ℕ) : Named → Named → Type 0 where
-  at : {x x' : Identifier} → SimName m x x' → (i : ℕ) → i < l → SimN m l (N.At x (m.by + i)) (N.At x' i)
-  refused : (e e' : Refusal) → SimE m l e e' → SimN m l (N.Refused e) (N.Refused e')
+pub data SimN (m : Move) (l : ℕ) : Result (Identifier × ℕ) Refusal → Result (Identifier × ℕ) Refusal → Type 0 where
+  at : {x x' : Identifier} → SimName m x x' → (i : ℕ) → i < l → SimN m l (Ok (x, (m.by + i))) (Ok (x', i))
+  refused : (e e' : Refusal) → SimE m l e e' → SimN m l (Err e) (Err e')
 
-pub data SimR (m : Move) (l : ℕ) : TypeRead → TypeRead → Type 0 where
-  at : (t : Ty) (i : ℕ) → i < l → SimR m l (R.At t (m.by + i)) (R.At t i)
-  refused : (e e' : Refusal) → SimE m l e e' → SimR m l (R.Refused e) (R.Refused e')
+pub data SimR (m : Move) (l : ℕ) : Result (Ty × ℕ) Refusal → Result (Ty × ℕ) Refusal → Type 0 where
+  at : (t : Ty) (i : ℕ) → i < l → SimR m l (Ok (t, (m.by + i))) (Ok (t, i))
+  refused : (e e' : Refusal) → SimE m l e e' → SimR m l (Err e) (Err e')
 
 pub data SimV (m : Move) : Variable → Variable → Type 0 where
   of : {x x' : Identifier} → SimName m x x' → (t : Ty)
       → SimV m (record { id = x; ty = t }) (record { id = x'; ty = t })
 
-pub data SimD (m : Move) (l : ℕ) : Defined → Defined → Type 0 where
-  at : {v v' : Variable} → SimV m v v' → (i : ℕ) → i < l → SimD m l (D.At v (m.by + i)) (D.At v' i)
-  refused : (e e' : Refusal) → SimE m l e e' → SimD m l (D.Refused e) (D.Refused e')
+pub data SimD (m : Move) (l : ℕ) : Result (Variable × ℕ) Refusal → Result (Variable × ℕ) Refusal → Type 0 where
+  at : {v v' : Variable} → SimV m v v' → (i : ℕ) → i < l → SimD m l (Ok (v, (m.by + i))) (Ok (v', i))
+  refused : (e e' : Refusal) → SimE m l e e' → SimD m l (Err e) (Err e')
 
 -- the same operation, with its token, one of the first l, moved and its names renamed
 pub data SimO (m : Move) (l : ℕ) : Operation → Operation → Type 0 where
@@ -110,11 +103,11 @@ pub data SimO (m : Move) (l : ℕ) : Operation → Operation → Type 0 where
   print : (w : ℕ) {x x' : Identifier} → SimName m x x' → w < l → SimO m l (O.Print (m.by + w) x) (O.Print w x')
   nop : (w : ℕ) → w < l → SimO m l (O.Nop (m.by + w)) (O.Nop w)
 
-pub data SimP (m : Move) (l : ℕ) : Parsed → Parsed → Type 0 where
-  done : {o o' : Operation} → SimO m l o o' → (i : ℕ) → i < l → SimP m l (P.Done o (m.by + i)) (P.Done o' i)
-  call : (i : ℕ) → i < l → SimP m l (P.Call (m.by + i)) (P.Call i)
-  call_into : {v v' : Variable} → SimV m v v' → (i : ℕ) → i < l → SimP m l (P.CallInto v (m.by + i)) (P.CallInto v' i)
-  refused : (e e' : Refusal) → SimE m l e e' → SimP m l (P.Refused e) (P.Refused e')
+pub data SimP (m : Move) (l : ℕ) : Result Parsed Refusal → Result Parsed Refusal → Type 0 where
+  done : {o o' : Operation} → SimO m l o o' → (i : ℕ) → i < l → SimP m l (Ok (P.Done o (m.by + i))) (Ok (P.Done o' i))
+  call : (i : ℕ) → i < l → SimP m l (Ok (P.Call (m.by + i))) (Ok (P.Call i))
+  call_into : {v v' : Variable} → SimV m v v' → (i : ℕ) → i < l → SimP m l (Ok (P.CallInto v (m.by + i))) (Ok (P.CallInto v' i))
+  refused : (e e' : Refusal) → SimE m l e e' → SimP m l (Err e) (Err e')
 
 -- lists, element by element
 pub data Each {A : Type 0} (R : A → A → Type 0) : List A → List A → Type 0 where
@@ -137,9 +130,9 @@ abbrev pub SimNumber : Move → ℕ → ℕ → Type 0
 SimNumber m x x' = SimName m (record { 0 = x }) (record { 0 = x' })
 
 -- where the end was asked for, which may stand right behind the l tokens
-pub data SimClose (m : Move) (l : ℕ) : Consumed → Consumed → Type 0 where
-  at : (i : ℕ) → i ≤ l → SimClose m l (C.At (m.by + i)) (C.At i)
-  refused : (e e' : Refusal) → SimE m l e e' → SimClose m l (C.Refused e) (C.Refused e')
+pub data SimClose (m : Move) (l : ℕ) : Result ℕ Refusal → Result ℕ Refusal → Type 0 where
+  at : (i : ℕ) → i ≤ l → SimClose m l (Ok (m.by + i)) (Ok i)
+  refused : (e e' : Refusal) → SimE m l e e' → SimClose m l (Err e) (Err e')
 
 -- The two answers are related by T; a family of its own, so that a search can read m, n and T off.
 pub data Rel (m : Move) (n : ℕ) {A : Type 0} (T : Move → ℕ → A → A → Type 0) : A → A → Type 0 where

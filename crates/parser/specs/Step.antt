@@ -1,21 +1,13 @@
 -- Steps: each looks at tokens, and gives what it found with the index to go on at, or a refusal. A refusal holds its
 -- number, a token's index and what its message needs besides the token, never a line or a place: those are looked up
 -- with the token, by whoever answers. (13 and a header's 15 spell the name of their own token.)
-use Rattle.std.specs.Prelude.{ℕ}
+use Rattle.std.specs.Prelude.{ℕ, Result, Ok, Err}
 use Rattle.pieces.specs.declared.Identifier.{Identifier}
 use Rattle.lexer.specs.declared.TokenAt.{TokenAt}
 use Rattle.utils.specs.Bytes.{pick}
 use Rattle.parser.specs.declared.Refusal.{Refusal}
 use Rattle.parser.specs.declared.Ty.{Ty}
 use Rattle.parser.specs.declared.Variable.{Variable}
-use Rattle.parser.specs.declared.Consumed.{Consumed}
-use Rattle.parser.specs.declared.Consumed.TheVariants as C
-use Rattle.parser.specs.declared.Named.{Named}
-use Rattle.parser.specs.declared.Named.TheVariants as N
-use Rattle.parser.specs.declared.TypeRead.{TypeRead}
-use Rattle.parser.specs.declared.TypeRead.TheVariants as R
-use Rattle.parser.specs.declared.Defined.{Defined}
-use Rattle.parser.specs.declared.Defined.TheVariants as D
 
 -- What a refusal's `wanted` and `found` hold: for 5 the kind that had to stand there, and 0; for 15 the cells of the
 -- type that the name has and of the one it is entered with; for 17 the cells of two types; for 20 two counts of
@@ -29,21 +21,21 @@ unfoldable pub look : {A : Type 0} → TokenAt → (ℕ → ℕ → A) → A
 look t k = k t.kind t.next
 
 -- what follows a step that found what it wanted; `fail` takes its refusal on
-unfoldable pub then_at : {A : Type 0} → (Refusal → A) → Consumed → (ℕ → A) → A
-then_at fail (C.At i) k = k i
-then_at fail (C.Refused e) k = fail e
+unfoldable pub then_at : {A : Type 0} → (Refusal → A) → Result ℕ Refusal → (ℕ → A) → A
+then_at fail (Ok i) k = k i
+then_at fail (Err e) k = fail e
 
-unfoldable pub then_named : {A : Type 0} → (Refusal → A) → Named → (Identifier → ℕ → A) → A
-then_named fail (N.At x i) k = k x i
-then_named fail (N.Refused e) k = fail e
+unfoldable pub then_named : {A : Type 0} → (Refusal → A) → Result (Identifier × ℕ) Refusal → (Identifier → ℕ → A) → A
+then_named fail (Ok p) k = k p.0 p.1
+then_named fail (Err e) k = fail e
 
-unfoldable pub then_type : {A : Type 0} → (Refusal → A) → TypeRead → (Ty → ℕ → A) → A
-then_type fail (R.At t i) k = k t i
-then_type fail (R.Refused e) k = fail e
+unfoldable pub then_type : {A : Type 0} → (Refusal → A) → Result (Ty × ℕ) Refusal → (Ty → ℕ → A) → A
+then_type fail (Ok p) k = k p.0 p.1
+then_type fail (Err e) k = fail e
 
-unfoldable pub then_defined : {A : Type 0} → (Refusal → A) → Defined → (Variable → ℕ → A) → A
-then_defined fail (D.At v i) k = k v i
-then_defined fail (D.Refused e) k = fail e
+unfoldable pub then_defined : {A : Type 0} → (Refusal → A) → Result (Variable × ℕ) Refusal → (Variable → ℕ → A) → A
+then_defined fail (Ok p) k = k p.0 p.1
+then_defined fail (Err e) k = fail e
 
 -- to unfold this is to unfold every step
 unfoldable pub opened : ℕ

@@ -3,7 +3,7 @@ ghost use Rattle.std.specs.Prelude.{◌≡◌, ◌≤◌, length, take};
 ghost use Rattle.lexer.specs.Decoded.{tokens_of};
 ghost use Rattle.parser.specs.Labels.{has, labelled_d};
 
-use crate::{Consumed, Identifier, Named, consume, consume_named, refuse};
+use crate::{Identifier, Refusal, consume, consume_named, refuse};
 use pieces::kinds;
 use utils::{limits, numbers};
 
@@ -11,34 +11,27 @@ fn has_label(labels: &[u32], count: usize, name: Identifier) -> bool
     requires { count ≤ length labels.now }
     ensures { result ≡ has (take count labels.now) name.0 }
 {
-    let mut i: usize = 0;
-    while i < count {
-        if labels[i] == name.0 {
-            return true;
-        }
-        i += 1;
-    }
-    false
+    labels[..count].contains(&name.0)
 }
 
 // A label and its colon; 38, then 13, for the `count` labels that the function has so far.
-pub fn parse_label(tokens: &[u32], at: usize, labels: &[u32], count: usize) -> Named
+#[tactic(auto, unfolding(crate::specs::Step::opened, crate::specs::Labels::labelled_d))]
+pub fn parse_label(
+    tokens: &[u32],
+    at: usize,
+    labels: &[u32],
+    count: usize,
+) -> Result<(Identifier, usize), Refusal>
     requires { count ≤ length labels.now }
     ensures { result ≡ labelled_d (tokens_of tokens.now) (take count labels.now) at }
 {
-    match consume_named(tokens, at, kinds::LABEL, numbers::NO_LABEL) {
-        Named::Refused(e) => Named::Refused(e),
-        Named::At(label, at1) => match consume(tokens, at1, kinds::COLON) {
-            Consumed::Refused(e) => Named::Refused(e),
-            Consumed::At(at2) => {
-                if limits::LABELS <= count {
-                    return Named::Refused(refuse(numbers::TOO_MANY_LABELS, at));
-                }
-                if has_label(labels, count, label) {
-                    return Named::Refused(refuse(numbers::DUPLICATE_LABEL, at));
-                }
-                Named::At(label, at2)
-            }
-        },
+    let (label, at1) = consume_named(tokens, at, kinds::LABEL, numbers::NO_LABEL)?;
+    let at2 = consume(tokens, at1, kinds::COLON)?;
+    if limits::LABELS <= count {
+        return Err(refuse(numbers::TOO_MANY_LABELS, at));
     }
+    if has_label(labels, count, label) {
+        return Err(refuse(numbers::DUPLICATE_LABEL, at));
+    }
+    Ok((label, at2))
 }

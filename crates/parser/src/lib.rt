@@ -77,57 +77,27 @@ pub enum Operation {
     Nop(usize),
 }
 
-// Each step answers the index to go on at, or a refusal.
+// How many variables a run has, and the index to go on at.
 #[derive(Clone, Copy)]
-pub enum Consumed {
-    At(usize),
-    Refused(Refusal),
+pub struct Run {
+    pub count: usize,
+    pub next: usize,
 }
 
+// A call's callee, how many arguments it has, and the index to go on at.
 #[derive(Clone, Copy)]
-pub enum Named {
-    At(Identifier, usize),
-    Refused(Refusal),
+pub struct Called {
+    pub callee: Identifier,
+    pub count: usize,
+    pub next: usize,
 }
 
-#[derive(Clone, Copy)]
-pub enum TypeRead {
-    At(Ty, usize),
-    Refused(Refusal),
-}
-
-// `x: type =`
-#[derive(Clone, Copy)]
-pub enum Defined {
-    At(Variable, usize),
-    Refused(Refusal),
-}
-
-// How many variables a run has and the index to go on at, or a refusal.
-#[derive(Clone, Copy)]
-pub enum Run {
-    Done { count: usize, next: usize },
-    Refused(Refusal),
-}
-
-// A call's callee, how many arguments it has and the index to go on at, or a refusal.
-#[derive(Clone, Copy)]
-pub enum Called {
-    Done {
-        callee: Identifier,
-        count: usize,
-        next: usize,
-    },
-    Refused(Refusal),
-}
-
-// An operation; or a call, with or without a result, whose word stands at the index.
+// An operation and the index to go on at; or a call, with or without a result, whose word stands at the index.
 #[derive(Clone, Copy)]
 pub enum Parsed {
     Done(Operation, usize),
     Call(usize),
     CallInto(Variable, usize),
-    Refused(Refusal),
 }
 
 // A refusal whose message needs no more than its token.
@@ -143,15 +113,16 @@ pub fn refuse(number: u32, token: usize) -> Refusal
     }
 }
 
-// 5 where another kind stands.
-pub fn consume(tokens: &[u32], at: usize, kind: u32) -> Consumed
+// A step answers what it found and the index to go on at, or a refusal: 5 where another kind stands.
+#[tactic(auto, unfolding(crate::specs::Step::opened, crate::specs::Grammar::consume_d))]
+pub fn consume(tokens: &[u32], at: usize, kind: u32) -> Result<usize, Refusal>
     ensures { result ≡ consume_d (tokens_of tokens.now) at kind }
 {
     let t = lexer::token_at(tokens, at);
     if t.kind == kind {
-        return Consumed::At(t.next);
+        return Ok(t.next);
     }
-    Consumed::Refused(Refusal {
+    Err(Refusal {
         number: numbers::TOKEN_EXPECTED,
         token: at,
         wanted: kind,
@@ -161,63 +132,65 @@ pub fn consume(tokens: &[u32], at: usize, kind: u32) -> Consumed
 }
 
 // A local, global or label, or the refusal with this number.
-pub fn consume_named(tokens: &[u32], at: usize, kind: u32, number: u32) -> Named
+#[tactic(auto, unfolding(crate::specs::Step::opened, crate::specs::Grammar::named_d))]
+pub fn consume_named(
+    tokens: &[u32],
+    at: usize,
+    kind: u32,
+    number: u32,
+) -> Result<(Identifier, usize), Refusal>
     ensures { result ≡ named_d (tokens_of tokens.now) at kind number }
 {
     let t = lexer::token_at(tokens, at);
     if t.kind == kind {
-        let name = t.name;
-        return Named::At(name, t.next);
+        return Ok((t.name, t.next));
     }
-    Named::Refused(refuse(number, at))
+    Err(refuse(number, at))
 }
 
-pub fn parse_type(tokens: &[u32], at: usize) -> TypeRead
+#[tactic(auto, unfolding(crate::specs::Step::opened, crate::specs::Grammar::type_d))]
+pub fn parse_type(tokens: &[u32], at: usize) -> Result<(Ty, usize), Refusal>
     ensures { result ≡ type_d (tokens_of tokens.now) at }
 {
     let t = lexer::token_at(tokens, at);
-    if t.kind == kinds::INT {
-        return TypeRead::At(Ty::Int, t.next);
+    match t.kind {
+        kinds::INT => Ok((Ty::Int, t.next)),
+        kinds::BOOL => Ok((Ty::Bool, t.next)),
+        _ => Err(refuse(numbers::NO_TYPE, at)),
     }
-    if t.kind == kinds::BOOL {
-        return TypeRead::At(Ty::Bool, t.next);
-    }
-    TypeRead::Refused(refuse(numbers::NO_TYPE, at))
 }
 
 // The semicolon behind an operation.
-pub(crate) fn parse_end(tokens: &[u32], operation: Operation, at: usize) -> Parsed
+#[tactic(auto, unfolding(crate::specs::Step::opened))]
+pub(crate) fn parse_end(tokens: &[u32], operation: Operation, at: usize) -> Result<Parsed, Refusal>
     ensures { result ≡ end_d (tokens_of tokens.now) operation at }
 {
-    match consume(tokens, at, kinds::SEMICOLON) {
-        Consumed::Refused(e) => Parsed::Refused(e),
-        Consumed::At(next) => Parsed::Done(operation, next),
-    }
+    let next = consume(tokens, at, kinds::SEMICOLON)?;
+    Ok(Parsed::Done(operation, next))
 }
 
-fn parse_definition(tokens: &[u32], at: usize) -> Parsed
+#[tactic(auto, unfolding(crate::specs::Step::opened, crate::specs::Grammar::definition_d))]
+fn parse_definition(tokens: &[u32], at: usize) -> Result<Parsed, Refusal>
     ensures { result ≡ definition_d (tokens_of tokens.now) at }
 {
-    match expression::parse_defined(tokens, at) {
-        Defined::Refused(e) => Parsed::Refused(e),
-        Defined::At(result, at1) => expression::parse_value(tokens, result, at1),
-    }
+    let (result, at1) = expression::parse_defined(tokens, at)?;
+    expression::parse_value(tokens, result, at1)
 }
 
 // One operation from its first token. The Rust's parse_instruction but for labels, which the body's loop reads.
-pub fn parse_instruction(tokens: &[u32], at: usize) -> Parsed
+#[tactic(auto, unfolding(crate::specs::Step::opened, crate::specs::Grammar::instruction_d))]
+pub fn parse_instruction(tokens: &[u32], at: usize) -> Result<Parsed, Refusal>
     ensures { result ≡ instruction_d (tokens_of tokens.now) at }
 {
     let t = lexer::token_at(tokens, at);
-    let kind = t.kind;
     let next = t.next;
-    match kind {
+    match t.kind {
         kinds::PRINT => statement::parse_print(tokens, at, next),
         kinds::RET => statement::parse_ret(tokens, at, next),
         kinds::JMP => statement::parse_jump(tokens, at, next),
         kinds::BR => statement::parse_branch(tokens, at, next),
         kinds::NOP => parse_end(tokens, Operation::Nop(at), next),
-        kinds::CALL => Parsed::Call(at),
+        kinds::CALL => Ok(Parsed::Call(at)),
         _ => parse_definition(tokens, at),
     }
 }

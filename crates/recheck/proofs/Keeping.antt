@@ -1,5 +1,6 @@
 -- A new function that is parsed and keeps its header has the replaced function's name and function type. What `keeps`
 -- looks at is what the parser reads: the entered type plays no part.
+use Rattle.std.specs.Prelude.{Err, Ok, Result}
 use Prim.Native.Nat.{ℕ}
 use mathlib.Core.Path.{◌≡◌, ap}
 use mathlib.Core.List.{List, []}
@@ -13,20 +14,12 @@ use Rattle.pieces.specs.declared.Identifier.{Identifier}
 use Rattle.parser.specs.declared.Refusal.{Refusal}
 use Rattle.parser.specs.declared.Ty.{Ty}
 use Rattle.parser.specs.declared.Variable.{Variable}
-use Rattle.parser.specs.declared.Consumed.{Consumed}
-use Rattle.parser.specs.declared.Consumed.TheVariants as C
-use Rattle.parser.specs.declared.Named.{Named}
-use Rattle.parser.specs.declared.Named.TheVariants as N
-use Rattle.parser.specs.declared.TypeRead.{TypeRead}
-use Rattle.parser.specs.declared.TypeRead.TheVariants as R
 use Rattle.functions.specs.Known.{signature}
 use Rattle.functions.specs.Functions.{Header, HeaderAt, header, no_header, then_header, then_formals}
 use Rattle.functions.specs.Functions.{optional_formals, optional_type}
 use Rattle.functions.specs.Functions.{then_entered, entered_d, signature_d, header_d, BuiltAt, built, not_built}
 use Rattle.functions.specs.Functions.{then_built, built_d}
 use Rattle.functions.specs.Functions.{Function, FunctionAt, function, no_function, then_function, is_void, function_d}
-use Rattle.functions.specs.declared.Entered.{Entered}
-use Rattle.functions.specs.declared.Entered.TheVariants as E
 use Rattle.headers.specs.Kept.{keeps_behind, keeps}
 use Rattle.recheck.specs.Recheck.{alone_d}
 
@@ -82,29 +75,29 @@ module _ (named : List ℕ → Bool) (signed new names : List ℕ) where
   abbrev same : Header → Bool
   same h = pick (named (name_of new names h.name.0)) (same_bytes signed (signature h.ret h.formals)) false
 
-  by-entered : (g : Identifier) (formals : List Variable) (ret : Ty) (z : Entered) (h : Header) (at : ℕ)
+  by-entered : (g : Identifier) (formals : List Variable) (ret : Ty) (z : Result (ℕ × ℕ) Refusal) (h : Header) (at : ℕ)
       → then_entered no_header z (λ type next.
       header (record { name = g; formals = formals; ret = ret; type = type }) next) ≡ header h at
       → pick (named (name_of new names g.0)) (same_bytes signed (signature ret formals)) false ≡ same h
   unfolding then_entered
-  by-entered g formals ret (E.At type next) h at e =
+  by-entered g formals ret (Ok (type, next)) h at e =
       let k : Header = record { name = g; formals = formals; ret = ret; type = type } in
       let q : k ≡ h = cc in
       ap same q
-  by-entered g formals ret (E.Refused r) h at e = absurd (let z : ◌≡◌ {A = ℕ} 0 1 = cc in omega arith)
+  by-entered g formals ret (Err r) h at e = absurd (let z : ◌≡◌ {A = ℕ} 0 1 = cc in omega arith)
 
-  by-type : (g : Identifier) (formals : List Variable) (y : TypeRead) (en : Ty → ℕ → Entered) (h : Header) (at : ℕ)
+  by-type : (g : Identifier) (formals : List Variable) (y : Result (Ty × ℕ) Refusal) (en : Ty → ℕ → Result (ℕ × ℕ) Refusal) (h : Header) (at : ℕ)
       → then_type no_header y (λ ret at2.
       then_entered no_header (en ret at2) (λ type next.
       header (record { name = g; formals = formals; ret = ret; type = type }) next)) ≡ header h at
       → then_type (λ e. true) y (λ ret at2.
       pick (named (name_of new names g.0)) (same_bytes signed (signature ret formals)) false) ≡ same h
   unfolding then_type
-  by-type g formals (R.At ret at2) en h at e = by-entered g formals ret (en ret at2) h at e
-  by-type g formals (R.Refused r) en h at e = absurd (let z : ◌≡◌ {A = ℕ} 0 1 = cc in omega arith)
+  by-type g formals (Ok (ret, at2)) en h at e = by-entered g formals ret (en ret at2) h at e
+  by-type g formals (Err r) en h at e = absurd (let z : ◌≡◌ {A = ℕ} 0 1 = cc in omega arith)
 
-  by-formals : (g : Identifier) (formals : List Variable) (x : Consumed) (ty : ℕ → TypeRead)
-      (en : List Variable → Ty → ℕ → Entered) (h : Header) (at : ℕ)
+  by-formals : (g : Identifier) (formals : List Variable) (x : Result ℕ Refusal) (ty : ℕ → Result (Ty × ℕ) Refusal)
+      (en : List Variable → Ty → ℕ → Result (ℕ × ℕ) Refusal) (h : Header) (at : ℕ)
       → then_at no_header x (λ at1.
       then_type no_header (ty at1) (λ ret at2.
       then_entered no_header (en formals ret at2) (λ type next.
@@ -113,8 +106,8 @@ module _ (named : List ℕ → Bool) (signed new names : List ℕ) where
       then_type (λ e. true) (ty at1) (λ ret at2.
       pick (named (name_of new names g.0)) (same_bytes signed (signature ret formals)) false)) ≡ same h
   unfolding then_at
-  by-formals g formals (C.At at1) ty en h at e = by-type g formals (ty at1) (en formals) h at e
-  by-formals g formals (C.Refused r) ty en h at e = absurd (let z : ◌≡◌ {A = ℕ} 0 1 = cc in omega arith)
+  by-formals g formals (Ok at1) ty en h at e = by-type g formals (ty at1) (en formals) h at e
+  by-formals g formals (Err r) ty en h at e = absurd (let z : ◌≡◌ {A = ℕ} 0 1 = cc in omega arith)
 
   module _ (ts : List Tok) where
     behind-name : (g : Identifier) (at1 : ℕ) (h : Header) (at : ℕ) → signature_d ts [] 0 0 g at1 ≡ header h at
@@ -124,13 +117,13 @@ module _ (named : List ℕ → Bool) (signed new names : List ℕ) where
         by-formals g (optional_formals ts at1).list (optional_formals ts at1).end (λ k. optional_type ts k)
         (λ formals ret k. entered_d ts [] 0 0 g (signature ret formals) k) h at e
 
-    by_name : (x : Named) (h : Header) (at : ℕ)
+    by_name : (x : Result (Identifier × ℕ) Refusal) (h : Header) (at : ℕ)
         → then_named no_header x (λ g at1. pick false (no_header (refusal 35 0 0)) (signature_d ts [] 0 0 g at1))
         ≡ header h at
         → then_named (λ e. true) x (λ g at1. keeps_behind named signed new names ts g at1) ≡ same h
     unfolding then_named pick
-    by_name (N.At g at1) h at e = behind-name g at1 h at e
-    by_name (N.Refused r) h at e = absurd (let z : ◌≡◌ {A = ℕ} 0 1 = cc in omega arith)
+    by_name (Ok (g, at1)) h at e = behind-name g at1 h at e
+    by_name (Err r) h at e = absurd (let z : ◌≡◌ {A = ℕ} 0 1 = cc in omega arith)
 
     -- THE LAW: of a function that is read, `keeps` compares name and function type.
     pub kept_same : (f : Function) → alone_d ts ≡ function f

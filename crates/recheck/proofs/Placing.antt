@@ -1,5 +1,6 @@
 -- The new function's row, put in the replaced one's place among the old headers, leaves a table that answers as the old
 -- headers do: its name and its function type are the replaced one's, and its function type's number is given to it.
+use Rattle.std.specs.Prelude.{None, Some}
 use Prim.Native.Nat.{ℕ, zero, suc, ◌+◌, ◌*◌, ◌-◌, ◌≤◌, ◌<◌}
 use mathlib.Core.Path.{◌≡◌, refl, sym, ap, ◌∙◌}
 use mathlib.Core.List.{List, [], ◌∷◌, ◌++◌, append_assoc}
@@ -26,7 +27,6 @@ use Rattle.functions.proofs.Standing.{cell_there, rest_there, row_name_lem, row-
 use Rattle.functions.proofs.Standing.{row_first, row-items}
 use Rattle.sema.specs.Typing.{global}
 use Rattle.sema.specs.Globals.{row_global, globals_in}
-use Rattle.functions.specs.declared.FoundRow.TheVariants as W
 use Rattle.elaborate.specs.Types.{callee_of}
 use Rattle.unit.specs.Rows.{RowsFit}
 use Rattle.headers.specs.Spelled.{row_name, name_spelled, globals_spelled, callees_spelled, Named}
@@ -221,7 +221,7 @@ module _ (old rows new names : List ℕ) (known number : ℕ) (t : Tabled old ro
 
       old_global : row_global mid r.place ≡ global (type_cell f.head.ret) (formal_types f.head.formals)
       old_global =
-          global-same mid rows (W.At r.place) (W.At number) stands.cells
+          global-same mid rows (Some r.place) (Some number) stands.cells
           ∙ ap (λ (l : List ℕ). global (get_or l 0 0) (drop 2 l)) signed
 
       global-kept : row_global out r.place ≡ row_global mid r.place

@@ -1,4 +1,7 @@
 -- What the inner functions say of the new function: how much it takes of each slice, and what the slices hold.
+use Rattle.std.specs.Prelude.{Err, Ok, Result}
+use Rattle.functions.specs.declared.Counts.{Counts}
+use Rattle.parser.specs.declared.Refusal.{Refusal}
 use Rattle.std.specs.Prelude.{ℕ, ◌≤◌, ◌≡◌, List, [], ◌∷◌, get_or, set}
 use Rattle.std.proofs.lemmas.List.Edits.{sets}
 use Rattle.lexer.specs.Decoded.{Tok}
@@ -6,22 +9,20 @@ use Rattle.functions.specs.Functions.{FunctionAt, function, no_function}
 use Rattle.functions.specs.Columns.{row_at, type_at, row_width}
 use Rattle.functions.specs.Answer.{Slices, counts_from}
 use Rattle.utils.specs.Limits.{most_functions}
-use Rattle.functions.specs.declared.ProgramRead.{ProgramRead}
-use Rattle.functions.specs.declared.ProgramRead.TheVariants as U
 use Rattle.unit.specs.Outcome.{none, fronts}
 use Rattle.recheck.specs.Recheck.{Verdict, refuses, accepts, verdict_slices}
 use Rattle.headers.specs.Brought.{cells_from, brought, brought_from, headers_brought}
 use Rattle.headers.specs.declared.Placed.{Placed}
 
 -- a function that is parsed, and nothing behind it
-abbrev pub alone_read : FunctionAt → ProgramRead
-alone_read (function f) = U.Done (counts_from none (f ∷ []))
-alone_read (no_function e) = U.Refused e
+abbrev pub alone_read : FunctionAt → Result Counts Refusal
+alone_read (function f) = Ok (counts_from none (f ∷ []))
+alone_read (no_function e) = Err e
 
 -- .. and typed
-abbrev pub verdict_read : Verdict → ProgramRead
-verdict_read (accepts f table) = U.Done (counts_from none (f ∷ []))
-verdict_read (refuses e) = U.Refused e
+abbrev pub verdict_read : Verdict → Result Counts Refusal
+verdict_read (accepts f table) = Ok (counts_from none (f ∷ []))
+verdict_read (refuses e) = Err e
 
 -- The records stand in front; of what stands behind nothing is said, and nothing of a refusal's slices.
 abbrev pub VerdictHeld : List Tok → List ℕ → (ℕ → ℕ) → ℕ → Slices → Verdict → Type 0

@@ -1,5 +1,6 @@
 -- Recheck (document 01): one new function against the headers of an accepted text. "Given: old text, its header table
 -- as check wrote it, a function number, new text." The parts of an answer are those of check.
+use Rattle.std.specs.Prelude.{Err, Ok, Result}
 use Rattle.std.specs.Prelude.{ℕ, List, [], ◌∷◌, false, eqb, get_or}
 use Rattle.utils.specs.Bytes.{pick, same_bytes}
 use Rattle.utils.specs.Message.{reported}
@@ -16,8 +17,6 @@ use Rattle.messages.specs.Messages.{fixed}
 use Rattle.sema.specs.Symbols.{Typed}
 use Rattle.sema.specs.Typing.{Global}
 use Rattle.sema.specs.Program.{function_typed}
-use Rattle.sema.specs.declared.Checked.{Checked}
-use Rattle.sema.specs.declared.Checked.TheVariants as K
 use Rattle.unit.specs.Outcome.{untyped, none, slices_of}
 use Rattle.checker.specs.Check.{Checking, accepted, refusing, refused_at}
 use Rattle.headers.specs.Table.{is_table}
@@ -34,9 +33,9 @@ pub data Verdict : Type 0 where
   -- the function, and the table of names that its typing left
   accepts : Function → List ℕ → Verdict
 
-abbrev pub after_typing : Function → List ℕ → Checked → Verdict
-after_typing f table K.Fine = accepts f table
-after_typing f table (K.Refused e) = refuses e
+abbrev pub after_typing : Function → List ℕ → Result Unit Refusal → Verdict
+after_typing f table Ok tt = accepts f table
+after_typing f table (Err e) = refuses e
 
 abbrev pub typed_as : Function → Typed → Verdict
 typed_as f t = after_typing f t.table t.end

@@ -1,4 +1,5 @@
 -- How the recheck of a new text ends, over plain variables.
+use Rattle.std.specs.Prelude.{Err, Ok}
 use Prim.Native.Nat.{ℕ, ◌*◌, ◌-◌, ◌≤◌}
 use mathlib.Core.Path.{◌≡◌, refl, sym, ap, subst, ◌∙◌}
 use mathlib.Core.List.{List, [], ◌∷◌}
@@ -15,7 +16,6 @@ use Rattle.parser.specs.declared.Refusal.{Refusal}
 use Rattle.functions.specs.Columns.{type_at, line_at}
 use Rattle.functions.specs.Answer.{Slices, counts_from}
 use Rattle.functions.specs.declared.Counts.{Counts}
-use Rattle.functions.specs.declared.ProgramRead.TheVariants as U
 use Rattle.unit.specs.Outcome.{none}
 use Rattle.checker.specs.Check.{Checking, accepted, check_refusal, refused_at}
 use Rattle.checker.specs.Promise.{Lexed, ChecksInto}
@@ -68,7 +68,7 @@ module _ (old table : List ℕ) (number : ℕ) (new m₀ m t n : List ℕ) (r : 
       abbrev callees : ℕ → ℕ
       callees = callees_spelled old table new read.names
 
-      accepts-by : (k : Counts) (w : Verdict) (u : Slices) → U.Done k ≡ verdict_read w
+      accepts-by : (k : Counts) (w : Verdict) (u : Slices) → Ok k ≡ verdict_read w
           → VerdictHeld ts read.names callees type u w
           → ChecksInto (verdict_as new read ts callees type w) m₀ (accepted r.tokens r.names k) m t n u
       accepts-by k (accepts f symbols) u h e =
@@ -77,7 +77,7 @@ module _ (old table : List ℕ) (number : ℕ) (new m₀ m t n : List ℕ) (r : 
           (verdict_slices ts read.names callees type (accepts f symbols)) counts-are e
       accepts-by k (refuses e') u h e = absurd (let z : ◌≡◌ {A = ℕ} 0 1 = cc in omega arith)
 
-      refuses-by : (e : Refusal) (w : Verdict) → U.Refused e ≡ verdict_read w → IfRefused w
+      refuses-by : (e : Refusal) (w : Verdict) → Err e ≡ verdict_read w → IfRefused w
           → (verdict_as new read ts callees type w ≡ refused_at new read.names ts e) × Listed e.number
       refuses-by e (accepts f symbols) h g = absurd (let z : ◌≡◌ {A = ℕ} 0 1 = cc in omega arith)
       refuses-by e (refuses e') h g =
@@ -85,7 +85,7 @@ module _ (old table : List ℕ) (number : ℕ) (new m₀ m t n : List ℕ) (r : 
           rw same (refl, g)
 
       pub ends-accepted : (k : Counts) (u : Slices)
-          → U.Done k ≡ verdict_read (verdict_d old table number new nm (tokens_of tk))
+          → Ok k ≡ verdict_read (verdict_d old table number new nm (tokens_of tk))
           → VerdictHeld (tokens_of tk) nm (callees_spelled old table new nm) type u
           (verdict_d old table number new nm (tokens_of tk))
           → ChecksInto (recheck_of old table number new) m₀ (accepted r.tokens r.names k) m t n u
@@ -95,7 +95,7 @@ module _ (old table : List ℕ) (number : ℕ) (new m₀ m t n : List ℕ) (r : 
           (rw (tk-is, nm-is) at e))
 
       pub ends-refused : (e : Refusal) (res : CheckAnswer) (u : Slices)
-          → U.Refused e ≡ verdict_read (verdict_d old table number new nm (tokens_of tk))
+          → Err e ≡ verdict_read (verdict_d old table number new nm (tokens_of tk))
           → res ≡ (refused_at new (take (r.names * 2) n) (tokens_of (take (r.tokens * 4) t)) e).answer
           → m ≡ pad_to (length m₀) (refused_at new (take (r.names * 2) n) (tokens_of (take (r.tokens * 4) t)) e).message
           → ChecksInto (recheck_of old table number new) m₀ res m t n u

@@ -1,5 +1,6 @@
 -- The new function alone decides (demand 3 on token lists): what it is refused with, or its reading, is the whole
 -- text's.
+use Rattle.std.specs.Prelude.{Err, Ok, Result}
 use Prim.Native.Nat.{ℕ, zero, suc, ◌+◌, ◌≤◌, ◌<◌}
 use mathlib.Core.Path.{◌≡◌, refl, sym, ap, subst, ◌∙◌}
 use mathlib.Core.List.{List, [], ◌∷◌, ◌++◌}
@@ -20,12 +21,6 @@ use Rattle.parser.specs.Moved.{Move, Sim, SimName, SimE, SimN, SimC, SimR, SimV,
 use Rattle.parser.specs.declared.Refusal.{Refusal}
 use Rattle.parser.specs.declared.Ty.{Ty}
 use Rattle.parser.specs.declared.Variable.{Variable}
-use Rattle.parser.specs.declared.Consumed.{Consumed}
-use Rattle.parser.specs.declared.Consumed.TheVariants as C
-use Rattle.parser.specs.declared.Named.{Named}
-use Rattle.parser.specs.declared.Named.TheVariants as N
-use Rattle.parser.specs.declared.TypeRead.{TypeRead}
-use Rattle.parser.specs.declared.TypeRead.TheVariants as R
 use Rattle.parser.proofs.Sim.{global_s}
 use Rattle.functions.specs.Known.{Known, type_number, expected_type, signature, formal_types}
 use Rattle.functions.specs.Functions.{Function, FunctionAt, function, no_function, Program, program_stop}
@@ -35,8 +30,6 @@ use Rattle.functions.specs.Moved.{SimFunction, SimFunctionAt}
 use Rattle.functions.proofs.SimFunctions.{optional_formals_s, optional_type_s, formal_types_s, function_s}
 use Rattle.sema.specs.Program.{globals_of, function_typed}
 use Rattle.sema.specs.Symbols.{Typed}
-use Rattle.sema.specs.declared.Checked.{Checked}
-use Rattle.sema.specs.declared.Checked.TheVariants as K
 use Rattle.unit.specs.Outcome.{refused, after_typing, unit_d, untyped}
 use Rattle.recheck.specs.Recheck.{refuses, after_typing as as_typed, typed_as, alone_d, function_alone}
 use Rattle.recheck.specs.Recheck.{retyped}
@@ -57,33 +50,33 @@ use Rattle.related.proofs.Edited.{refused_there, read_there}
 
 -- A header as far as it is read before the name is entered, moved. ---------------------------------------------------
 
-record MovedName (m : Move) (n : ℕ) (c' : Named) (g : Identifier) (at : ℕ) : Type 0 where
+record MovedName (m : Move) (n : ℕ) (c' : Result (Identifier × ℕ) Refusal) (g : Identifier) (at : ℕ) : Type 0 where
   g' : Identifier
   at' : ℕ
-  is : c' ≡ N.At g' at'
+  is : c' ≡ Ok (g', at')
   same : SimName m g g'
   moved : at ≡ m.by + at'
   below : at' < n
 
-name-moved : {m : Move} {n : ℕ} {c c' : Named} (g : Identifier) (at : ℕ) → Rel m n SimN c c' → c ≡ N.At g at
+name-moved : {m : Move} {n : ℕ} {c c' : Result (Identifier × ℕ) Refusal} (g : Identifier) (at : ℕ) → Rel m n SimN c c' → c ≡ Ok (g, at)
     → MovedName m n c' g at
 name-moved {m} g at (Rel.is (SimN.at {x} {x'} q i h)) e =
     let z : x ≡ g = cc in
     record { g' = x'; at' = i; is = refl; same = subst (λ (y : Identifier). SimName m y x') z q; moved = cc; below = h }
 name-moved g at (Rel.is (SimN.refused x x' r)) e = let z : ◌≡◌ {A = ℕ} 0 1 = cc in absurd (omega arith)
 
-record MovedAt (m : Move) (n : ℕ) (c' : Consumed) (at : ℕ) : Type 0 where
+record MovedAt (m : Move) (n : ℕ) (c' : Result ℕ Refusal) (at : ℕ) : Type 0 where
   at' : ℕ
-  is : c' ≡ C.At at'
+  is : c' ≡ Ok at'
   moved : at ≡ m.by + at'
   below : at' < n
 
-at_moved : {m : Move} {n : ℕ} {c c' : Consumed} (at : ℕ) → SimC m n c c' → c ≡ C.At at → MovedAt m n c' at
+at_moved : {m : Move} {n : ℕ} {c c' : Result ℕ Refusal} (at : ℕ) → SimC m n c c' → c ≡ Ok at → MovedAt m n c' at
 at_moved at (SimC.at i h) e = record { at' = i; is = refl; moved = cc; below = h }
 at_moved at (SimC.refused x x' r) e = let z : ◌≡◌ {A = ℕ} 0 1 = cc in absurd (omega arith)
 
-type-moved : {m : Move} {n : ℕ} {c c' : TypeRead} (ret : Ty) (at : ℕ) → Rel m n SimR c c' → c ≡ R.At ret at
-    → (at' : ℕ) × (c' ≡ R.At ret at')
+type-moved : {m : Move} {n : ℕ} {c c' : Result (Ty × ℕ) Refusal} (ret : Ty) (at : ℕ) → Rel m n SimR c c' → c ≡ Ok (ret, at)
+    → (at' : ℕ) × (c' ≡ Ok (ret, at'))
 type-moved ret at (Rel.is (SimR.at t i h)) e = (i, cc)
 type-moved ret at (Rel.is (SimR.refused x x' r)) e = let z : ◌≡◌ {A = ℕ} 0 1 = cc in absurd (omega arith)
 
@@ -104,12 +97,12 @@ header-moved {m} {n} {ts} {ts'} {g} {vs} {ret} s h u =
     let a = name-moved g u.at1 (global_s s 0 h) u.named in
     let r = run-list (optional_formals_s s a.at' a.below) in
     let at1-is : u.at1 ≡ m.by + a.at' = a.moved in
-    let closed : (optional_formals ts (m.by + a.at')).end ≡ C.At u.at2 =
+    let closed : (optional_formals ts (m.by + a.at')).end ≡ Ok u.at2 =
     ap (λ (i : ℕ). (optional_formals ts i).end) (sym at1-is) ∙ u.closed in
     let listed : (optional_formals ts (m.by + a.at')).list ≡ vs =
     ap (λ (i : ℕ). (optional_formals ts i).list) (sym at1-is) ∙ u.listed in
     let b = at_moved u.at2 r.end closed in
-    let typed : optional_type ts (m.by + b.at') ≡ R.At ret u.at3 =
+    let typed : optional_type ts (m.by + b.at') ≡ Ok (ret, u.at3) =
     ap (λ (i : ℕ). optional_type ts i) (sym b.moved) ∙ u.typed in
     let c = type-moved ret u.at3 (optional_type_s s b.at' b.below) typed in
     record {
@@ -196,8 +189,8 @@ refused-by {m} {n} x' (Rel.is (SimFunctionAt.refused y y' q)) e =
     let z : y' ≡ x' = cc in
     (y, refl, subst (λ (w : Refusal). SimE m n y w) z q)
 
-mistyped_by : {m : Move} {n : ℕ} {a a' : Typed} (x' : Refusal) → SimTyped m n a a' → a'.end ≡ K.Refused x'
-    → (x : Refusal) × (a.end ≡ K.Refused x) × SimE m n x x'
+mistyped_by : {m : Move} {n : ℕ} {a a' : Typed} (x' : Refusal) → SimTyped m n a a' → a'.end ≡ Err x'
+    → (x : Refusal) × (a.end ≡ Err x) × SimE m n x x'
 mistyped_by x' (SimTyped.both q SimChecked.fine) e = let z : ◌≡◌ {A = ℕ} 0 1 = cc in absurd (omega arith)
 mistyped_by {m} {n} x' (SimTyped.both q (SimChecked.refused {e = y} {e' = y'} p)) e =
     let z : y' ≡ x' = cc in
@@ -346,7 +339,7 @@ module _ {old new : List Tok} {e : Edited old new} {before behind : List Functio
         (refused-unit new (refusal 7 (a.inside.by + f'.next) 0)
         (ap (λ (u : Program). u.end) program
         ∙ (then_end_lem (in_front r).functions _
-        ∙ (ap (λ (u : Program). u.end) stop ∙ ap (λ (i : ℕ). C.Refused (refusal 7 i 0)) z))))
+        ∙ (ap (λ (u : Program). u.end) stop ∙ ap (λ (i : ℕ). Err (refusal 7 i 0)) z))))
         (SimE.moved 7 f'.next 0 h)
 
     same_head : SameHead e.Spelt replaced new_function
@@ -389,20 +382,20 @@ module _ {old new : List Tok} {e : Edited old new} {before behind : List Functio
           function_typed_s a.tokens same_globals (untyped_s a.fits)
           (retyped-same replaced.head.type there.same)
 
-      refused_typing : (x' : Refusal) → (typed-alone f').end ≡ K.Refused x'
+      refused_typing : (x' : Refusal) → (typed-alone f').end ≡ Err x'
           → RefusedAs new alone a.inside a.size x'
       refused_typing x' t =
           let b = mistyped_by x' typed-both t in
-          refused_as a.tokens b.0 x' (rest.answer ∙ ap (λ (c : Checked). after_typing all_new c) b.1) b.2
+          refused_as a.tokens b.0 x' (rest.answer ∙ ap (λ (c : Result Unit Refusal). after_typing all_new c) b.1) b.2
 
-      accepted-alone : (typed-alone f').end ≡ K.Fine
+      accepted-alone : (typed-alone f').end ≡ Ok tt
           → AcceptedAs e a.inside a.size alone before replaced behind (retyped replaced.head.type f')
       accepted-alone t =
           record {
             before' = (in_front r).functions;
             behind' = rest.behind';
             f = new_function;
-            accepted_so = rest.answer ∙ ap (λ (c : Checked). after_typing all_new c) (fine-from typed-both t);
+            accepted_so = rest.answer ∙ ap (λ (c : Result Unit Refusal). after_typing all_new c) (fine-from typed-both t);
             same = retyped-same replaced.head.type there.same;
             head = same_head;
             read-before = (in_front r).same;
@@ -424,10 +417,10 @@ module _ {old new : List Tok} {e : Edited old new} {before behind : List Functio
       ended : f'.next ≡ a.size
       ended = at_size a f'.next (there f' q).same.within (eqb-true _ _ w)
 
-      by : (k : Checked) → (typed-alone f').end ≡ k
+      by : (k : Result Unit Refusal) → (typed-alone f').end ≡ k
           → Follows e before replaced behind alone a (as_typed f' (typed-alone f').table k)
-      by K.Fine t = accepted-alone f' q ended t
-      by (K.Refused x') t = λ n. refused_typing f' q ended x' t
+      by Ok tt t = accepted-alone f' q ended t
+      by (Err x') t = λ n. refused_typing f' q ended x' t
   behind-brace f' q false true w g = λ n. absurd (n refl)
   behind-brace f' q false false w g = λ n.
       left_over f' q (before-size a f'.next (there f' q).same.within (eqb-false _ _ w)) (eqb-false _ _ g)

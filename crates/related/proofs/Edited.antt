@@ -1,5 +1,6 @@
 -- The typing part of demand 3 on token lists: a text with one function replaced is accepted exactly if that function
 -- is, against the headers, and all other functions are read as before.
+use Rattle.std.specs.Prelude.{Err, Ok, Result}
 use Prim.Native.Nat.{ℕ, zero, suc, ◌+◌, ◌≤◌, ◌<◌}
 use mathlib.Core.Path.{◌≡◌, refl, sym, ap, subst, ◌∙◌}
 use mathlib.Core.List.{List, [], ◌∷◌, ◌++◌}
@@ -13,8 +14,6 @@ use Rattle.lexer.specs.Decoded.{Tok, token_at}
 use Rattle.parser.specs.Moved.{Move, SimName, SimNumber, SimClose, Each, Rel}
 use Rattle.parser.specs.declared.Refusal.{Refusal}
 use Rattle.parser.specs.declared.Variable.{Variable}
-use Rattle.parser.specs.declared.Consumed.{Consumed}
-use Rattle.parser.specs.declared.Consumed.TheVariants as C
 use Rattle.parser.proofs.Sim.{eqb_s}
 use Rattle.body.proofs.SimBody.{number_of}
 use Rattle.body.proofs.SimItems.{count_s}
@@ -25,8 +24,6 @@ use Rattle.functions.specs.Moved.{SimKnown, SimFunction, SimProgram}
 use Rattle.functions.proofs.SimFunctions.{formal_types_s, functions_s}
 use Rattle.sema.specs.Typing.{Global}
 use Rattle.sema.specs.Program.{globals_of, type_program_d as typed_d}
-use Rattle.sema.specs.declared.Checked.{Checked}
-use Rattle.sema.specs.declared.Checked.TheVariants as K
 use Rattle.unit.specs.Outcome.{checked, refused, after_typing, after_parsing, unit_d, untyped}
 use Rattle.related.specs.Tables.{Tables, SameGlobals, SameHead, All}
 use Rattle.related.specs.Runs.{Place, start, behind_one, behind_all, function_here, functions_here, all_then}
@@ -70,19 +67,19 @@ then_end_lem (f ∷ fs) u = then_end_lem fs u
 pub record Accepted (ts : List Tok) (fs : List Function) : Type 0 where
   pub functions : (program_d ts).functions ≡ fs
   pub next : ℕ
-  pub end : (program_d ts).end ≡ C.At next
-  pub fine : (typed_d ts fs fs untyped).end ≡ K.Fine
+  pub end : (program_d ts).end ≡ Ok next
+  pub fine : (typed_d ts fs fs untyped).end ≡ Ok tt
 
-pub typed-fine : (fs gs : List Function) (c : Checked) → after_typing gs c ≡ checked fs → (gs ≡ fs) × (c ≡ K.Fine)
-typed-fine fs gs K.Fine e = (cc, refl)
-typed-fine fs gs (K.Refused x) e = let z : ◌≡◌ {A = ℕ} 0 1 = cc in absurd (omega arith)
+pub typed-fine : (fs gs : List Function) (c : Result Unit Refusal) → after_typing gs c ≡ checked fs → (gs ≡ fs) × (c ≡ Ok tt)
+typed-fine fs gs Ok tt e = (cc, refl)
+typed-fine fs gs (Err x) e = let z : ◌≡◌ {A = ℕ} 0 1 = cc in absurd (omega arith)
 
-pub parsed_fine : (ts : List Tok) (fs gs : List Function) (c : Consumed) → after_parsing ts gs c ≡ checked fs
-    → (gs ≡ fs) × ((typed_d ts gs gs untyped).end ≡ K.Fine) × ((next : ℕ) × (c ≡ C.At next))
-parsed_fine ts fs gs (C.At next) e =
+pub parsed_fine : (ts : List Tok) (fs gs : List Function) (c : Result ℕ Refusal) → after_parsing ts gs c ≡ checked fs
+    → (gs ≡ fs) × ((typed_d ts gs gs untyped).end ≡ Ok tt) × ((next : ℕ) × (c ≡ Ok next))
+parsed_fine ts fs gs (Ok next) e =
     let t = typed-fine fs gs (typed_d ts gs gs untyped).end e in
     (t.0, t.1, (next, refl))
-parsed_fine ts fs gs (C.Refused x) e = let z : ◌≡◌ {A = ℕ} 0 1 = cc in absurd (omega arith)
+parsed_fine ts fs gs (Err x) e = let z : ◌≡◌ {A = ℕ} 0 1 = cc in absurd (omega arith)
 
 pub accepted-by : (ts : List Tok) (fs : List Function) → unit_d ts ≡ checked fs → Accepted ts fs
 unfolding unit_d
@@ -92,15 +89,15 @@ accepted-by ts fs e =
       functions = p.0;
       next = p.2.0;
       end = p.2.1;
-      fine = subst (λ (gs : List Function). (typed_d ts gs gs untyped).end ≡ K.Fine) p.0 p.1;
+      fine = subst (λ (gs : List Function). (typed_d ts gs gs untyped).end ≡ Ok tt) p.0 p.1;
     }
 
-pub refused-unit : (ts : List Tok) (x : Refusal) → (program_d ts).end ≡ C.Refused x → unit_d ts ≡ refused x
+pub refused-unit : (ts : List Tok) (x : Refusal) → (program_d ts).end ≡ Err x → unit_d ts ≡ refused x
 unfolding unit_d
 refused-unit ts x e = rw e refl
 
 pub typed-unit : (ts : List Tok) (fs : List Function) (next : ℕ) → (program_d ts).functions ≡ fs
-    → (program_d ts).end ≡ C.At next
+    → (program_d ts).end ≡ Ok next
     → unit_d ts ≡ after_typing fs (typed_d ts fs fs untyped).end
 unfolding unit_d
 typed-unit ts fs next p e = rw (p, e) refl
@@ -283,13 +280,13 @@ known-along e p p' k (Each.more {x = f} {x' = f'} q r) =
     known-along e (behind_one p f) (behind_one p' f') (each_append k (Each.more (known_kept e q) Each.none)) r
 
 -- where both readings end
-pub end-own : {m : Move} {n : ℕ} {c c' : Consumed} (next : ℕ) → SimClose m n c c' → c ≡ C.At next
-    → (i : ℕ) × (c' ≡ C.At i)
+pub end-own : {m : Move} {n : ℕ} {c c' : Result ℕ Refusal} (next : ℕ) → SimClose m n c c' → c ≡ Ok next
+    → (i : ℕ) × (c' ≡ Ok i)
 end-own next (SimClose.at i h) e = (i, refl)
 end-own next (SimClose.refused x x' r) e = let z : ◌≡◌ {A = ℕ} 0 1 = cc in absurd (omega arith)
 
-pub end-new : {m : Move} {n : ℕ} {c c' : Consumed} (i : ℕ) → SimClose m n c c' → c' ≡ C.At i
-    → (next : ℕ) × (c ≡ C.At next)
+pub end-new : {m : Move} {n : ℕ} {c c' : Result ℕ Refusal} (i : ℕ) → SimClose m n c c' → c' ≡ Ok i
+    → (next : ℕ) × (c ≡ Ok next)
 end-new {m} i (SimClose.at j h) e = (m.by + j, refl)
 end-new i (SimClose.refused x x' r) e = let z : ◌≡◌ {A = ℕ} 0 1 = cc in absurd (omega arith)
 
@@ -439,10 +436,9 @@ module _ {old new : List Tok} {e : Edited old new} {before behind : List Functio
 
     -- the new text is read to its end
     pub new-end : (next : ℕ) ×
-        ((functions_here new its_turn.left (behind_one (behind_all start in_front.functions) f)).end ≡ C.At next)
+        ((functions_here new its_turn.left (behind_one (behind_all start in_front.functions) f)).end ≡ Ok next)
     new-end =
-        let stopped : (functions_here old its_turn.left (behind_one (behind_all start before) replaced)).end ≡ C.At
-        was.next =
+        let stopped : (functions_here old its_turn.left (behind_one (behind_all start before) replaced)).end ≡ Ok was.next =
         sym its_turn.end ∙ (sym parts.end ∙ was.end) in
         let o = end-own was.next old_own.end (sym (ap (λ (u : Program). u.end) old_is) ∙ stopped) in
         let w = end-new o.0 new-own.end o.1 in
@@ -491,7 +487,7 @@ module _ {old new : List Tok} {e : Edited old new} {before behind : List Functio
           answer =
               typed-unit new all_new_lem new-end.0 functions-new
               (ap (λ (u : Program). u.end) program_new ∙ (then_end_lem in_front.functions _ ∙ new-end.1))
-              ∙ ap (λ (c : Checked). after_typing all_new_lem c) (one_decides new all_new_lem untyped f fine-front fine_back);
+              ∙ ap (λ (c : Result Unit Refusal). after_typing all_new_lem c) (one_decides new all_new_lem untyped f fine-front fine_back);
         }
 
   -- A text with one function replaced is read as before but for that function, and is accepted or refused as that

@@ -1,5 +1,6 @@
 -- Where a header's name may be entered, a function is read as with nothing known, but for the number of its function
 -- type.
+use Rattle.std.specs.Prelude.{Err, Ok, Result}
 use Prim.Native.Nat.{ℕ}
 use mathlib.Core.Path.{◌≡◌, refl, subst}
 use mathlib.Core.List.{List, []}
@@ -14,14 +15,6 @@ use Rattle.parser.specs.Grammar.{consume_d, global_d}
 use Rattle.parser.specs.declared.Refusal.{Refusal}
 use Rattle.parser.specs.declared.Ty.{Ty}
 use Rattle.parser.specs.declared.Variable.{Variable}
-use Rattle.parser.specs.declared.Consumed.{Consumed}
-use Rattle.parser.specs.declared.Consumed.TheVariants as C
-use Rattle.parser.specs.declared.Named.{Named}
-use Rattle.parser.specs.declared.Named.TheVariants as N
-use Rattle.parser.specs.declared.TypeRead.{TypeRead}
-use Rattle.parser.specs.declared.TypeRead.TheVariants as R
-use Rattle.functions.specs.declared.Entered.{Entered}
-use Rattle.functions.specs.declared.Entered.TheVariants as E
 use Rattle.functions.specs.Known.{Known, signature, type_number, expected_type}
 use Rattle.functions.specs.Functions.{Header, HeaderAt, header, no_header, BuiltAt, built, not_built, Function}
 use Rattle.functions.specs.Functions.{FunctionAt, function}
@@ -41,7 +34,7 @@ entered-is : {known : List Known} {types type : ℕ} {g : Identifier} {vs : List
     (token at : ℕ)
     → Enters known types type g vs ret
     → entered_d ts known types token g (signature ret vs) at
-    ≡ then_at E.Refused (consume_d ts at 27) (λ next. E.At type next)
+    ≡ then_at Err (consume_d ts at 27) (λ next. Ok (type, next))
 unfolding entered_d pick
 entered-is {type = type} ts token at q = rw (q.number, q.expected, eq-eqb type type refl) refl
 
@@ -49,14 +42,14 @@ free : (g : Identifier) (vs : List Variable) (ret : Ty) → Enters [] 0 0 g vs r
 unfolding type_number expected_type
 free g vs ret = record { number = refl; expected = refl }
 
-behind-brace : (type : ℕ) (g : Identifier) (vs : List Variable) (ret : Ty) (c : Consumed)
-    → then_entered no_header (then_at E.Refused c (λ next. E.At type next)) (λ type next.
+behind-brace : (type : ℕ) (g : Identifier) (vs : List Variable) (ret : Ty) (c : Result ℕ Refusal)
+    → then_entered no_header (then_at Err c (λ next. Ok (type, next))) (λ type next.
     header (record { name = g; formals = vs; ret = ret; type = type }) next)
-    ≡ retyped_header type (then_entered no_header (then_at E.Refused c (λ next. E.At 0 next)) (λ type next.
+    ≡ retyped_header type (then_entered no_header (then_at Err c (λ next. Ok (0, next))) (λ type next.
     header (record { name = g; formals = vs; ret = ret; type = type }) next))
 unfolding then_entered then_at
-behind-brace type g vs ret (C.At next) = refl
-behind-brace type g vs ret (C.Refused e) = refl
+behind-brace type g vs ret (Ok next) = refl
+behind-brace type g vs ret (Err e) = refl
 
 module _ (ts : List Tok) (known : List Known) (types type : ℕ) where
   entry_known : (token : ℕ) (g : Identifier) (vs : List Variable) (ret : Ty) (at : ℕ) → Enters known types type g vs ret
@@ -65,44 +58,44 @@ module _ (ts : List Tok) (known : List Known) (types type : ℕ) where
       rw (entered-is ts token at q, entered-is ts token at (free g vs ret))
       (behind-brace type g vs ret (consume_d ts at 27))
 
-  type-known : (token : ℕ) (g : Identifier) (vs : List Variable) (c : TypeRead)
-      → ((ret : Ty) (at : ℕ) → c ≡ R.At ret at → Enters known types type g vs ret)
+  type-known : (token : ℕ) (g : Identifier) (vs : List Variable) (c : Result (Ty × ℕ) Refusal)
+      → ((ret : Ty) (at : ℕ) → c ≡ Ok (ret, at) → Enters known types type g vs ret)
       → then_type no_header c (λ ret at. entry ts known types token g vs ret at)
       ≡ retyped_header type (then_type no_header c (λ ret at. entry ts [] 0 token g vs ret at))
   unfolding then_type
-  type-known token g vs (R.At ret at) q = entry_known token g vs ret at (q ret at refl)
-  type-known token g vs (R.Refused e) q = refl
+  type-known token g vs (Ok (ret, at)) q = entry_known token g vs ret at (q ret at refl)
+  type-known token g vs (Err e) q = refl
 
-  formals-known : (token : ℕ) (g : Identifier) (vs : List Variable) (c : Consumed)
+  formals-known : (token : ℕ) (g : Identifier) (vs : List Variable) (c : Result ℕ Refusal)
       → ((at : ℕ) (ret : Ty)
-      (at' : ℕ) → c ≡ C.At at → optional_type ts at ≡ R.At ret at' → Enters known types type g vs ret)
+      (at' : ℕ) → c ≡ Ok at → optional_type ts at ≡ Ok (ret, at') → Enters known types type g vs ret)
       → then_at no_header c
       (λ at. then_type no_header (optional_type ts at) (λ ret at. entry ts known types token g vs ret at))
       ≡ retyped_header type
       (then_at no_header c (λ at. then_type no_header (optional_type ts at) (λ ret at. entry ts [] 0 token g vs ret at)))
   unfolding then_at
-  formals-known token g vs (C.At at) q =
+  formals-known token g vs (Ok at) q =
       type-known token g vs (optional_type ts at) (λ ret at' e. q at ret at' refl e)
-  formals-known token g vs (C.Refused e) q = refl
+  formals-known token g vs (Err e) q = refl
 
   signature-known : (token : ℕ) (g : Identifier) (at : ℕ)
       → ((vs : List Variable) (at1 : ℕ) (ret : Ty) (at2 : ℕ) → (optional_formals ts at).list ≡ vs
-      → (optional_formals ts at).end ≡ C.At at1 → optional_type ts at1 ≡ R.At ret at2 → Enters known types type g vs ret)
+      → (optional_formals ts at).end ≡ Ok at1 → optional_type ts at1 ≡ Ok (ret, at2) → Enters known types type g vs ret)
       → signature_d ts known types token g at ≡ retyped_header type (signature_d ts [] 0 token g at)
   unfolding signature_d then_formals
   signature-known token g at q =
       formals-known token g (optional_formals ts at).list (optional_formals ts at).end
       (λ at1 ret at2 c t. q (optional_formals ts at).list at1 ret at2 refl c t)
 
-  named-known : (at : ℕ) (c : Named)
-      → ((g : Identifier) (at1 : ℕ) → c ≡ N.At g at1
+  named-known : (at : ℕ) (c : Result (Identifier × ℕ) Refusal)
+      → ((g : Identifier) (at1 : ℕ) → c ≡ Ok (g, at1)
       → signature_d ts known types at g at1 ≡ retyped_header type (signature_d ts [] 0 at g at1))
       → then_named no_header c (λ g at1. pick false (no_header (refusal 35 at 0)) (signature_d ts known types at g at1))
       ≡ retyped_header type
       (then_named no_header c (λ g at1. pick false (no_header (refusal 35 at 0)) (signature_d ts [] 0 at g at1)))
   unfolding then_named pick
-  named-known at (N.At g at1) q = q g at1 refl
-  named-known at (N.Refused e) q = refl
+  named-known at (Ok (g, at1)) q = q g at1 refl
+  named-known at (Err e) q = refl
 
   header-known : (at : ℕ)
       → ((g : Identifier) (vs : List Variable) (ret : Ty) → UpToEntry ts at g vs ret → Enters known types type g vs ret)
@@ -152,20 +145,20 @@ FunctionEntered known types (function f) =
 FunctionEntered known types (no_function e) = Unit
 
 module _ (ts : List Tok) (known : List Known) (types : ℕ) where
-  brace-entered : (g : Identifier) (vs : List Variable) (ret : Ty) (type : ℕ) (c : Consumed)
+  brace-entered : (g : Identifier) (vs : List Variable) (ret : Ty) (type : ℕ) (c : Result ℕ Refusal)
       → Enters known types type g vs ret
       → HeaderEntered known types
-      (then_entered no_header (then_at E.Refused c (λ next. E.At type next)) (λ type next.
+      (then_entered no_header (then_at Err c (λ next. Ok (type, next))) (λ type next.
       header (record { name = g; formals = vs; ret = ret; type = type }) next))
   unfolding then_entered then_at
-  brace-entered g vs ret type (C.At next) q = q
-  brace-entered g vs ret type (C.Refused e) q = tt
+  brace-entered g vs ret type (Ok next) q = q
+  brace-entered g vs ret type (Err e) q = tt
 
   test_entered : (token : ℕ) (g : Identifier) (vs : List Variable) (ret : Ty) (at : ℕ) (type : ℕ) (b : Bool)
       (x : Refusal)
       → type_number known (signature ret vs) types ≡ type → eqb (expected_type known g.0 type) type ≡ b
       → HeaderEntered known types
-      (then_entered no_header (pick b (then_at E.Refused (consume_d ts at 27) (λ next. E.At type next)) (E.Refused x))
+      (then_entered no_header (pick b (then_at Err (consume_d ts at 27) (λ next. Ok (type, next))) (Err x))
       (λ type next.
       header (record { name = g; formals = vs; ret = ret; type = type }) next))
   unfolding then_entered pick
@@ -181,31 +174,31 @@ module _ (ts : List Tok) (known : List Known) (types : ℕ) where
       (eqb (expected_type known g.0 (type_number known (signature ret vs) types))
       (type_number known (signature ret vs) types)) _ refl refl
 
-  type-entered : (token : ℕ) (g : Identifier) (vs : List Variable) (c : TypeRead)
+  type-entered : (token : ℕ) (g : Identifier) (vs : List Variable) (c : Result (Ty × ℕ) Refusal)
       → HeaderEntered known types (then_type no_header c (λ ret at. entry ts known types token g vs ret at))
   unfolding then_type
-  type-entered token g vs (R.At ret at) = entry_entered token g vs ret at
-  type-entered token g vs (R.Refused e) = tt
+  type-entered token g vs (Ok (ret, at)) = entry_entered token g vs ret at
+  type-entered token g vs (Err e) = tt
 
-  formals-entered : (token : ℕ) (g : Identifier) (vs : List Variable) (c : Consumed)
+  formals-entered : (token : ℕ) (g : Identifier) (vs : List Variable) (c : Result ℕ Refusal)
       → HeaderEntered known types
       (then_at no_header c
       (λ at. then_type no_header (optional_type ts at) (λ ret at. entry ts known types token g vs ret at)))
   unfolding then_at
-  formals-entered token g vs (C.At at) = type-entered token g vs (optional_type ts at)
-  formals-entered token g vs (C.Refused e) = tt
+  formals-entered token g vs (Ok at) = type-entered token g vs (optional_type ts at)
+  formals-entered token g vs (Err e) = tt
 
   signature-entered : (token : ℕ) (g : Identifier) (at : ℕ)
       → HeaderEntered known types (signature_d ts known types token g at)
   unfolding signature_d then_formals
   signature-entered token g at = formals-entered token g (optional_formals ts at).list (optional_formals ts at).end
 
-  named-entered : (at : ℕ) (c : Named)
+  named-entered : (at : ℕ) (c : Result (Identifier × ℕ) Refusal)
       → HeaderEntered known types
       (then_named no_header c (λ g at1. pick false (no_header (refusal 35 at 0)) (signature_d ts known types at g at1)))
   unfolding then_named pick
-  named-entered at (N.At g at1) = signature-entered at g at1
-  named-entered at (N.Refused e) = tt
+  named-entered at (Ok (g, at1)) = signature-entered at g at1
+  named-entered at (Err e) = tt
 
   built-entered : (at : ℕ) (h : Header) (c : BuiltAt) → Enters known types h.type h.name h.formals h.ret
       → FunctionEntered known types
@@ -241,41 +234,41 @@ FunctionUpTo ts at (function f) = UpToEntry ts at f.head.name f.head.formals f.h
 FunctionUpTo ts at (no_function e) = Unit
 
 module _ (ts : List Tok) (known : List Known) (types at : ℕ) where
-  entry_up_to : (g : Identifier) (vs : List Variable) (ret : Ty) (c : Entered) → UpToEntry ts at g vs ret
+  entry_up_to : (g : Identifier) (vs : List Variable) (ret : Ty) (c : Result (ℕ × ℕ) Refusal) → UpToEntry ts at g vs ret
       → HeaderUpTo ts at
       (then_entered no_header c (λ type next. header (record { name = g; formals = vs; ret = ret; type = type }) next))
   unfolding then_entered
-  entry_up_to g vs ret (E.At type next) u = u
-  entry_up_to g vs ret (E.Refused e) u = tt
+  entry_up_to g vs ret (Ok (type, next)) u = u
+  entry_up_to g vs ret (Err e) u = tt
 
-  type_up_to : (g : Identifier) (vs : List Variable) (at1 at2 : ℕ) (c : TypeRead) → global_d ts at ≡ N.At g at1
-      → (optional_formals ts at1).list ≡ vs → (optional_formals ts at1).end ≡ C.At at2 → optional_type ts at2 ≡ c
+  type_up_to : (g : Identifier) (vs : List Variable) (at1 at2 : ℕ) (c : Result (Ty × ℕ) Refusal) → global_d ts at ≡ Ok (g, at1)
+      → (optional_formals ts at1).list ≡ vs → (optional_formals ts at1).end ≡ Ok at2 → optional_type ts at2 ≡ c
       → HeaderUpTo ts at (then_type no_header c (λ ret i. entry ts known types at g vs ret i))
   unfolding then_type
-  type_up_to g vs at1 at2 (R.At ret at3) n l c t =
+  type_up_to g vs at1 at2 (Ok (ret, at3)) n l c t =
       entry_up_to g vs ret (entered_d ts known types at g (signature ret vs) at3)
       (record { at1 = at1; named = n; at2 = at2; listed = l; closed = c; at3 = at3; typed = t })
-  type_up_to g vs at1 at2 (R.Refused e) n l c t = tt
+  type_up_to g vs at1 at2 (Err e) n l c t = tt
 
-  formals_up_to : (g : Identifier) (vs : List Variable) (at1 : ℕ) (c : Consumed) → global_d ts at ≡ N.At g at1
+  formals_up_to : (g : Identifier) (vs : List Variable) (at1 : ℕ) (c : Result ℕ Refusal) → global_d ts at ≡ Ok (g, at1)
       → (optional_formals ts at1).list ≡ vs → (optional_formals ts at1).end ≡ c
       → HeaderUpTo ts at
       (then_at no_header c (λ i. then_type no_header (optional_type ts i) (λ ret i. entry ts known types at g vs ret i)))
   unfolding then_at
-  formals_up_to g vs at1 (C.At at2) n l c = type_up_to g vs at1 at2 (optional_type ts at2) n l c refl
-  formals_up_to g vs at1 (C.Refused e) n l c = tt
+  formals_up_to g vs at1 (Ok at2) n l c = type_up_to g vs at1 at2 (optional_type ts at2) n l c refl
+  formals_up_to g vs at1 (Err e) n l c = tt
 
-  signature_up_to : (g : Identifier) (at1 : ℕ) → global_d ts at ≡ N.At g at1
+  signature_up_to : (g : Identifier) (at1 : ℕ) → global_d ts at ≡ Ok (g, at1)
       → HeaderUpTo ts at (signature_d ts known types at g at1)
   unfolding signature_d then_formals
   signature_up_to g at1 n = formals_up_to g (optional_formals ts at1).list at1 (optional_formals ts at1).end n refl refl
 
-  named_up_to : (c : Named) → global_d ts at ≡ c
+  named_up_to : (c : Result (Identifier × ℕ) Refusal) → global_d ts at ≡ c
       → HeaderUpTo ts at
       (then_named no_header c (λ g at1. pick false (no_header (refusal 35 at 0)) (signature_d ts known types at g at1)))
   unfolding then_named pick
-  named_up_to (N.At g at1) n = signature_up_to g at1 n
-  named_up_to (N.Refused e) n = tt
+  named_up_to (Ok (g, at1)) n = signature_up_to g at1 n
+  named_up_to (Err e) n = tt
 
   built_up_to : (h : Header) (c : BuiltAt) → UpToEntry ts at h.name h.formals h.ret
       → FunctionUpTo ts at

@@ -1,5 +1,7 @@
 -- A function ends behind where it begins: what the parser's progress (crates/body/proofs/Progress.antt and
 -- crates/functions/proofs/HeaderOn.antt) says of a whole function.
+use Rattle.std.specs.Prelude.{Err, Ok, Result}
+use Rattle.parser.specs.declared.Refusal.{Refusal}
 use Prim.Native.Nat.{ℕ, zero, suc, ◌+◌, ◌≤◌}
 use mathlib.Core.Path.{◌≡◌, refl}
 use mathlib.Core.List.{List, [], ◌∷◌, ◌++◌}
@@ -14,19 +16,15 @@ use Rattle.body.specs.Body.{Item, ItemAt, Body, body_stop, item_d, then_item, be
 use Rattle.body.specs.Body.{closed_items, after_brace, after_label}
 use Rattle.parser.specs.Labels.{labelled_d}
 use Rattle.link.specs.Edges.{Resolved, resolve_d}
-use Rattle.parser.specs.declared.Consumed.{Consumed}
-use Rattle.parser.specs.declared.Consumed.TheVariants as C
-use Rattle.parser.specs.declared.Named.{Named}
-use Rattle.parser.specs.declared.Named.TheVariants as N
 use Rattle.body.proofs.Progress.{LabelIn, ItemIn, moved, item_in, label_in}
 use Rattle.functions.specs.Known.{Known}
 use Rattle.functions.specs.Functions.{Header, HeaderAt, BuiltAt, FunctionAt, then_header, then_built}
 use Rattle.functions.specs.Functions.{blocks_in, resolved_items, built_d, is_void, function_d, header_d}
 use Rattle.functions.proofs.HeaderOn.{HeaderIn, header_in}
 
-abbrev EndOn : ℕ → ℕ → Consumed → Type 0
-EndOn from last (C.At next) = (from ≤ next) × (next ≤ last)
-EndOn from last (C.Refused e) = Unit
+abbrev EndOn : ℕ → ℕ → Result ℕ Refusal → Type 0
+EndOn from last (Ok next) = (from ≤ next) × (next ≤ last)
+EndOn from last (Err e) = Unit
 
 abbrev BuiltOn : ℕ → ℕ → BuiltAt → Type 0
 BuiltOn from last (BuiltAt.built is next) = (from ≤ next) × (next ≤ last)
@@ -36,21 +34,21 @@ abbrev pub FunctionOn : ℕ → ℕ → FunctionAt → Type 0
 FunctionOn from last (FunctionAt.function f) = (f.token ≡ from) × (from + 2 ≤ f.next) × (f.next ≤ last)
 FunctionOn from last (FunctionAt.no_function e) = Unit
 
-farther : (from from' last : ℕ) (c : Consumed) → from' ≤ from → EndOn from last c → EndOn from' last c
-farther from from' last (C.At next) h g = (omega (arith, g.0), g.1)
-farther from from' last (C.Refused e) h g = tt
+farther : (from from' last : ℕ) (c : Result ℕ Refusal) → from' ≤ from → EndOn from last c → EndOn from' last c
+farther from from' last (Ok next) h g = (omega (arith, g.0), g.1)
+farther from from' last (Err e) h g = tt
 
 pick_o : {A : Type 0} (Q : A → Type 0) (b : Bool) (x y : A) → (b ≡ true → Q x) → Q y → Q (pick b x y)
 unfolding pick
 pick_o Q true x y f g = f refl
 pick_o Q false x y f g = g
 
-label_o : (at last count : ℕ) (c : Named) (k : Identifier → ℕ → Body) → LabelIn at last count c
+label_o : (at last count : ℕ) (c : Result (Identifier × ℕ) Refusal) (k : Identifier → ℕ → Body) → LabelIn at last count c
     → ((l : Identifier) (next : ℕ) → at ≤ next → next ≤ last → EndOn at last (k l next).end)
     → EndOn at last (then_named body_stop c k).end
 unfolding then_named
-label_o at last count (N.At l next) k h g = g l next (omega (arith, h.0)) h.1
-label_o at last count (N.Refused e) k h g = tt
+label_o at last count (Ok (l, next)) k h g = g l next (omega (arith, h.0)) h.1
+label_o at last count (Err e) k h g = tt
 
 item_o : (at last : ℕ) (c : ItemAt) (k : Item → ℕ → Body) → ItemIn at last c
     → ((i : Item) (next : ℕ) → at ≤ next → next ≤ last → EndOn at last (k i next).end)
@@ -64,11 +62,11 @@ resolved_o : (from last : ℕ) (is : List Item) (next : ℕ) (r : Resolved) → 
 resolved_o from last is next Resolved.fine h g = (h, g)
 resolved_o from last is next (Resolved.refused e) h g = tt
 
-end_o : (from last : ℕ) (c : Consumed) (is : List Item) (name : ℕ) → EndOn from last c
+end_o : (from last : ℕ) (c : Result ℕ Refusal) (is : List Item) (name : ℕ) → EndOn from last c
     → BuiltOn from last (then_at BuiltAt.not_built c (λ next. resolved_items is next (resolve_d name (blocks_in is))))
 unfolding then_at
-end_o from last (C.At next) is name h = resolved_o from last is next (resolve_d name (blocks_in is)) h.0 h.1
-end_o from last (C.Refused e) is name h = tt
+end_o from last (Ok next) is name h = resolved_o from last is next (resolve_d name (blocks_in is)) h.0 h.1
+end_o from last (Err e) is name h = tt
 
 header_o : (at last : ℕ) (c : HeaderAt) (k : Header → ℕ → FunctionAt) → HeaderIn at last c
     → ((h : Header) (next : ℕ) → at + 2 ≤ next → next ≤ last → FunctionOn at last (k h next))

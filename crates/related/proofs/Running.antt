@@ -1,4 +1,5 @@
 -- Reading all functions is reading some of them, and then the others from where these end.
+use Rattle.std.specs.Prelude.{Err, Ok}
 use Prim.Native.Nat.{ℕ, zero, suc, ◌+◌, ◌≤◌}
 use mathlib.Core.Path.{◌≡◌, refl, sym, ap, subst, ◌∙◌}
 use mathlib.Core.List.{List, [], ◌∷◌, ◌++◌}
@@ -11,7 +12,6 @@ use Rattle.utils.specs.Bytes.{pick}
 use Rattle.lexer.specs.Decoded.{Tok, token_at}
 use Rattle.parser.specs.Step.{look}
 use Rattle.parser.specs.declared.Refusal.{Refusal}
-use Rattle.parser.specs.declared.Consumed.TheVariants as C
 use Rattle.functions.specs.Functions.{Function, FunctionAt, function, no_function, Program, program_end, program_stop}
 use Rattle.functions.specs.Functions.{program_then}
 use Rattle.functions.specs.Functions.{then_function, function_d, functions_d}
@@ -60,8 +60,8 @@ record Taken (b : Bool) (a : FunctionAt) (k : Function → Program) (whole : Pro
   end : whole.end ≡ (k taken).end
 
 taken-by : (b : Bool) (a : FunctionAt) (k : Function → Program) (at : ℕ) (f : Function) (fs : List Function)
-    → (pick b (program_end (C.At at)) (then_function program_stop a k)).functions ≡ f ∷ fs
-    → Taken b a k (pick b (program_end (C.At at)) (then_function program_stop a k)) f fs
+    → (pick b (program_end (Ok at)) (then_function program_stop a k)).functions ≡ f ∷ fs
+    → Taken b a k (pick b (program_end (Ok at)) (then_function program_stop a k)) f fs
 unfolding pick then_function
 taken-by true a k at f fs e = let z : ◌≡◌ {A = ℕ} 0 1 = cc in absurd (omega arith)
 taken-by false (function g) k at f fs e = record { taken = g; test = refl; is = refl; functions = e; end = refl }

@@ -1,14 +1,12 @@
 -- A function read with nothing known, and what the functions known before it change: the number of its function type,
 -- where its name may be entered.
+use Rattle.std.specs.Prelude.{Err, Ok}
 use Rattle.std.specs.Prelude.{ℕ, ◌≡◌, List}
 use Rattle.lexer.specs.Decoded.{Tok}
 use Rattle.pieces.specs.declared.Identifier.{Identifier}
 use Rattle.parser.specs.Grammar.{global_d}
 use Rattle.parser.specs.declared.Ty.{Ty}
 use Rattle.parser.specs.declared.Variable.{Variable}
-use Rattle.parser.specs.declared.Consumed.TheVariants as C
-use Rattle.parser.specs.declared.Named.TheVariants as N
-use Rattle.parser.specs.declared.TypeRead.TheVariants as R
 use Rattle.functions.specs.Known.{Known, signature, type_number, expected_type}
 use Rattle.functions.specs.Functions.{Header, HeaderAt, header, no_header, FunctionAt, function, no_function}
 use Rattle.functions.specs.Functions.{optional_formals, optional_type}
@@ -29,12 +27,12 @@ retyped_function_at type (no_function e) = no_function e
 -- a header as far as it is read before its name is entered: the name, the formals, the result type
 pub record UpToEntry (ts : List Tok) (at : ℕ) (g : Identifier) (vs : List Variable) (ret : Ty) : Type 0 where
   pub at1 : ℕ
-  pub named : global_d ts at ≡ N.At g at1
+  pub named : global_d ts at ≡ Ok (g, at1)
   pub at2 : ℕ
   pub listed : (optional_formals ts at1).list ≡ vs
-  pub closed : (optional_formals ts at1).end ≡ C.At at2
+  pub closed : (optional_formals ts at1).end ≡ Ok at2
   pub at3 : ℕ
-  pub typed : optional_type ts at2 ≡ R.At ret at3
+  pub typed : optional_type ts at2 ≡ Ok (ret, at3)
 
 -- the name may be entered, and its function type has this number
 pub record Enters (known : List Known) (types type : ℕ) (g : Identifier) (vs : List Variable) (ret : Ty) : Type 0 where

@@ -1,6 +1,7 @@
 -- Two typings of one function under a `Move` (demand 3): the tables of names agree at renamed names, and the answers
 -- are the same but for moved tokens and renamed names. `proofs/SimTyping.antt` shows that the definitions of typing
 -- give related answers on related tables and items.
+use Rattle.std.specs.Prelude.{Err, Ok, Result}
 use Rattle.std.specs.Prelude.{ℕ, ◌≤◌, ◌<◌, ◌≡◌, List, [], ◌∷◌, eqb, length, get_or}
 use Rattle.parser.specs.Moved.{Move, SimE}
 use Rattle.parser.specs.declared.Refusal.{Refusal}
@@ -8,8 +9,6 @@ use Rattle.functions.specs.Known.{formal_types}
 use Rattle.functions.specs.Functions.{Function}
 use Rattle.sema.specs.Symbols.{Typed, typed}
 use Rattle.sema.specs.Typing.{Global}
-use Rattle.sema.specs.declared.Checked.{Checked}
-use Rattle.sema.specs.declared.Checked.TheVariants as K
 
 -- A renamed name has the type that the name has. Both tables have room for all names: to enter a name out of range
 -- would do nothing.
@@ -18,13 +17,13 @@ pub record Tables (m : Move) (t t' : List ℕ) : Type 0 where
   pub room : (x : ℕ) → x < m.names → m.name x < length t
   pub room' : m.names ≤ length t'
 
-pub data SimChecked (m : Move) (n : ℕ) : Checked → Checked → Type 0 where
-  fine : SimChecked m n K.Fine K.Fine
-  refused : {e e' : Refusal} → SimE m n e e' → SimChecked m n (K.Refused e) (K.Refused e')
+pub data SimChecked (m : Move) (n : ℕ) : Result Unit Refusal → Result Unit Refusal → Type 0 where
+  fine : SimChecked m n Ok tt Ok tt
+  refused : {e e' : Refusal} → SimE m n e e' → SimChecked m n (Err e) (Err e')
 
 -- both fine, or related refusals, at one of the first n tokens; the tables related
 pub data SimTyped (m : Move) (n : ℕ) : Typed → Typed → Type 0 where
-  both : {t t' : List ℕ} {e e' : Checked} → Tables m t t' → SimChecked m n e e'
+  both : {t t' : List ℕ} {e e' : Result Unit Refusal} → Tables m t t' → SimChecked m n e e'
       → SimTyped m n (typed t e) (typed t' e')
 
 -- A renamed callee has the type that the callee has.

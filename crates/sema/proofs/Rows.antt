@@ -1,4 +1,5 @@
 -- The functions by name, from the rows in which they are stored, are those of the list that was parsed.
+use Rattle.std.specs.Prelude.{None, Option, Some}
 use Prim.Native.Nat.{ℕ, ◌+◌}
 use mathlib.Core.Path.{◌≡◌, refl}
 use mathlib.Core.Bool.{Bool, true, false}
@@ -19,11 +20,9 @@ use Rattle.sema.specs.Typing.{Global, global}
 use Rattle.functions.specs.Rows.{row_from}
 use Rattle.sema.specs.Globals.{row_global, global_of, globals_in}
 use Rattle.sema.specs.Program.{globals_of}
-use Rattle.functions.specs.declared.FoundRow.{FoundRow}
-use Rattle.functions.specs.declared.FoundRow.TheVariants as W
 
-pick-global : (t : Bool) (rows : List ℕ) (i : ℕ) (more : FoundRow) (g others : Global) → row_global rows i ≡ g
-    → global_of rows more ≡ others → global_of rows (pick t (W.At i) more) ≡ pick t g others
+pick-global : (t : Bool) (rows : List ℕ) (i : ℕ) (more : Option ℕ) (g others : Global) → row_global rows i ≡ g
+    → global_of rows more ≡ others → global_of rows (pick t (Some i) more) ≡ pick t g others
 unfolding pick
 pick-global true rows i more g others e h = e
 pick-global false rows i more g others e h = h

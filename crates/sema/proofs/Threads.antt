@@ -1,4 +1,5 @@
 -- One turn of each loop that threads the table: what is left, typed from the table as it is, gives the whole answer.
+use Rattle.std.specs.Prelude.{Err, Ok, Result}
 use Prim.Native.Nat.{ℕ, zero, suc, ◌+◌, ◌-◌, ◌≤◌, ◌<◌}
 use mathlib.Core.Path.{◌≡◌, refl, sym, ap, ◌∙◌}
 use mathlib.Core.List.{List, ◌∷◌}
@@ -22,8 +23,6 @@ use Rattle.body.specs.Records.{named}
 use Rattle.sema.specs.Items.{item_at, typed as variable}
 use Rattle.sema.specs.Blocks.{items_at, type_items_d, type_end_d, type_block_d, formals_from, enter_formals_d, block_items}
 use Rattle.sema.specs.Blocks.{blocks_at, type_blocks_d}
-use Rattle.sema.specs.declared.Checked.{Checked}
-use Rattle.sema.specs.declared.Checked.TheVariants as K
 use Rattle.sema.proofs.Steps.{typed-refused, typed-fine}
 use Rattle.sema.proofs.Records.{cell_of}
 
@@ -37,7 +36,7 @@ items_more items args at (suc n) h = let m : suc n - 1 ≡ n = omega arith in rw
 module _ (ts : List Tok) (globals : ℕ → Global) (ret : ℕ) (t₀ : List ℕ) (is₀ : List Item) (t items args : List ℕ)
     (at left : ℕ) (same : type_items_d ts globals ret t (items_at items args at left) ≡ type_items_d ts globals ret t₀ is₀)
   where
-    module _ (h : 0 < left) {t₁ : List ℕ} {r : Checked} (op : typed t₁ r ≡ type_item_d ts globals ret t
+    module _ (h : 0 < left) {t₁ : List ℕ} {r : Result Unit Refusal} (op : typed t₁ r ≡ type_item_d ts globals ret t
         (item_at items args at))
       where
         unfoldable more : List ℕ → Typed
@@ -47,13 +46,13 @@ module _ (ts : List Tok) (globals : ℕ → Global) (ret : ℕ) (t₀ : List ℕ
         unfolding type_items_d more
         step = sym (ap (type_items_d ts globals ret t) (items_more items args at left h)) ∙ same
 
-        pub items_refused : {e : Refusal} → r ≡ K.Refused e → typed t₁ (K.Refused e) ≡ type_block_d ts globals ret t₀ is₀
+        pub items_refused : {e : Refusal} → r ≡ Err e → typed t₁ (Err e) ≡ type_block_d ts globals ret t₀ is₀
         unfolding type_block_d
         items_refused {e} g =
             typed-refused t₁ (type_items_d ts globals ret t₀ is₀) (λ t. type_end_d t is₀)
             (typed-refused t₁ (type_item_d ts globals ret t (item_at items args at)) more op g ∙ step) refl
 
-        pub items-fine : r ≡ K.Fine
+        pub items-fine : r ≡ Ok tt
             → type_items_d ts globals ret t₁ (items_at items args (at + 1) (left - 1)) ≡ type_items_d ts globals ret t₀ is₀
         unfolding more
         items-fine g = typed-fine t₁ (type_item_d ts globals ret t (item_at items args at)) more op g ∙ step
@@ -74,7 +73,7 @@ formals-more rows at (suc n) h = let m : suc n - 1 ≡ n = omega arith in rw m
 
 module _ (token : ℕ) (t₀ : List ℕ) (vs₀ : List Variable) (t rows : List ℕ) (at left : ℕ)
     (same : enter_formals_d t token (formals_from rows at left) ≡ enter_formals_d t₀ token vs₀) where
-  module _ (h : 0 < left) {t₁ : List ℕ} {r : Checked}
+  module _ (h : 0 < left) {t₁ : List ℕ} {r : Result Unit Refusal}
       (op : typed t₁ r ≡ enter_d t token (named (get_or rows at 0)) (get_or rows (at + 1) 0)) where
     unfoldable more-formals : List ℕ → Typed
     more-formals t = enter_formals_d t token (formals_from rows (at + 2) (left - 1))
@@ -87,12 +86,12 @@ module _ (token : ℕ) (t₀ : List ℕ) (vs₀ : List Variable) (t rows : List 
         (sym (cell_of (get_or rows (at + 1) 0)))
         ∙ sym (ap (enter_formals_d t token) (formals-more rows at left h)) ∙ same
 
-    pub formals-refused : {e : Refusal} → r ≡ K.Refused e → typed t₁ (K.Refused e) ≡ enter_formals_d t₀ token vs₀
+    pub formals-refused : {e : Refusal} → r ≡ Err e → typed t₁ (Err e) ≡ enter_formals_d t₀ token vs₀
     formals-refused g =
         typed-refused t₁ (enter_d t token (named (get_or rows at 0)) (get_or rows (at + 1) 0)) more-formals op g
         ∙ formals_step
 
-    pub formals-fine : r ≡ K.Fine → enter_formals_d t₁ token (formals_from rows (at + 2) (left - 1)) ≡ enter_formals_d t₀
+    pub formals-fine : r ≡ Ok tt → enter_formals_d t₁ token (formals_from rows (at + 2) (left - 1)) ≡ enter_formals_d t₀
         token vs₀
     unfolding more-formals
     formals-fine g =
@@ -119,7 +118,7 @@ module _ (ts : List Tok) (globals : ℕ → Global) (ret : ℕ) (t₀ : List ℕ
       pub fewer : (rest.blocks ≡ w.blocks) × (rest.blocks - rest.taken < w.blocks - w.taken)
       fewer = let e = next.1 in let l = next.2 in rw e (refl, omega arith)
 
-      module _ {t₁ : List ℕ} {r : Checked}
+      module _ {t₁ : List ℕ} {r : Result Unit Refusal}
           (op : typed t₁ r ≡ type_block_d ts globals ret t (block_items items args blocks (first + b.0))) where
         unfoldable more-blocks : List ℕ → Typed
         more-blocks t = type_blocks_d ts globals ret t (blocks_at items args blocks first (remaining order rest))
@@ -131,13 +130,13 @@ module _ (ts : List Tok) (globals : ℕ → Global) (ret : ℕ) (t₀ : List ℕ
             sym (ap (λ (vs : List ℕ). type_blocks_d ts globals ret t (blocks_at items args blocks first vs)) next.0)
             ∙ same
 
-        pub blocks-refused : {e : Refusal} → r ≡ K.Refused e → typed t₁ (K.Refused e) ≡ type_blocks_d ts globals ret t₀
+        pub blocks-refused : {e : Refusal} → r ≡ Err e → typed t₁ (Err e) ≡ type_blocks_d ts globals ret t₀
             bs₀
         blocks-refused g =
             typed-refused t₁ (type_block_d ts globals ret t (block_items items args blocks (first + b.0))) more-blocks
             op g ∙ blocks_step
 
-        pub blocks-fine : r ≡ K.Fine
+        pub blocks-fine : r ≡ Ok tt
             → type_blocks_d ts globals ret t₁ (blocks_at items args blocks first (remaining order rest)) ≡ type_blocks_d ts
             globals ret t₀ bs₀
         unfolding more-blocks

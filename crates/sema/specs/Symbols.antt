@@ -1,30 +1,29 @@
 -- "One table of names per function: entering a name with another type is 15, reading one absent is 16." The table is a
 -- list of type cells by name number, 0 where the name is absent: 1 int, 2 bool (crates/parser/specs/Runs.antt).
+use Rattle.std.specs.Prelude.{Err, Ok, Result}
 use Rattle.std.specs.Prelude.{ℕ, List, eqb, get_or, set}
 use Rattle.utils.specs.Bytes.{pick}
 use Rattle.pieces.specs.declared.Identifier.{Identifier}
 use Rattle.parser.specs.declared.Refusal.{Refusal}
-use Rattle.sema.specs.declared.Checked.{Checked}
-use Rattle.sema.specs.declared.Checked.TheVariants as K
 
 -- the table after a step, and whether typing goes on
 pub record Typed : Type 0 where
   pub table : List ℕ
-  pub end : Checked
+  pub end : Result Unit Refusal
 
-abbrev pub typed : List ℕ → Checked → Typed
+abbrev pub typed : List ℕ → Result Unit Refusal → Typed
 typed t e = record { table = t; end = e }
 
 abbrev pub on : List ℕ → Typed
-on t = typed t K.Fine
+on t = typed t Ok tt
 
 abbrev pub stop : List ℕ → Refusal → Typed
-stop t e = typed t (K.Refused e)
+stop t e = typed t (Err e)
 
 -- what follows a step that was fine
-unfoldable pub then_end : Checked → Typed → Typed → Typed
-then_end K.Fine next this = next
-then_end (K.Refused e) next this = this
+unfoldable pub then_end : Result Unit Refusal → Typed → Typed → Typed
+then_end Ok tt next this = next
+then_end (Err e) next this = this
 
 unfoldable pub then_typed : Typed → (List ℕ → Typed) → Typed
 then_typed this k = then_end this.end (k this.table) this

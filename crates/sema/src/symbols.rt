@@ -1,7 +1,6 @@
 // One table of names per function: SymbolTable of ir.rs as type cells by name number, 0 where a name is absent.
 ghost use Rattle.std.specs.Prelude.{◌≡◌, ℕ, List, get_or};
 ghost use Rattle.sema.specs.Symbols.{typed, on, facts, enter_d, then_same};
-ghost use Rattle.sema.specs.declared.Checked.TheVariants as K;
 
 use crate::Checked;
 use parser::Refusal;
@@ -17,7 +16,7 @@ pub fn get(table: &[u32], name: Identifier) -> u32
 
 // A refusal that names a name or types.
 pub fn refuse(number: u32, token: usize, wanted: u32, found: u32, name: Identifier) -> Checked
-    ensures { result ≡ K.Refused (facts number token wanted found name) }
+    ensures { result ≡ Err (facts number token wanted found name) }
 {
     Checked::Refused(Refusal {
         number,

@@ -1,4 +1,5 @@
 -- From the slices that `parse` leaves to those that the whole unit leaves.
+use Rattle.std.specs.Prelude.{Err, Ok, Result}
 use Prim.Native.Nat.{ℕ, ◌+◌, ◌*◌, ◌≤◌}
 use mathlib.Core.Path.{◌≡◌, refl, sym, ap, subst, ◌∙◌}
 use mathlib.Core.List.{List, [], ◌∷◌, ◌++◌}
@@ -10,8 +11,6 @@ use Rattle.utils.proofs.Runs.{length_over}
 use Rattle.lexer.specs.Decoded.{Tok}
 use Rattle.parser.specs.Step.{then_at}
 use Rattle.parser.specs.declared.Refusal.{Refusal}
-use Rattle.parser.specs.declared.Consumed.{Consumed}
-use Rattle.parser.specs.declared.Consumed.TheVariants as C
 use Rattle.functions.specs.Functions.{Function, program_d}
 use Rattle.functions.specs.Columns.{row_at}
 use Rattle.functions.specs.Answer.{Slices, slices, Long, counts_with, counts_from, program_read}
@@ -19,7 +18,6 @@ use Rattle.functions.specs.Answer.{Held}
 use Rattle.functions.specs.Laid.{rows_cells, untyped_items, untyped_arguments, all_blocks, all_predecessors, FitsFrom}
 use Rattle.functions.specs.Laid.{AllFit}
 use Rattle.functions.specs.declared.Counts.{Counts}
-use Rattle.functions.specs.declared.ProgramRead.TheVariants as U
 use Rattle.functions.proofs.Laid.{functions-counted, length-items, length-arguments, Inside, inside-from, none_inside}
 use Rattle.functions.proofs.Laid.{stored_laid, length-rows, length-all_blocks, length-predecessors}
 use Rattle.functions.proofs.Laid.{LaidFits, laid_fits}
@@ -28,8 +26,6 @@ use Rattle.parser.specs.Runs.{type_cell}
 use Rattle.sema.specs.Symbols.{Typed}
 use Rattle.sema.specs.Blocks.{type_function_d}
 use Rattle.sema.specs.Program.{globals_of, ordered_blocks, type_program_d as typed_d}
-use Rattle.sema.specs.declared.Checked.{Checked}
-use Rattle.sema.specs.declared.Checked.TheVariants as K
 use Rattle.sema.proofs.Rows.{globals_stored}
 use Rattle.elaborate.specs.Types.{callee_in, typed_items_cells, typed_arguments_cells}
 use Rattle.elaborate.proofs.Lists.{length-typed_items, length-typed_arguments}
@@ -139,7 +135,7 @@ module _ (ts : List Tok) (names : List ℕ) (fs : List Function) (fits : FitsFro
   abbrev d : Done
   d = typed_rows ts rows (length fs) blocks untyped 0 (length fs) items args
 
-  pub typed-slices : d.end ≡ K.Fine
+  pub typed-slices : d.end ≡ Ok tt
       → slices rows d.items d.arguments blocks (over P (all_predecessors fs))
       ≡ slices
       (over F (length fs ∷ rows_cells ts names none fs))
@@ -185,17 +181,17 @@ front-slices ts names fs fits callees tables F I A B P items_are arguments_are =
 -- What the function that calls both knows. --------------------------------------------------------------------------
 
 -- how parsing ended
-ended_at_lem : (e : Consumed) (m n : Counts) → U.Done n ≡ then_at U.Refused e (λ next. U.Done m)
-    → ((next : ℕ) × (e ≡ C.At next)) × (n ≡ m)
+ended_at_lem : (e : Result ℕ Refusal) (m n : Counts) → Ok n ≡ then_at Err e (λ next. Ok m)
+    → ((next : ℕ) × (e ≡ Ok next)) × (n ≡ m)
 unfolding then_at
-ended_at_lem (C.At next) m n h = ((next, refl), cc)
-ended_at_lem (C.Refused e) m n h = absurd (let z : ◌≡◌ {A = ℕ} 0 1 = cc in omega arith)
+ended_at_lem (Ok next) m n h = ((next, refl), cc)
+ended_at_lem (Err e) m n h = absurd (let z : ◌≡◌ {A = ℕ} 0 1 = cc in omega arith)
 
-refused_at_lem : (e : Consumed) (m : Counts) (r : Refusal) → U.Refused r ≡ then_at U.Refused e (λ next. U.Done m) → e
-    ≡ C.Refused r
+refused_at_lem : (e : Result ℕ Refusal) (m : Counts) (r : Refusal) → Err r ≡ then_at Err e (λ next. Ok m) → e
+    ≡ Err r
 unfolding then_at
-refused_at_lem (C.At next) m r h = absurd (let z : ◌≡◌ {A = ℕ} 0 1 = cc in omega arith)
-refused_at_lem (C.Refused e) m r h = cc
+refused_at_lem (Ok next) m r h = absurd (let z : ◌≡◌ {A = ℕ} 0 1 = cc in omega arith)
+refused_at_lem (Err e) m r h = cc
 
 module _ (ts : List Tok) (names f i a b p : List ℕ) where
   abbrev fs : List Function
@@ -205,18 +201,18 @@ module _ (ts : List Tok) (names f i a b p : List ℕ) where
   s₀ = slices f i a b p
 
   pub refused-whole : {e : Refusal} → unit_d ts ≡ refused e → (s : Slices)
-      → (U.Refused e ≡ unit_read (unit_d ts)) × (UnitHeld ts names s (unit_d ts) × Counted (U.Refused e))
+      → (Err e ≡ unit_read (unit_d ts)) × (UnitHeld ts names s (unit_d ts) × Counted (Err e))
   refused-whole h s = rw h (refl, (tt, tt))
 
-  pub parse_refuses : (e : Refusal) → U.Refused e ≡ program_read (program_d ts) → unit_d ts ≡ refused e
+  pub parse_refuses : (e : Refusal) → Err e ≡ program_read (program_d ts) → unit_d ts ≡ refused e
   unfolding unit_d program_read
   parse_refuses e h = rw (refused_at_lem (program_d ts).end (counts_from none fs) e h)
 
   module _ (rows_long : 2881 ≤ length f) (long : Long i a b p)
       (fits : AllFit (program_d ts))
-      (n : Counts) (parsed : U.Done n ≡ program_read (program_d ts)) (f₁ i₁ a₁ b₁ p₁ : List ℕ)
+      (n : Counts) (parsed : Ok n ≡ program_read (program_d ts)) (f₁ i₁ a₁ b₁ p₁ : List ℕ)
       (held : Held ts names fs s₀ (slices f₁ i₁ a₁ b₁ p₁) (program_d ts).end) where
-    at_end : ((next : ℕ) × ((program_d ts).end ≡ C.At next)) × (n ≡ counts_from none fs)
+    at_end : ((next : ℕ) × ((program_d ts).end ≡ Ok next)) × (n ≡ counts_from none fs)
     unfolding program_read
     at_end = ended_at_lem (program_d ts).end (counts_from none fs) n parsed
 
@@ -231,7 +227,7 @@ module _ (ts : List Tok) (names f i a b p : List ℕ) where
         (over b (all_blocks none fs))
         (over p (all_predecessors fs))
     laid_are =
-        subst (λ (e : Consumed). Held ts names fs s₀ (slices f₁ i₁ a₁ b₁ p₁) e) at_end.0.1 held
+        subst (λ (e : Result ℕ Refusal). Held ts names fs s₀ (slices f₁ i₁ a₁ b₁ p₁) e) at_end.0.1 held
         ∙ stored_laid ts names f i a b p rows_long long.items_long
         long.arguments_long long.blocks_long long.predecessors_long fs fits
 
@@ -290,23 +286,23 @@ module _ (ts : List Tok) (names f i a b p : List ℕ) where
         ∙ ends_as ts names fs fits f i a b p rows_long long.items_long
         long.arguments_long long.blocks_long long.predecessors_long
 
-    module _ (r : Checked) (i₂ a₂ : List ℕ) (typed : RowsHeld r i₂ a₂ done) where
-      pub types_refuse : (e : Refusal) → r ≡ K.Refused e → unit_d ts ≡ refused e
+    module _ (r : Result Unit Refusal) (i₂ a₂ : List ℕ) (typed : RowsHeld r i₂ a₂ done) where
+      pub types_refuse : (e : Refusal) → r ≡ Err e → unit_d ts ≡ refused e
       unfolding unit_d
       types_refuse e h =
-          let q : (typed_d ts fs fs untyped).end ≡ K.Refused e = sym ends_is ∙ sym typed.answer ∙ h in
+          let q : (typed_d ts fs fs untyped).end ≡ Err e = sym ends_is ∙ sym typed.answer ∙ h in
           rw (at_end.0.1, q)
 
-      pub types-fine : r ≡ K.Fine → unit_d ts ≡ checked fs
+      pub types-fine : r ≡ Ok tt → unit_d ts ≡ checked fs
       unfolding unit_d
       types-fine h =
-          let q : (typed_d ts fs fs untyped).end ≡ K.Fine = sym ends_is ∙ sym typed.answer ∙ h in
+          let q : (typed_d ts fs fs untyped).end ≡ Ok tt = sym ends_is ∙ sym typed.answer ∙ h in
           rw (at_end.0.1, q)
 
-      written : r ≡ K.Fine → fronts (counts_from none fs) (slices f₁ i₂ a₂ b₁ p₁) ≡ unit_slices ts names (checked fs)
+      written : r ≡ Ok tt → fronts (counts_from none fs) (slices f₁ i₂ a₂ b₁ p₁) ≡ unit_slices ts names (checked fs)
       written h =
-          let k = subst (λ (x : Checked). HeldBy x i₂ a₂ done) h typed.held in
-          let z : laid_done.end ≡ K.Fine = ap (λ (d : Done). d.end) (sym done-is) ∙ sym typed.answer ∙ h in
+          let k = subst (λ (x : Result Unit Refusal). HeldBy x i₂ a₂ done) h typed.held in
+          let z : laid_done.end ≡ Ok tt = ap (λ (d : Done). d.end) (sym done-is) ∙ sym typed.answer ∙ h in
           ap (fronts (counts_from none fs))
           (same-slices f-is (k.0 ∙ ap (λ (d : Done). d.items) done-is) (k.1 ∙ ap (λ (d : Done). d.arguments)
           done-is) b_is p_is
@@ -316,9 +312,9 @@ module _ (ts : List Tok) (names f i a b p : List ℕ) where
           (omega (arith, length-items none fs, length-tables ts fs fs (callee_in fs) none))
           (omega (arith, length-arguments none fs, length-typed ts fs fs none))
 
-      pub fine-whole : r ≡ K.Fine
-          → (U.Done n ≡ unit_read (unit_d ts)) × (UnitHeld ts names (slices f₁ i₂ a₂ b₁ p₁) (unit_d ts) × Counted
-          (U.Done n))
+      pub fine-whole : r ≡ Ok tt
+          → (Ok n ≡ unit_read (unit_d ts)) × (UnitHeld ts names (slices f₁ i₂ a₂ b₁ p₁) (unit_d ts) × Counted
+          (Ok n))
       fine-whole h =
           let v = inside-from none fs none_inside fits in
           let u = types-fine h in

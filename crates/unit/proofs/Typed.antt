@@ -1,5 +1,7 @@
 -- Typing on the cells in which functions stand is typing the functions, and the cells that it leaves are theirs with
 -- the types of operands.
+use Rattle.std.specs.Prelude.{Err, Ok, Result}
+use Rattle.parser.specs.declared.Refusal.{Refusal}
 use Prim.Native.Nat.{ℕ, suc, ◌+◌, ◌*◌}
 use mathlib.Core.Path.{◌≡◌, refl, sym, ap, fun_ext, ◌∙◌}
 use mathlib.Core.List.{List, [], ◌∷◌, ◌++◌, append_assoc}
@@ -24,8 +26,6 @@ use Rattle.sema.specs.Symbols.{Typed, then_end, then_typed}
 use Rattle.sema.specs.Globals.{globals_in}
 use Rattle.sema.specs.Blocks.{type_function_d, type_row_d}
 use Rattle.sema.specs.Program.{globals_of, ordered_blocks, type_program_d as typed_d}
-use Rattle.sema.specs.declared.Checked.{Checked}
-use Rattle.sema.specs.declared.Checked.TheVariants as K
 use Rattle.sema.proofs.Stored.{row_typed}
 use Rattle.elaborate.specs.Types.{callee_in, callee_of, typed_items, typed_calls, typed_items_cells, typed_arguments_cells}
 use Rattle.elaborate.proofs.Lists.{items-typed, calls_typed, length-typed_items, length-typed_arguments}
@@ -53,8 +53,8 @@ module _ (ts : List Tok) (names rows : List ℕ) (all : List Function) (total : 
   -- What the loop over these functions leaves, behind what stands before them: pi, pa; zi, za follow.
   pub record Same (gs : List Function) (n : Counts) (pi pa zi za : List ℕ) (d : Done) : Type 0 where
     pub ends : d.end ≡ (typed_d ts all gs untyped).end
-    pub items_are : d.end ≡ K.Fine → d.items ≡ pi ++ (all_items (callee_in all) n gs (tables_of ts all gs) ++ zi)
-    pub arguments_are : d.end ≡ K.Fine → d.arguments ≡ pa ++ (all_arguments gs (tables_of ts all gs) ++ za)
+    pub items_are : d.end ≡ Ok tt → d.items ≡ pi ++ (all_items (callee_in all) n gs (tables_of ts all gs) ++ zi)
+    pub arguments_are : d.end ≡ Ok tt → d.arguments ≡ pa ++ (all_arguments gs (tables_of ts all gs) ++ za)
 
   -- one function
   module _ (n : Counts) (f : Function) (gs : List Function) (fits : Fits n f) (pi pa zi za zr zb : List ℕ)
@@ -149,7 +149,7 @@ module _ (ts : List Tok) (names rows : List ℕ) (all : List Function) (total : 
     pub turned : typed_rows ts rows total blocks t₀ n.functions (suc (length gs)) items args
         ≡ then_row (one f).end
         (typed_rows ts rows total blocks t₀ (n.functions + 1) (length gs) (pi' ++ mi) (pa' ++ ma))
-        (λ e. done (K.Refused e) items args)
+        (λ e. done (Err e) items args)
     unfolding typed_rows
     turned =
         rw (
@@ -173,10 +173,10 @@ module _ (ts : List Tok) (names rows : List ℕ) (all : List Function) (total : 
     abbrev rest-done : Done
     rest-done = typed_rows ts rows total blocks t₀ (n.functions + 1) (length gs) (pi' ++ mi) (pa' ++ ma)
 
-    pub by_end : (e : Checked) → (one f).end ≡ e → Same gs next pi' pa' zi za rest-done
-        → Same (f ∷ gs) n pi pa zi za (then_row e rest-done (λ r. done (K.Refused r) items args))
+    pub by_end : (e : Result Unit Refusal) → (one f).end ≡ e → Same gs next pi' pa' zi za rest-done
+        → Same (f ∷ gs) n pi pa zi za (then_row e rest-done (λ r. done (Err r) items args))
     unfolding typed_d then_typed then_end then_row all_items all_arguments tables_of
-    by_end K.Fine h s =
+    by_end Ok tt h s =
         record {
           ends = s.ends ∙ rw h;
           items_are = λ e.
@@ -190,7 +190,7 @@ module _ (ts : List Tok) (names rows : List ℕ) (all : List Function) (total : 
               ∙ ap (λ (l : List ℕ). pa ++ l)
               (sym (append_assoc (typed_arguments_cells (one f).table f.items) _ za));
         }
-    by_end (K.Refused r) h s =
+    by_end (Err r) h s =
         record {
           ends = rw h;
           items_are = λ e. absurd (let z : ◌≡◌ {A = ℕ} 0 1 = cc in omega arith);

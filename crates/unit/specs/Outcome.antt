@@ -1,12 +1,11 @@
 -- The functions of a text, parsed and typed, and what the five slices hold then.
 -- "all parsing (with labels and edges of each function) before all typing"
+use Rattle.std.specs.Prelude.{Err, Ok, Result}
 use Rattle.std.specs.Prelude.{ℕ, ◌*◌, ◌≤◌, ◌≡◌, List, [], ◌∷◌, ◌++◌, length, take}
 use Rattle.utils.specs.Bytes.{pad_to}
 use Rattle.lexer.specs.Decoded.{Tok}
 use Rattle.utils.specs.Limits.{most_names, most_functions}
 use Rattle.parser.specs.declared.Refusal.{Refusal}
-use Rattle.parser.specs.declared.Consumed.{Consumed}
-use Rattle.parser.specs.declared.Consumed.TheVariants as C
 use Rattle.functions.specs.Functions.{Function, program_d}
 use Rattle.body.specs.Room.{item_width}
 use Rattle.link.specs.Steps.{block_width}
@@ -14,11 +13,7 @@ use Rattle.functions.specs.Columns.{row_at}
 use Rattle.functions.specs.Answer.{Slices, slices, counts, counts_with, counts_from}
 use Rattle.functions.specs.Laid.{rows_cells, all_blocks, all_predecessors}
 use Rattle.functions.specs.declared.Counts.{Counts}
-use Rattle.functions.specs.declared.ProgramRead.{ProgramRead}
-use Rattle.functions.specs.declared.ProgramRead.TheVariants as U
 use Rattle.sema.specs.Program.{globals_of, function_typed, type_program_d as typed_d}
-use Rattle.sema.specs.declared.Checked.{Checked}
-use Rattle.sema.specs.declared.Checked.TheVariants as K
 use Rattle.elaborate.specs.Types.{callee_in, typed_items_cells, typed_arguments_cells}
 
 -- A text has at most 1,024 names; none has a type yet.
@@ -31,13 +26,13 @@ pub data UnitOutcome : Type 0 where
   checked : List Function → UnitOutcome
   refused : Refusal → UnitOutcome
 
-abbrev pub after_typing : List Function → Checked → UnitOutcome
-after_typing fs K.Fine = checked fs
-after_typing fs (K.Refused e) = refused e
+abbrev pub after_typing : List Function → Result Unit Refusal → UnitOutcome
+after_typing fs Ok tt = checked fs
+after_typing fs (Err e) = refused e
 
-abbrev pub after_parsing : List Tok → List Function → Consumed → UnitOutcome
-after_parsing ts fs (C.At next) = after_typing fs (typed_d ts fs fs untyped).end
-after_parsing ts fs (C.Refused e) = refused e
+abbrev pub after_parsing : List Tok → List Function → Result ℕ Refusal → UnitOutcome
+after_parsing ts fs (Ok next) = after_typing fs (typed_d ts fs fs untyped).end
+after_parsing ts fs (Err e) = refused e
 
 unfoldable pub unit_d : List Tok → UnitOutcome
 unit_d ts = after_parsing ts (program_d ts).functions (program_d ts).end
@@ -100,16 +95,16 @@ fronts n s =
     (take n.predecessors s.predecessors)
 
 -- how much of each slice is used, or the refusal
-abbrev pub unit_read : UnitOutcome → ProgramRead
-unit_read (checked fs) = U.Done (counts_from none fs)
-unit_read (refused e) = U.Refused e
+abbrev pub unit_read : UnitOutcome → Result Counts Refusal
+unit_read (checked fs) = Ok (counts_from none fs)
+unit_read (refused e) = Err e
 
 -- how many records there are
-abbrev pub Counted : ProgramRead → Type 0
-Counted (U.Done n) =
+abbrev pub Counted : Result Counts Refusal → Type 0
+Counted (Ok n) =
     (n.functions ≤ most_functions) × (n.items ≤ 3072) × (n.arguments ≤ 3464) × (n.blocks ≤ 1024)
     × (n.predecessors ≤ 2048)
-Counted (U.Refused e) = Unit
+Counted (Err e) = Unit
 
 -- The records stand in front; of what stands behind nothing is said, and nothing of a refusal's slices.
 abbrev pub UnitHeld : List Tok → List ℕ → Slices → UnitOutcome → Type 0

@@ -1,30 +1,29 @@
 -- Typing on the cells of the header table's rows: what the loop over them does.
+use Rattle.std.specs.Prelude.{Err, Ok, Result}
 use Rattle.std.specs.Prelude.{ℕ, zero, suc, ◌+◌, ◌*◌, ◌≤◌, ◌<◌, ◌≡◌, List, get_or}
 use Rattle.lexer.specs.Decoded.{Tok}
 use Rattle.functions.specs.Columns.{type_at, first_item_at, item_count_at}
 use Rattle.utils.specs.Limits.{most_functions}
 use Rattle.parser.specs.declared.Refusal.{Refusal}
 use Rattle.sema.specs.Blocks.{type_row_d}
-use Rattle.sema.specs.declared.Checked.{Checked}
-use Rattle.sema.specs.declared.Checked.TheVariants as K
 use Rattle.elaborate.specs.Types.{callee_of, typed_items, typed_calls}
 
 -- how typing ends, and the cells of items and arguments then
 pub record Done : Type 0 where
-  pub end : Checked
+  pub end : Result Unit Refusal
   pub items : List ℕ
   pub arguments : List ℕ
 
-abbrev pub done : Checked → List ℕ → List ℕ → Done
+abbrev pub done : Result Unit Refusal → List ℕ → List ℕ → Done
 done e items args = record { end = e; items = items; arguments = args }
 
-unfoldable pub then_row : Checked → Done → (Refusal → Done) → Done
-then_row K.Fine next fail = next
-then_row (K.Refused e) next fail = fail e
+unfoldable pub then_row : Result Unit Refusal → Done → (Refusal → Done) → Done
+then_row Ok tt next fail = next
+then_row (Err e) next fail = fail e
 
 -- The m functions from row i on, of n: each is typed in a table as long as t, and then its operands' types are written.
 unfoldable pub typed_rows : List Tok → List ℕ → ℕ → List ℕ → List ℕ → ℕ → ℕ → List ℕ → List ℕ → Done
-typed_rows ts rows n blocks t i zero items args = done K.Fine items args
+typed_rows ts rows n blocks t i zero items args = done Ok tt items args
 typed_rows ts rows n blocks t i (suc m) items args =
     let first = get_or rows (first_item_at i) 0 in
     let count = get_or rows (item_count_at i) 0 in
@@ -32,7 +31,7 @@ typed_rows ts rows n blocks t i (suc m) items args =
     then_row r.end
     (typed_rows ts rows n blocks t (i + 1) m (typed_items r.table (callee_of rows n) items first count)
     (typed_calls r.table items args first count))
-    (λ e. done (K.Refused e) items args)
+    (λ e. done (Err e) items args)
 
 -- No row of the n has a type number past 64, and the items of the `more` rows from `first` on lie in their slice.
 pub record RowsFit (rows : List ℕ) (n first more cells : ℕ) : Type 0 where
@@ -41,10 +40,10 @@ pub record RowsFit (rows : List ℕ) (n first more cells : ℕ) : Type 0 where
       → (get_or rows (first_item_at i) 0 + get_or rows (item_count_at i) 0) * 8 ≤ cells
 
 -- The answer, and where all functions are typed, the cells. A refusal says nothing of them.
-abbrev pub HeldBy : Checked → List ℕ → List ℕ → Done → Type 0
-HeldBy K.Fine items args d = (items ≡ d.items) × (args ≡ d.arguments)
-HeldBy (K.Refused e) items args d = Unit
+abbrev pub HeldBy : Result Unit Refusal → List ℕ → List ℕ → Done → Type 0
+HeldBy Ok tt items args d = (items ≡ d.items) × (args ≡ d.arguments)
+HeldBy (Err e) items args d = Unit
 
-pub record RowsHeld (r : Checked) (items args : List ℕ) (d : Done) : Type 0 where
+pub record RowsHeld (r : Result Unit Refusal) (items args : List ℕ) (d : Done) : Type 0 where
   pub answer : r ≡ d.end
   pub held : HeldBy r items args d

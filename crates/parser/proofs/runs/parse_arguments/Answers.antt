@@ -1,9 +1,10 @@
 -- Of the whole run n variables are stored, and the rest is read from here (`Going`).
+use Rattle.std.specs.Prelude.{Err, Ok}
 use native.Mathlib.Omega.{arith}
+use Rattle.std.proofs.lemmas.Result.{err_from_is_err_and}
 use Prim.Native.Nat.{◌-◌}
 use Rattle.parser.specs.Step.{then_at, refusal}
 use Rattle.parser.proofs.Turning.{arguments-end, arguments-refused, arguments_full, arguments-more}
-use Rattle.parser.specs.declared.Consumed.TheVariants as C
 use Rattle.lexer.specs.Decoded.{tokens_of}
 use Rattle.parser.proofs.Going.{begin, stop, onward}
 use Rattle.parser.specs.Runs.{arguments_d}
@@ -18,23 +19,24 @@ unfolding then_at
 returns-then-t-eq-SEMICOLON c =
     let ts = tokens_of c.args.tokens.now in
     let turn = arguments-end ts (16 - c.loop-t.n) c.loop-t.here c.token_at-t.ensures c.if-t-eq-SEMICOLON.true in
-    let s = stop (C.At c.token_at-t.result.next) c.loop-t.invariant turn in
+    let s = stop (Ok c.token_at-t.result.next) c.loop-t.invariant turn in
     record {
       value = s.0;
       cells_after = s.1;
     }
 
-pub returns-in-Refused : goal.returns-in-Refused
+pub returns-in_err-id : goal.returns-in_err-id
 unfolding then_at
-returns-in-Refused c =
+returns-in_err-id c =
     let ts = tokens_of c.args.tokens.now in
     let turn =
     arguments-refused ts (16 - c.loop-t.n) c.loop-t.here c.token_at-t.ensures c.if-t-eq-SEMICOLON.false
     c.consume_named.ensures
-    c.in-Refused.is in
-    let s = stop (C.Refused c.in-Refused.e) c.loop-t.invariant turn in
+    c.in_err-id.was in
+    let s = stop (Err c.in_err-id.field-0.0) c.loop-t.invariant turn in
+    let p = err_from_is_err_and c.from_residual.result c.from_residual.ensures.1 in
     record {
-      value = s.0;
+      value = rw (p.1, p.2) s.0;
       cells_after = s.1;
     }
 
@@ -46,8 +48,8 @@ returns-then-n-ge-ARGUMENTS c =
     arguments_full ts (16 - c.loop-t.n) c.loop-t.here (omega (
       arith,
       c.if-n-ge-ARGUMENTS.true,
-    )) c.token_at-t.ensures c.if-t-eq-SEMICOLON.false c.consume_named.ensures c.in-At.is in
-    let s = stop (C.Refused (refusal 37 c.loop-t.here 0)) c.loop-t.invariant turn in
+    )) c.token_at-t.ensures c.if-t-eq-SEMICOLON.false c.consume_named.ensures c.in_ok-id.was in
+    let s = stop (Err (refusal 37 c.loop-t.here 0)) c.loop-t.invariant turn in
     record {
       value = rw c.refuse.ensures s.0;
       cells_after = s.1;
@@ -79,5 +81,5 @@ loop-t-preserved c =
     let turn =
     arguments-more ts c.loop-t.n c.loop-t.here c.if-n-ge-ARGUMENTS.false c.token_at-t.ensures
     c.if-t-eq-SEMICOLON.false c.consume_named.ensures
-    c.in-At.is in
+    c.in_ok-id.was in
     onward _ _ _ c.loop-t.invariant c.if-n-ge-ARGUMENTS.false turn c.put_variable.ensures

@@ -1,30 +1,19 @@
 -- The word, the callee, then the run of the arguments.
-use mathlib.Core.Path.{refl}
 use Rattle.parser.proofs.Turning.{call-done, call-stopped, call-stored}
-use Rattle.parser.specs.Step.{opened}
-use Rattle.parser.specs.Runs.{call_d, called_of, variables_cells}
+use Rattle.std.proofs.lemmas.Result.{err_from_is_err_and}
 use Rattle.parser.proofs.runs.parse_call.Goals as goal
 
-pub returns-in-Refused : goal.returns-in-Refused
-unfolding call_d called_of variables_cells opened
-returns-in-Refused c =
+pub returns-in_err-count : goal.returns-in_err-count
+returns-in_err-count c =
+    let p = err_from_is_err_and c.from_residual-in_err-count.result c.from_residual-in_err-count.ensures.1 in
     record {
-      value = rw (← c.consume.ensures, c.in-Refused.is) refl;
-      cells_after = rw (← c.consume.ensures, c.in-Refused.is) refl;
+      value = rw (p.1, p.2) (call-stopped _ _ c.consume.ensures c.in_ok-at.was c.consume_named.ensures c.in_ok-callee.was c.parse_arguments.ensures.value c.in_err-count.was);
+      cells_after = call-stored _ _ c.consume.ensures c.in_ok-at.was c.consume_named.ensures c.in_ok-callee.was _ _ c.parse_arguments.ensures.cells_after;
     }
 
-pub returns-in-Refused-consume_named : goal.returns-in-Refused-consume_named
-unfolding call_d called_of variables_cells opened
-returns-in-Refused-consume_named c =
+pub returns : goal.returns
+returns c =
     record {
-      value = rw (← c.consume.ensures, c.in-At.is, ← c.consume_named.ensures, c.in-Refused-consume_named.is) refl;
-      cells_after = rw (← c.consume.ensures, c.in-At.is, ← c.consume_named.ensures, c.in-Refused-consume_named.is) refl;
+      value = call-done _ _ c.consume.ensures c.in_ok-at.was c.consume_named.ensures c.in_ok-callee.was c.parse_arguments.ensures.value c.in_ok-count.was;
+      cells_after = call-stored _ _ c.consume.ensures c.in_ok-at.was c.consume_named.ensures c.in_ok-callee.was _ _ c.parse_arguments.ensures.cells_after;
     }
-
-pub returns-in-Refused-parse_arguments : goal.returns-in-Refused-parse_arguments
-returns-in-Refused-parse_arguments c =
-    record { value = search (call-stopped, call-stored); cells_after = search (call-stopped, call-stored) }
-
-pub returns-in-Done : goal.returns-in-Done
-returns-in-Done c =
-    record { value = search (call-done, call-stored); cells_after = search (call-done, call-stored) }
