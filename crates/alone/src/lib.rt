@@ -12,10 +12,10 @@ ghost use Rattle.headers.specs.Spelled.{Named, callees_spelled};
 ghost use Rattle.recheck.specs.Recheck.{verdict_d};
 ghost use Rattle.recheck.specs.Alone.{verdict_read, VerdictHeld};
 
-use functions::{ProgramRead, columns};
+use functions::{Counts, columns};
 use headers::kept;
+use parser::Refusal;
 use recheck::alone::{parse_alone, place_alone};
-use sema::Checked;
 use unit::types;
 use utils::numbers;
 
@@ -34,7 +34,7 @@ fn build<'t, 'c>(
     blocks: &mut [u32],
     predecessors: &mut [u32],
     local: &mut [u32],
-) -> ProgramRead
+) -> Result<Counts, Refusal>
     requires { (is_table old.now rows.now number ≡ true) × Named new.now names.now known
         × Within (tokens_of tokens.now) 0 × (table_size ≤ length functions.old)
         × Long items.old arguments.old blocks.old predecessors.old × (table_size ≤ length local.old) }
@@ -50,9 +50,9 @@ fn build<'t, 'c>(
     ensures counted { Counted result }
 {
     if !kept::keeps(old, new, rows, names, number, tokens, local) {
-        return ProgramRead::Refused(parser::refuse(numbers::HEADER_CHANGED, 0));
+        return Err(parser::refuse(numbers::HEADER_CHANGED, 0));
     }
-    match parse_alone(
+    let n = parse_alone(
         tokens,
         names,
         functions,
@@ -60,18 +60,10 @@ fn build<'t, 'c>(
         arguments,
         blocks,
         predecessors,
-    ) {
-        ProgramRead::Refused(e) => ProgramRead::Refused(e),
-        ProgramRead::Done(n) => {
-            let at = place_alone(functions, old, rows, number, new, names, known, local);
-            match types::type_rows(
-                tokens, local, at.count, at.place, 1, items, arguments, blocks,
-            ) {
-                Checked::Refused(e) => ProgramRead::Refused(e),
-                Checked::Fine => ProgramRead::Done(n),
-            }
-        }
-    }
+    )?;
+    let at = place_alone(functions, old, rows, number, new, names, known, local);
+    types::type_rows(tokens, local, at.count, at.place, 1, items, arguments, blocks)?;
+    Ok(n)
 }
 
 // With room for the old headers.
@@ -88,7 +80,7 @@ pub fn unit<'t, 'c>(
     arguments: &mut [u32],
     blocks: &mut [u32],
     predecessors: &mut [u32],
-) -> ProgramRead
+) -> Result<Counts, Refusal>
     requires { (is_table old.now rows.now number ≡ true) × Named new.now names.now known
         × Within (tokens_of tokens.now) 0 × (table_size ≤ length functions.old)
         × Long items.old arguments.old blocks.old predecessors.old }

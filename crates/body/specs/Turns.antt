@@ -59,7 +59,7 @@ CallHeld n used r run items₀ items arguments₀ arguments (Err e) = Unit
 
 -- behind a terminator: its own refusal, or 12 with the operation's token
 abbrev pub late_refusal : Result ItemRead Refusal → Refusal
-late_refusal (Ok (record { item = r; arguments = used; next = next })) = refusal 12 r.token 0
+late_refusal (Ok read) = refusal 12 read.item.token 0
 late_refusal (Err e) = e
 
 -- what stands behind an operation, by its record's kind

@@ -7,7 +7,7 @@ ghost use Rattle.body.specs.Room.{Within, arguments_size};
 ghost use Rattle.body.specs.Turns.{item_read, ItemHeld, call_record, call_read, CallHeld};
 
 use crate::{ItemRead, Last, kinds, records};
-use parser::{Called, Parsed, VARIABLE_CELLS, runs};
+use parser::{Called, Parsed, Refusal, VARIABLE_CELLS, runs};
 use pieces::Identifier;
 
 // A call from its word on; `dest` and `dty` are its result and the result's type.
@@ -21,7 +21,7 @@ fn parse_call_item(
     n: usize,
     arguments: &mut [u32],
     used: usize,
-) -> ItemRead
+) -> Result<ItemRead, Refusal>
     requires { Within (tokens_of tokens.now) word
         × (used ≤ 3448) × (n * 8 + 8 ≤ length items.old) × (arguments_size ≤ length arguments.old) }
     ensures value { result ≡ call_read kind word dest dty used (call_d (tokens_of tokens.now) word) }
@@ -30,26 +30,22 @@ fn parse_call_item(
         items.old items.new arguments.old arguments.new
         (call_d (tokens_of tokens.now) word).arguments.end }
 {
-    match runs::parse_call(tokens, word, arguments, used * VARIABLE_CELLS) {
-        Called::Refused(e) => ItemRead::Refused(e),
-        Called::Done {
-            callee,
-            count,
-            next,
-        } => {
-            let run = Last::Run {
-                first: used as u32,
-                count: count as u32,
-            };
-            let r = records::record_of(kind, word as u32, dest, dty, callee, run);
-            records::put_record(items, n, r);
-            ItemRead::Done {
-                record: r,
-                arguments: used + count,
-                next,
-            }
-        }
-    }
+    let Called {
+        callee,
+        count,
+        next,
+    } = runs::parse_call(tokens, word, arguments, used * VARIABLE_CELLS)?;
+    let run = Last::Run {
+        first: used as u32,
+        count: count as u32,
+    };
+    let item = records::record_of(kind, word as u32, dest, dty, callee, run);
+    records::put_record(items, n, item);
+    Ok(ItemRead {
+        item,
+        arguments: used + count,
+        next,
+    })
 }
 
 // Stores the item at index n, and its arguments from `used` on.
@@ -60,23 +56,22 @@ pub(crate) fn parse_item(
     n: usize,
     arguments: &mut [u32],
     used: usize,
-) -> ItemRead
+) -> Result<ItemRead, Refusal>
     requires { Within (tokens_of tokens.now) at
         × (used ≤ 3448) × (n * 8 + 8 ≤ length items.old) × (arguments_size ≤ length arguments.old) }
     ensures value { result ≡ item_read used (item_d (tokens_of tokens.now) at) }
     ensures item_held { ItemHeld n used items.old items.new arguments.old
         arguments.new (item_d (tokens_of tokens.now) at) }
 {
-    match parser::parse_instruction(tokens, at) {
-        Parsed::Refused(e) => ItemRead::Refused(e),
+    match parser::parse_instruction(tokens, at)? {
         Parsed::Done(o, next) => {
-            let r = records::operation_record(o);
-            records::put_record(items, n, r);
-            ItemRead::Done {
-                record: r,
+            let item = records::operation_record(o);
+            records::put_record(items, n, item);
+            Ok(ItemRead {
+                item,
                 arguments: used,
                 next,
-            }
+            })
         }
         Parsed::Call(word) => parse_call_item(
             tokens,
@@ -89,21 +84,16 @@ pub(crate) fn parse_item(
             arguments,
             used,
         ),
-        Parsed::CallInto(v, word) => {
-            let ty = v.ty;
-            let dest = v.id;
-            let dty = runs::type_cell(ty);
-            parse_call_item(
-                tokens,
-                word,
-                kinds::CALL_INTO,
-                dest,
-                dty,
-                items,
-                n,
-                arguments,
-                used,
-            )
-        }
+        Parsed::CallInto(v, word) => parse_call_item(
+            tokens,
+            word,
+            kinds::CALL_INTO,
+            v.id,
+            runs::type_cell(v.ty),
+            items,
+            n,
+            arguments,
+            used,
+        ),
     }
 }

@@ -50,21 +50,12 @@ pub struct Closed {
     pub labels: usize,
 }
 
+// An item's record, how many arguments there are with its own, and the index to go on at.
 #[derive(Clone, Copy)]
-pub enum BodyRead {
-    Done(Closed),
-    Refused(Refusal),
-}
-
-// An operation's record, how many arguments there are with its own, and the index to go on at.
-#[derive(Clone, Copy)]
-pub enum ItemRead {
-    Done {
-        record: ItemRecord,
-        arguments: usize,
-        next: usize,
-    },
-    Refused(Refusal),
+pub struct ItemRead {
+    pub item: ItemRecord,
+    pub arguments: usize,
+    pub next: usize,
 }
 
 // The loop's state: the next token, the next free item and argument, how many labels there are, what stands before
@@ -84,7 +75,6 @@ pub enum Turn {
     On(Going),
     // Items and arguments as in `Going`.
     Done(Closed),
-    Refused(Refusal),
 }
 
 // From after the opening brace.
@@ -97,7 +87,7 @@ pub fn parse_body(
     arguments: &mut [u32],
     used: usize,
     labels: &mut [u32],
-) -> BodyRead
+) -> Result<Closed, Refusal>
     requires within { Within (tokens_of tokens.now) at }
     requires first_bound { (first * 4 ≤ at * 3) × (used * 19 ≤ at * 16) }
     requires items_size_in_bounds { (items_size ≤ length items.old) × (arguments_size ≤ length arguments.old)
@@ -117,20 +107,17 @@ pub fn parse_body(
         last: 0,
     };
     loop {
-        match turns::turn(tokens, void, s, items, arguments, labels) {
+        match turns::turn(tokens, void, s, items, arguments, labels)? {
             Turn::On(next) => {
                 s = next;
             }
             Turn::Done(e) => {
-                return BodyRead::Done(Closed {
+                return Ok(Closed {
                     next: e.next,
                     items: e.items - first,
                     arguments: e.arguments - used,
                     labels: e.labels,
                 });
-            }
-            Turn::Refused(e) => {
-                return BodyRead::Refused(e);
             }
         }
     }

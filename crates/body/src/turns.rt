@@ -10,7 +10,7 @@ ghost use Rattle.body.specs.Turns.{late_refusal, behind_kind, added, behind_labe
 ghost use Rattle.body.specs.Turns.{ItemTurned, LabelTurned, Turned};
 
 use crate::{Closed, Going, ItemRead, ItemRecord, Last, Turn, item, kinds, records};
-use parser::{Named, Refusal};
+use parser::Refusal;
 use pieces::Identifier;
 use utils::numbers;
 
@@ -75,46 +75,43 @@ fn add_ret(items: &mut [u32], n: usize, lacks: bool, last: u32) -> usize
 }
 
 // Why an operation behind a terminator is refused: for a reason of its own, or with 12 once it is parsed.
-fn refuse(read: ItemRead) -> Refusal
+fn refuse(read: Result<ItemRead, Refusal>) -> Refusal
     ensures { result ≡ late_refusal read }
 {
     match read {
-        ItemRead::Refused(e) => e,
-        ItemRead::Done { record: r, .. } => parser::refuse(
-            numbers::NO_LABEL_FIRST,
-            r.token as usize,
-        ),
+        Ok(read) => parser::refuse(numbers::NO_LABEL_FIRST, read.item.token as usize),
+        Err(e) => e,
     }
 }
 
-fn item_turn(tokens: &[u32], s: Going, items: &mut [u32], arguments: &mut [u32]) -> Turn
+fn item_turn(
+    tokens: &[u32],
+    s: Going,
+    items: &mut [u32],
+    arguments: &mut [u32],
+) -> Result<Turn, Refusal>
     requires { Ready (tokens_of tokens.now) s × (items_size ≤ length items.old)
         × (arguments_size ≤ length arguments.old) }
     ensures { ItemTurned (tokens_of tokens.now) s items.old items.new
         arguments.old arguments.new result }
 {
-    let at = s.at;
-    let n = s.items;
-    let used = s.arguments;
-    let read = item::parse_item(tokens, at, items, n, arguments, used);
+    let read = item::parse_item(tokens, s.at, items, s.items, arguments, s.arguments);
     if s.before == TERMINATOR {
-        return Turn::Refused(refuse(read));
+        return Err(refuse(read));
     }
-    match read {
-        ItemRead::Refused(e) => Turn::Refused(e),
-        ItemRead::Done {
-            record: r,
-            arguments: then,
-            next,
-        } => Turn::On(Going {
-            at: next,
-            items: n + 1,
-            arguments: then,
-            labels: s.labels,
-            before: behind_kind(r.kind),
-            last: r.token,
-        }),
-    }
+    let ItemRead {
+        item,
+        arguments: then,
+        next,
+    } = read?;
+    Ok(Turn::On(Going {
+        at: next,
+        items: s.items + 1,
+        arguments: then,
+        labels: s.labels,
+        before: behind_kind(item.kind),
+        last: item.token,
+    }))
 }
 
 // A label's record, behind the `ret` that the block before it may lack; the label is stored behind the others.
@@ -150,18 +147,20 @@ fn add_label(
 }
 
 // A label closes the block before it.
-fn label_turn(tokens: &[u32], void: bool, s: Going, items: &mut [u32], labels: &mut [u32]) -> Turn
+fn label_turn(
+    tokens: &[u32],
+    void: bool,
+    s: Going,
+    items: &mut [u32],
+    labels: &mut [u32],
+) -> Result<Turn, Refusal>
     requires { Ready (tokens_of tokens.now) s × (items_size ≤ length items.old)
         × (most_labels ≤ length labels.old) }
     ensures { LabelTurned (tokens_of tokens.now) void s items.old items.new
         labels.old labels.new result }
 {
-    let at = s.at;
-    let count = s.labels;
-    match parser::labels::parse_label(tokens, at, labels, count) {
-        Named::Refused(e) => Turn::Refused(e),
-        Named::At(label, next) => { Turn::On(add_label(void, s, label, next, items, labels)) }
-    }
+    let (label, next) = parser::labels::parse_label(tokens, s.at, labels, s.labels)?;
+    Ok(Turn::On(add_label(void, s, label, next, items, labels)))
 }
 
 pub(crate) fn turn(
@@ -171,23 +170,22 @@ pub(crate) fn turn(
     items: &mut [u32],
     arguments: &mut [u32],
     labels: &mut [u32],
-) -> Turn
+) -> Result<Turn, Refusal>
     requires { Ready (tokens_of tokens.now) s × (items_size ≤ length items.old)
         × (arguments_size ≤ length arguments.old)
         × (most_labels ≤ length labels.old) }
     ensures { Turned (tokens_of tokens.now) void s items.old items.new
         arguments.old arguments.new labels.old labels.new result }
 {
-    let at = s.at;
-    let t = lexer::token_at(tokens, at);
+    let t = lexer::token_at(tokens, s.at);
     if closes_body(s.before, t.kind) {
         let n = add_ret(items, s.items, lacks_ret(void, s.before), s.last);
-        return Turn::Done(Closed {
+        return Ok(Turn::Done(Closed {
             next: t.next,
             items: n,
             arguments: s.arguments,
             labels: s.labels,
-        });
+        }));
     }
     if t.kind == pieces::kinds::LABEL {
         return label_turn(tokens, void, s, items, labels);

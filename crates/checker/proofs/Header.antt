@@ -522,7 +522,7 @@ module _ (text : List ℕ) (ts : List Tok) (names rows rest : List ℕ)
 
 -- the functions of a text that is accepted are those that were parsed
 typed_are : (gs fs : List Function) (e : Result Unit Refusal) → after_typing gs e ≡ checked fs → fs ≡ gs
-typed_are gs fs Ok tt h = cc
+typed_are gs fs (Ok tt) h = cc
 typed_are gs fs (Err e) h = absurd (let z : ◌≡◌ {A = ℕ} 0 1 = cc in omega arith)
 
 ended_are : (ts : List Tok) (gs fs : List Function) (e : Result ℕ Refusal) → after_parsing ts gs e ≡ checked fs → fs ≡ gs

@@ -12,7 +12,7 @@ ghost use Rattle.checker.specs.Promise.{Lexed, Sizes, ChecksInto, rows_used, Fin
 ghost use Rattle.checker.specs.Promise.{sized, sized_unit, IfSized, IfSizedUnit, Checks};
 
 use body::ITEM_CELLS;
-use functions::{Counts, ProgramRead, columns, sizes};
+use functions::{Counts, columns, sizes};
 use graph::BLOCK_CELLS;
 use lexer::ReadAnswer;
 use lexer::sizes::{NAME_CELLS, TOKEN_CELLS};
@@ -131,8 +131,8 @@ fn check_lexed(
         blocks,
         predecessors,
     ) {
-        ProgramRead::Refused(e) => refuse(text, r, tokens, names, message, e),
-        ProgramRead::Done(n) => counted(r.tokens, r.names, n),
+        Err(e) => refuse(text, r, tokens, names, message, e),
+        Ok(n) => counted(r.tokens, r.names, n),
     }
 }
 

@@ -9,7 +9,7 @@ ghost use Rattle.elaborate.specs.Types.{callee_of, is_call, typed_last, typed_re
 ghost use Rattle.elaborate.specs.Types.{typed_items, typed_calls, Elaborated};
 
 use body::{ItemRecord, Last, kinds, records};
-use functions::{FoundRow, known};
+use functions::known;
 use parser::{VARIABLE_CELLS, types};
 use pieces::Identifier;
 use utils::cell_at;
@@ -21,8 +21,8 @@ fn callee_type(rows: &[u32], n: usize, name: Identifier) -> u32
     ensures { result ≡ callee_of rows.now n name.0 }
 {
     match known::find_function(rows, n, name) {
-        FoundRow::At(i) => known::function_type(rows, i) + types::FUNCTION,
-        FoundRow::Absent => 0,
+        Some(i) => known::function_type(rows, i) + types::FUNCTION,
+        None => 0,
     }
 }
 

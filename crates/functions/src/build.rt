@@ -5,9 +5,8 @@ ghost use Rattle.utils.specs.Limits.{most_labels};
 ghost use Rattle.functions.specs.Functions.{built_d};
 ghost use Rattle.functions.specs.Answer.{Room, Long, build_read, BuildHeld};
 
-use crate::{Body, Building, Counts};
-use body::BodyRead;
-use link::Linked;
+use crate::{Body, Counts};
+use parser::Refusal;
 use utils::limits;
 
 // With an array for the function's labels.
@@ -22,7 +21,7 @@ fn build_with(
     blocks: &mut [u32],
     predecessors: &mut [u32],
     labels: &mut [u32],
-) -> Building
+) -> Result<Body, Refusal>
     requires { Room (tokens_of tokens.now) at n × (n.blocks * 4 + 2 ≤ at) × (most_labels ≤ length labels.old)
         × Long items.old arguments.old blocks.old predecessors.old }
     ensures value { result ≡ build_read (built_d (tokens_of tokens.now) void name at) }
@@ -32,7 +31,7 @@ fn build_with(
         (built_d (tokens_of tokens.now) void name at) }
 {
     let first = n.items;
-    match body::parse_body(
+    let closed = body::parse_body(
         tokens,
         at,
         void,
@@ -41,35 +40,26 @@ fn build_with(
         arguments,
         n.arguments,
         labels,
-    ) {
-        BodyRead::Refused(e) => Building::Refused(e),
-        BodyRead::Done(closed) => {
-            match link::link(
-                items,
-                first,
-                closed.items,
-                name,
-                labels,
-                closed.labels,
-                blocks,
-                n.blocks,
-                predecessors,
-                n.predecessors,
-            ) {
-                Linked::Refused(e) => Building::Refused(e),
-                Linked::Done {
-                    blocks: count,
-                    predecessors: edges,
-                } => Building::Done(Body {
-                    next: closed.next,
-                    items: closed.items,
-                    arguments: closed.arguments,
-                    blocks: count,
-                    predecessors: edges,
-                }),
-            }
-        }
-    }
+    )?;
+    let linked = link::link(
+        items,
+        first,
+        closed.items,
+        name,
+        labels,
+        closed.labels,
+        blocks,
+        n.blocks,
+        predecessors,
+        n.predecessors,
+    )?;
+    Ok(Body {
+        next: closed.next,
+        items: closed.items,
+        arguments: closed.arguments,
+        blocks: linked.blocks,
+        predecessors: linked.predecessors,
+    })
 }
 
 // From after the opening brace; `name` is the function's name token.
@@ -83,7 +73,7 @@ pub fn build(
     arguments: &mut [u32],
     blocks: &mut [u32],
     predecessors: &mut [u32],
-) -> Building
+) -> Result<Body, Refusal>
     requires { Room (tokens_of tokens.now) at n × (n.blocks * 4 + 2 ≤ at)
         × Long items.old arguments.old blocks.old predecessors.old }
     ensures value { result ≡ build_read (built_d (tokens_of tokens.now) void name at) }

@@ -12,13 +12,13 @@ ghost use Rattle.functions.specs.Rows.{known_from, types_at};
 ghost use Rattle.functions.specs.Columns.{formals_at, IsRow, HasRows, table_size};
 ghost use Rattle.functions.specs.Heads.{header_read, HeaderHeld};
 
-use crate::{Entered, Head, HeaderRead, columns, known};
-use parser::{Consumed, Named, Refusal, Run, Ty, TypeRead, types};
+use crate::{Head, columns, known};
+use parser::{Refusal, Run, Ty, types};
 use pieces::{Identifier, kinds};
 use utils::{limits, numbers};
 
 // Formals in parentheses, or none.
-pub fn parse_optional_formals(tokens: &[u32], at: usize, rows: &mut [u32], used: usize) -> Run
+pub fn parse_optional_formals(tokens: &[u32], at: usize, rows: &mut [u32], used: usize) -> Result<Run, Refusal>
     requires { used + 32 ≤ length rows.old }
     ensures value { result ≡ run_of (optional_formals (tokens_of tokens.now) at) }
     ensures rows_after { rows.new ≡ sets rows.old used
@@ -28,32 +28,31 @@ pub fn parse_optional_formals(tokens: &[u32], at: usize, rows: &mut [u32], used:
     if t.kind == kinds::LEFT_PAREN {
         return parser::runs::parse_formals(tokens, t.next, rows, used);
     }
-    Run::Done { count: 0, next: at }
+    Ok(Run { count: 0, next: at })
 }
 
 // A colon and a type, or void.
-pub fn parse_optional_type(tokens: &[u32], at: usize) -> TypeRead
+pub fn parse_optional_type(tokens: &[u32], at: usize) -> Result<(Ty, usize), Refusal>
     ensures { result ≡ optional_type (tokens_of tokens.now) at }
 {
     let t = lexer::token_at(tokens, at);
     if t.kind == kinds::COLON {
         return parser::parse_type(tokens, t.next);
     }
-    TypeRead::At(Ty::Void, at)
+    Ok((Ty::Void, at))
 }
 
 // The brace behind a header; `ty` is the number of its function type.
-fn open_body(tokens: &[u32], at: usize, ty: u32) -> Entered
+fn open_body(tokens: &[u32], at: usize, ty: u32) -> Result<(u32, usize), Refusal>
     ensures { result ≡ then_at Err (consume_d (tokens_of tokens.now) at T.left_brace)
         (λ next. Ok (ty, next)) }
 {
-    match parser::consume(tokens, at, kinds::LEFT_BRACE) {
-        Consumed::Refused(e) => Entered::Refused(e),
-        Consumed::At(next) => Entered::At { ty, next },
-    }
+    let next = parser::consume(tokens, at, kinds::LEFT_BRACE)?;
+    Ok((ty, next))
 }
 
-// The name is entered after the type and before `{`: SymbolTable::insert of ir.rs. Its formals stand in row n.
+// The name is entered after the type and before `{`: SymbolTable::insert of ir.rs. Its formals stand in row n. The
+// number of its function type, and the index behind the brace.
 fn enter(
     tokens: &[u32],
     rows: &[u32],
@@ -64,7 +63,7 @@ fn enter(
     formals: usize,
     ret: u32,
     at: usize,
-) -> Entered
+) -> Result<(u32, usize), Refusal>
     requires { (n < most_functions) × (formals ≤ most_formals) × (table_size ≤ length rows.now) }
     ensures { result ≡ entered_d (tokens_of tokens.now) (known_from rows.now 0 n) types token name
         (ret ∷ formals ∷ types_at rows.now (formals_at n) formals) at }
@@ -72,7 +71,7 @@ fn enter(
     let ty = known::type_number(rows, n, ret, formals, types);
     let expected = known::expected_type(rows, n, name, ty);
     if expected != ty {
-        return Entered::Refused(Refusal {
+        return Err(Refusal {
             number: numbers::UNEXPECTED_TYPE,
             token,
             wanted: types::FUNCTION,
@@ -92,39 +91,29 @@ fn parse_signature(
     n: usize,
     types: u32,
     rows: &mut [u32],
-) -> HeaderRead
+) -> Result<Head, Refusal>
     requires { IsRow rows.old n }
     ensures value { result ≡ header_read (signature_d (tokens_of tokens.now)
         (known_from rows.old 0 n) types token name at) }
     ensures header_held { HeaderHeld n rows.old rows.new
         (signature_d (tokens_of tokens.now) (known_from rows.old 0 n) types token name at) }
 {
-    match parse_optional_formals(tokens, at, rows, columns::FORMALS + n * columns::ROW) {
-        Run::Refused(e) => HeaderRead::Refused(e),
-        Run::Done {
-            count: formals,
-            next: at1,
-        } => match parse_optional_type(tokens, at1) {
-            TypeRead::Refused(e) => HeaderRead::Refused(e),
-            TypeRead::At(result, at2) => {
-                let ret = parser::runs::type_cell(result);
-                match enter(tokens, rows, n, types, token, name, formals, ret, at2) {
-                    Entered::Refused(e) => HeaderRead::Refused(e),
-                    Entered::At { ty, next } => HeaderRead::At(Head {
-                        name,
-                        formals,
-                        ret,
-                        ty,
-                        next,
-                    }),
-                }
-            }
-        },
-    }
+    let run = parse_optional_formals(tokens, at, rows, columns::FORMALS + n * columns::ROW)?;
+    let (result, at2) = parse_optional_type(tokens, run.next)?;
+    let ret = parser::runs::type_cell(result);
+    let formals = run.count;
+    let (ty, next) = enter(tokens, rows, n, types, token, name, formals, ret, at2)?;
+    Ok(Head {
+        name,
+        formals,
+        ret,
+        ty,
+        next,
+    })
 }
 
 // 35 comes once the name is read.
-pub fn parse_header(tokens: &[u32], at: usize, n: usize, types: u32, rows: &mut [u32]) -> HeaderRead
+pub fn parse_header(tokens: &[u32], at: usize, n: usize, types: u32, rows: &mut [u32]) -> Result<Head, Refusal>
     requires { HasRows rows.old n }
     ensures value { result ≡ header_read (header_d (tokens_of tokens.now) (leb most_functions n)
         (known_from rows.old 0 n) types at) }
@@ -132,13 +121,9 @@ pub fn parse_header(tokens: &[u32], at: usize, n: usize, types: u32, rows: &mut 
         (header_d (tokens_of tokens.now) (leb most_functions n)
         (known_from rows.old 0 n) types at) }
 {
-    match parser::consume_named(tokens, at, kinds::GLOBAL, numbers::NO_GLOBAL) {
-        Named::Refused(e) => HeaderRead::Refused(e),
-        Named::At(name, at1) => {
-            if limits::FUNCTIONS <= n {
-                return HeaderRead::Refused(parser::refuse(numbers::TOO_MANY_FUNCTIONS, at));
-            }
-            parse_signature(tokens, at, name, at1, n, types, rows)
-        }
+    let (name, at1) = parser::consume_named(tokens, at, kinds::GLOBAL, numbers::NO_GLOBAL)?;
+    if limits::FUNCTIONS <= n {
+        return Err(parser::refuse(numbers::TOO_MANY_FUNCTIONS, at));
     }
+    parse_signature(tokens, at, name, at1, n, types, rows)
 }

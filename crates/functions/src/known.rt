@@ -6,7 +6,7 @@ ghost use Rattle.functions.specs.Known.{type_number, expected_type};
 ghost use Rattle.functions.specs.Columns.{type_at, formals_at, IsRow, HasRows, table_size};
 ghost use Rattle.functions.specs.Rows.{types_at, signed_at, known_from, row_from, FoundIn};
 
-use crate::{FoundRow, columns};
+use crate::columns;
 use parser::VARIABLE_CELLS;
 use pieces::Identifier;
 
@@ -62,7 +62,7 @@ pub fn type_number(rows: &[u32], n: usize, ret: u32, count: usize, types: u32) -
 }
 
 // The first function of this name among n.
-pub fn find_function(rows: &[u32], n: usize, name: Identifier) -> FoundRow
+pub fn find_function(rows: &[u32], n: usize, name: Identifier) -> Option<usize>
     requires { HasRows rows.now n }
     ensures value { result ≡ row_from rows.now 0 n name.0 }
     ensures found_in { FoundIn rows.now n result }
@@ -70,11 +70,11 @@ pub fn find_function(rows: &[u32], n: usize, name: Identifier) -> FoundRow
     let mut i: usize = 0;
     while i < n {
         if rows[columns::NAME + i * columns::ROW] == name.0 {
-            return FoundRow::At(i);
+            return Some(i);
         }
         i += 1;
     }
-    FoundRow::Absent
+    None
 }
 
 // The number of the function type of row i.
@@ -91,7 +91,7 @@ pub fn expected_type(rows: &[u32], n: usize, name: Identifier, ty: u32) -> u32
     ensures { result ≡ expected_type (known_from rows.now 0 n) name.0 ty }
 {
     match find_function(rows, n, name) {
-        FoundRow::At(i) => function_type(rows, i),
-        FoundRow::Absent => ty,
+        Some(i) => function_type(rows, i),
+        None => ty,
     }
 }

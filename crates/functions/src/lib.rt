@@ -22,13 +22,6 @@ ghost use Rattle.functions.specs.Answer.{Room, Long, slices, function_read, Func
 use parser::{Refusal, types};
 use pieces::{Identifier, kinds};
 
-// The number of a function type and the index behind the opening brace.
-#[derive(Clone, Copy)]
-pub enum Entered {
-    At { ty: u32, next: usize },
-    Refused(Refusal),
-}
-
 // A name, how many formals it has, the cell of its result's type, its function type's number, and the index behind the
 // brace.
 #[derive(Clone, Copy)]
@@ -38,19 +31,6 @@ pub struct Head {
     pub ret: u32,
     pub ty: u32,
     pub next: usize,
-}
-
-// A function's row in the header table.
-#[derive(Clone, Copy)]
-pub enum FoundRow {
-    At(usize),
-    Absent,
-}
-
-#[derive(Clone, Copy)]
-pub enum HeaderRead {
-    At(Head),
-    Refused(Refusal),
 }
 
 // How much of each slice is used.
@@ -73,23 +53,12 @@ pub struct Body {
     pub predecessors: usize,
 }
 
-#[derive(Clone, Copy)]
-pub enum Building {
-    Done(Body),
-    Refused(Refusal),
-}
-
 // Where to go on behind a function, how many function types there are, and how much is used of each slice.
 #[derive(Clone, Copy)]
-pub enum FunctionRead {
-    Done(usize, u32, Counts),
-    Refused(Refusal),
-}
-
-#[derive(Clone, Copy)]
-pub enum ProgramRead {
-    Done(Counts),
-    Refused(Refusal),
+pub struct FunctionRead {
+    pub next: usize,
+    pub types: u32,
+    pub counts: Counts,
 }
 
 // How many function types there are once this number is given.
@@ -102,6 +71,7 @@ fn types_after(types: u32, ty: u32) -> u32
     }
     types
 }
+
 // A function from its name on, stored behind the n that are there.
 pub fn parse_function(
     tokens: &[u32],
@@ -114,7 +84,7 @@ pub fn parse_function(
     arguments: &mut [u32],
     blocks: &mut [u32],
     predecessors: &mut [u32],
-) -> FunctionRead
+) -> Result<FunctionRead, Refusal>
     requires { Room (tokens_of tokens.now) at n × (n.functions ≤ most_functions) × (types ≤ n.functions)
         × (table_size ≤ length functions.old) × Long items.old arguments.old blocks.old predecessors.old }
     ensures value { result
@@ -128,29 +98,25 @@ pub fn parse_function(
         (function_d (tokens_of tokens.now) (leb most_functions n.functions)
         (known_from functions.old 0 n.functions) types at) }
 {
-    match header::parse_header(tokens, at, n.functions, types, functions) {
-        HeaderRead::Refused(e) => FunctionRead::Refused(e),
-        HeaderRead::At(h) => {
-            let void = h.ret == types::VOID;
-            match build::build(
-                tokens,
-                h.next,
-                void,
-                at,
-                n,
-                items,
-                arguments,
-                blocks,
-                predecessors,
-            ) {
-                Building::Refused(e) => FunctionRead::Refused(e),
-                Building::Done(b) => {
-                    rows::put_row(functions, tokens, names, at, n, h, b);
-                    FunctionRead::Done(b.next, types_after(types, h.ty), rows::counts_after(n, b))
-                }
-            }
-        }
-    }
+    let h = header::parse_header(tokens, at, n.functions, types, functions)?;
+    let void = h.ret == types::VOID;
+    let b = build::build(
+        tokens,
+        h.next,
+        void,
+        at,
+        n,
+        items,
+        arguments,
+        blocks,
+        predecessors,
+    )?;
+    rows::put_row(functions, tokens, names, at, n, h, b);
+    Ok(FunctionRead {
+        next: b.next,
+        types: types_after(types, h.ty),
+        counts: rows::counts_after(n, b),
+    })
 }
 
 // The functions of a text, from its first token on.
@@ -162,7 +128,7 @@ pub fn parse(
     arguments: &mut [u32],
     blocks: &mut [u32],
     predecessors: &mut [u32],
-) -> ProgramRead
+) -> Result<Counts, Refusal>
     requires { Within (tokens_of tokens.now) 0 × (table_size ≤ length functions.old)
         × Long items.old arguments.old blocks.old predecessors.old }
     ensures value { result ≡ program_read (program_d (tokens_of tokens.now)) }
@@ -188,9 +154,9 @@ pub fn parse(
         let t = lexer::token_at(tokens, at);
         if t.kind == kinds::END_OF_FILE {
             functions[0] = n.functions as u32;
-            return ProgramRead::Done(n);
+            return Ok(n);
         }
-        match parse_function(
+        let read = parse_function(
             tokens,
             names,
             at,
@@ -201,15 +167,9 @@ pub fn parse(
             arguments,
             blocks,
             predecessors,
-        ) {
-            FunctionRead::Refused(e) => {
-                return ProgramRead::Refused(e);
-            }
-            FunctionRead::Done(next, more, counts) => {
-                at = next;
-                types = more;
-                n = counts;
-            }
-        }
+        )?;
+        at = read.next;
+        types = read.types;
+        n = read.counts;
     }
 }

@@ -11,7 +11,7 @@ ghost use Rattle.headers.specs.Kept.{is_whole, keeps_behind, keeps};
 use crate::{bring, names};
 use functions::{columns, header, known};
 use lexer::sizes::TOKEN_CELLS;
-use parser::{Named, Run, TypeRead, runs};
+use parser::runs;
 use pieces::{Identifier, kinds};
 use utils::numbers;
 
@@ -62,21 +62,16 @@ fn keeps_behind<'t, 'c>(
         name at }
 {
     bring::copy_row(local, 0, rows, i);
-    match header::parse_optional_formals(tokens, at, local, columns::SECOND_FORMALS) {
-        Run::Refused(_) => true,
-        Run::Done {
-            count: formals,
-            next: at1,
-        } => match header::parse_optional_type(tokens, at1) {
-            TypeRead::Refused(_) => true,
-            TypeRead::At(result, _) => {
-                if !names::is_spelled(old, new, rows, names, i, name) {
-                    return false;
-                }
-                known::same_type(local, 0, runs::type_cell(result), formals, 1)
-            }
-        },
+    let Ok(run) = header::parse_optional_formals(tokens, at, local, columns::SECOND_FORMALS) else {
+        return true;
+    };
+    let Ok((result, _)) = header::parse_optional_type(tokens, run.next) else {
+        return true;
+    };
+    if !names::is_spelled(old, new, rows, names, i, name) {
+        return false;
     }
+    known::same_type(local, 0, runs::type_cell(result), run.count, 1)
 }
 
 // Whether the new function has the name and the function type of row i. What is refused before the name would be
@@ -95,7 +90,7 @@ pub fn keeps<'t, 'c>(
         (signed_at rows.now i) new.now names.now (tokens_of tokens.now) }
 {
     match parser::consume_named(tokens, 0, kinds::GLOBAL, numbers::NO_GLOBAL) {
-        Named::Refused(_) => true,
-        Named::At(name, at) => keeps_behind(old, new, rows, names, i, tokens, name, at, local),
+        Err(_) => true,
+        Ok((name, at)) => keeps_behind(old, new, rows, names, i, tokens, name, at, local),
     }
 }

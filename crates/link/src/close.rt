@@ -7,7 +7,7 @@ ghost use Rattle.link.specs.Edges.{resolve_d};
 ghost use Rattle.link.specs.Steps.{goes_d, run, put_goes, added_d, added_cells, Cut, numbered_by, ClosedHeld};
 ghost use Rattle.link.specs.Steps.{blocks_size};
 
-use crate::{Goes, LabelCounts, Numbered, labels};
+use crate::{Goes, LabelCounts, labels};
 use body::kinds;
 use graph::BlockRecord;
 use graph::blocks::put_block;
@@ -39,7 +39,7 @@ fn close_block(
     counts: LabelCounts,
     blocks: &mut [u32],
     k: usize,
-) -> Goes
+) -> Result<Goes, Refusal>
     requires { (from < stop) × (stop ≤ 3072) × (stop * 8 ≤ length items.now) × (counts.all ≤ most_labels)
         × (counts.all ≤ length labels.now) × (k * 8 + 8 ≤ length blocks.old) }
     ensures { (result ≡ goes_d counts.leading (take counts.all labels.now)
@@ -47,23 +47,19 @@ fn close_block(
         × (blocks.new ≡ put_goes blocks.old k from (stop - from) result) }
 {
     let r = body::records::record_at(items, stop - 1);
-    match labels::resolve(labels, counts, r) {
-        Goes::Refused(e) => Goes::Refused(e),
-        Goes::Done { count, to, other } => {
-            let b = BlockRecord {
-                first: from as u32,
-                operations: (stop - from) as u32,
-                successors: count,
-                to,
-                other,
-                entries: 0,
-                predecessors: 0,
-                dead: 0,
-            };
-            put_block(blocks, k, b);
-            Goes::Done { count, to, other }
-        }
-    }
+    let goes = labels::resolve(labels, counts, r)?;
+    let b = BlockRecord {
+        first: from as u32,
+        operations: (stop - from) as u32,
+        successors: goes.count,
+        to: goes.to,
+        other: goes.other,
+        entries: 0,
+        predecessors: 0,
+        dead: 0,
+    };
+    put_block(blocks, k, b);
+    Ok(goes)
 }
 
 // The block of the operations from `from` to before `stop` becomes record k. The record after it, or `empty` where
@@ -77,7 +73,7 @@ fn add_block(
     counts: LabelCounts,
     blocks: &mut [u32],
     k: usize,
-) -> Numbered
+) -> Result<usize, Refusal>
     requires { (from ≤ stop) × (stop ≤ 3072) × (stop * 8 ≤ length items.now) × (counts.all ≤ most_labels)
         × (counts.all ≤ length labels.now) × (blocks_size ≤ length blocks.old) × (from < stop → k < 1024) }
     ensures value { result ≡ added_d counts.leading (take counts.all labels.now) items.now
@@ -86,12 +82,10 @@ fn add_block(
         items.now from stop blocks.old k }
 {
     if stop == from {
-        return Numbered::Refused(empty);
+        return Err(empty);
     }
-    match close_block(items, from, stop, labels, counts, blocks, k) {
-        Goes::Refused(e) => Numbered::Refused(e),
-        Goes::Done { .. } => Numbered::Done(k + 1),
-    }
+    close_block(items, from, stop, labels, counts, blocks, k)?;
+    Ok(k + 1)
 }
 
 // A function's blocks from the record `base` on, but for what enters them. How many they are, or 22 or 14.
@@ -104,7 +98,7 @@ pub fn link_blocks(
     counts: LabelCounts,
     blocks: &mut [u32],
     base: usize,
-) -> Numbered
+) -> Result<usize, Refusal>
     requires { Cut items.now first count labels.now counts.all counts.leading blocks.old base }
     ensures value { result ≡ numbered_by (blocks_of (parts_at items.now first count))
         (resolve_d name (blocks_of (parts_at items.now first count))) }
@@ -117,17 +111,10 @@ pub fn link_blocks(
     let mut k = base;
     loop {
         let stop = block_end(items, from, end);
-        match add_block(items, from, stop, empty, labels, counts, blocks, k) {
-            Numbered::Refused(e) => {
-                return Numbered::Refused(e);
-            }
-            Numbered::Done(next) => {
-                k = next;
-                if stop == end {
-                    return Numbered::Done(k - base);
-                }
-                from = stop + 1;
-            }
+        k = add_block(items, from, stop, empty, labels, counts, blocks, k)?;
+        if stop == end {
+            return Ok(k - base);
         }
+        from = stop + 1;
     }
 }

@@ -6,7 +6,7 @@ ghost use Rattle.link.specs.Table.{leading, block_of, label_place};
 ghost use Rattle.link.specs.Steps.{block_id, found_of, one_d, two_d, goes_d};
 ghost use Rattle.link.specs.Edges.{missing};
 
-use crate::{Found, Goes, LabelCounts};
+use crate::{Goes, LabelCounts};
 use body::{ItemRecord, Last, kinds};
 use graph::BlockId;
 use parser::Refusal;
@@ -42,7 +42,7 @@ fn block_of(leading: usize, i: usize) -> BlockId
 }
 
 // The block of the first label of this name, in text order.
-fn get(labels: &[u32], counts: LabelCounts, name: Identifier) -> Found
+fn get(labels: &[u32], counts: LabelCounts, name: Identifier) -> Option<BlockId>
     requires { (counts.all ≤ most_labels) × (counts.all ≤ length labels.now) }
     ensures { result ≡ found_of (label_place counts.leading 0 (take counts.all labels.now)
         name.0) }
@@ -52,11 +52,11 @@ fn get(labels: &[u32], counts: LabelCounts, name: Identifier) -> Found
     while 0 < rest {
         let i = all - rest;
         if labels[i] == name.0 {
-            return Found::At(block_of(counts.leading, i));
+            return Some(block_of(counts.leading, i));
         }
         rest -= 1;
     }
-    Found::Nowhere
+    None
 }
 
 // 14: the label names no block.
@@ -72,18 +72,21 @@ fn unknown(token: usize, name: Identifier) -> Refusal
     }
 }
 
-fn resolve_one(labels: &[u32], counts: LabelCounts, token: usize, next: Identifier) -> Goes
+fn resolve_one(
+    labels: &[u32],
+    counts: LabelCounts,
+    token: usize,
+    next: Identifier,
+) -> Result<Goes, Refusal>
     requires { (counts.all ≤ most_labels) × (counts.all ≤ length labels.now) }
     ensures { result ≡ one_d counts.leading (take counts.all labels.now) token next.0 }
 {
-    match get(labels, counts, next) {
-        Found::At(to) => Goes::Done {
-            count: 1,
-            to,
-            other: BlockId(0),
-        },
-        Found::Nowhere => Goes::Refused(unknown(token, next)),
-    }
+    let to = get(labels, counts, next).ok_or(unknown(token, next))?;
+    Ok(Goes {
+        count: 1,
+        to,
+        other: BlockId(0),
+    })
 }
 
 fn resolve_two(
@@ -92,46 +95,40 @@ fn resolve_two(
     token: usize,
     then: Identifier,
     els: Identifier,
-) -> Goes
+) -> Result<Goes, Refusal>
     requires { (counts.all ≤ most_labels) × (counts.all ≤ length labels.now) }
     ensures { result ≡ two_d counts.leading (take counts.all labels.now) token then.0 els.0 }
 {
-    match get(labels, counts, then) {
-        Found::At(to) => match get(labels, counts, els) {
-            Found::At(other) => Goes::Done {
-                count: 2,
-                to,
-                other,
-            },
-            Found::Nowhere => Goes::Refused(unknown(token, els)),
-        },
-        Found::Nowhere => Goes::Refused(unknown(token, then)),
-    }
+    let to = get(labels, counts, then).ok_or(unknown(token, then))?;
+    let other = get(labels, counts, els).ok_or(unknown(token, els))?;
+    Ok(Goes {
+        count: 2,
+        to,
+        other,
+    })
 }
 
+// Where a block leads whose last operation is none that goes on.
+const NOWHERE: Goes = Goes {
+    count: 0,
+    to: BlockId(0),
+    other: BlockId(0),
+};
+
 // Where a block leads whose last operation has this record.
-pub fn resolve(labels: &[u32], counts: LabelCounts, r: ItemRecord) -> Goes
+pub fn resolve(labels: &[u32], counts: LabelCounts, r: ItemRecord) -> Result<Goes, Refusal>
     requires { (counts.all ≤ most_labels) × (counts.all ≤ length labels.now) }
     ensures { result ≡ goes_d counts.leading (take counts.all labels.now) r }
 {
     let token = r.token as usize;
-    let last = r.last;
-    match last {
+    match r.last {
         Last::Name(next, _) => {
             if r.kind == kinds::JUMP {
                 return resolve_one(labels, counts, token, next);
             }
-            Goes::Done {
-                count: 0,
-                to: BlockId(0),
-                other: BlockId(0),
-            }
+            Ok(NOWHERE)
         }
         Last::Labels { then, els } => resolve_two(labels, counts, token, then, els),
-        Last::Run { .. } => Goes::Done {
-            count: 0,
-            to: BlockId(0),
-            other: BlockId(0),
-        },
+        Last::Run { .. } => Ok(NOWHERE),
     }
 }

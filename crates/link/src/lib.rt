@@ -13,36 +13,19 @@ ghost use Rattle.link.specs.Steps.{Ready};
 use graph::BlockId;
 use parser::Refusal;
 
-// How many blocks and predecessors a function has, or 22 or 14.
+// How many blocks and predecessors a function has.
 #[derive(Clone, Copy)]
-pub enum Linked {
-    Done { blocks: usize, predecessors: usize },
-    Refused(Refusal),
+pub struct Linked {
+    pub blocks: usize,
+    pub predecessors: usize,
 }
 
-// The block that a label names: the Rust's Option<usize>.
+// How many successors a block has, and the two of them.
 #[derive(Clone, Copy)]
-pub enum Found {
-    At(BlockId),
-    Nowhere,
-}
-
-// How many successors a block has, and the two of them; or 14.
-#[derive(Clone, Copy)]
-pub enum Goes {
-    Done {
-        count: u32,
-        to: BlockId,
-        other: BlockId,
-    },
-    Refused(Refusal),
-}
-
-// How many blocks a function has, or 22 or 14.
-#[derive(Clone, Copy)]
-pub enum Numbered {
-    Done(usize),
-    Refused(Refusal),
+pub struct Goes {
+    pub count: u32,
+    pub to: BlockId,
+    pub other: BlockId,
 }
 
 // How many labels a function has, and how many of them lead: those stand before its first operation and name block 0.
@@ -54,7 +37,7 @@ pub struct LabelCounts {
 
 // The items of a function stand in `count` records from the record `first` on, and its labels at the front of `labels`;
 // `name` is the token of its name. Its block records go to `blocks` from the record `base` on, and the predecessors of
-// its blocks to `predecessors` from the cell `used` on.
+// its blocks to `predecessors` from the cell `used` on. A refusal is 22 or 14.
 pub fn link(
     items: &[u32],
     first: usize,
@@ -66,7 +49,7 @@ pub fn link(
     base: usize,
     predecessors: &mut [u32],
     used: usize,
-) -> Linked
+) -> Result<Linked, Refusal>
     requires { Ready items.now first count labels.now labelled blocks.old base predecessors.old used }
     ensures value { result ≡ link_d name (parts_at items.now first count) }
     ensures link_held { LinkHeld (parts_at items.now first count) first base used blocks.old
@@ -77,14 +60,10 @@ pub fn link(
         all: labelled,
         leading,
     };
-    match close::link_blocks(items, first, count, name, labels, counts, blocks, base) {
-        Numbered::Refused(e) => Linked::Refused(e),
-        Numbered::Done(n) => {
-            let next = enter::enter_blocks(blocks, base, n as u32, predecessors, used);
-            Linked::Done {
-                blocks: n,
-                predecessors: next - used,
-            }
-        }
-    }
+    let n = close::link_blocks(items, first, count, name, labels, counts, blocks, base)?;
+    let next = enter::enter_blocks(blocks, base, n as u32, predecessors, used);
+    Ok(Linked {
+        blocks: n,
+        predecessors: next - used,
+    })
 }

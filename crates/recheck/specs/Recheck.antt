@@ -34,7 +34,7 @@ pub data Verdict : Type 0 where
   accepts : Function → List ℕ → Verdict
 
 abbrev pub after_typing : Function → List ℕ → Result Unit Refusal → Verdict
-after_typing f table Ok tt = accepts f table
+after_typing f table (Ok tt) = accepts f table
 after_typing f table (Err e) = refuses e
 
 abbrev pub typed_as : Function → Typed → Verdict

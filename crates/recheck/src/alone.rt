@@ -9,8 +9,9 @@ ghost use Rattle.utils.specs.Limits.{most_functions};
 ghost use Rattle.recheck.specs.Recheck.{alone_d};
 ghost use Rattle.recheck.specs.Alone.{alone_read, Places};
 
-use functions::{Counts, FunctionRead, ProgramRead, columns};
+use functions::{Counts, columns};
 use headers::{Placed, bring};
+use parser::Refusal;
 use pieces::kinds;
 use utils::{cell_at, numbers};
 
@@ -23,7 +24,7 @@ pub fn parse_alone(
     arguments: &mut [u32],
     blocks: &mut [u32],
     predecessors: &mut [u32],
-) -> ProgramRead
+) -> Result<Counts, Refusal>
     requires { Within (tokens_of tokens.now) 0 × (table_size ≤ length functions.old)
         × Long items.old arguments.old blocks.old predecessors.old }
     ensures value { result ≡ alone_read (alone_d (tokens_of tokens.now)) }
@@ -41,7 +42,7 @@ pub fn parse_alone(
         blocks: 0,
         predecessors: 0,
     };
-    match functions::parse_function(
+    let read = functions::parse_function(
         tokens,
         names,
         0,
@@ -52,18 +53,12 @@ pub fn parse_alone(
         arguments,
         blocks,
         predecessors,
-    ) {
-        FunctionRead::Refused(e) => ProgramRead::Refused(e),
-        FunctionRead::Done(next, _, counts) => {
-            let t = lexer::token_at(tokens, next);
-            if t.kind == kinds::END_OF_FILE {
-                return ProgramRead::Done(counts);
-            }
-            if t.kind == kinds::GLOBAL {
-                return ProgramRead::Refused(parser::refuse(numbers::NOT_ONE_FUNCTION, next));
-            }
-            ProgramRead::Refused(parser::refuse(numbers::NO_GLOBAL, next))
-        }
+    )?;
+    let next = read.next;
+    match lexer::token_at(tokens, next).kind {
+        kinds::END_OF_FILE => Ok(read.counts),
+        kinds::GLOBAL => Err(parser::refuse(numbers::NOT_ONE_FUNCTION, next)),
+        _ => Err(parser::refuse(numbers::NO_GLOBAL, next)),
     }
 }
 

@@ -15,7 +15,7 @@ ghost use Rattle.recheck.specs.Recheck.{refused_with, recheck_of};
 ghost use Rattle.recheck.specs.Promise.{Rechecks};
 
 use checker::CheckAnswer;
-use functions::{ProgramRead, columns};
+use functions::columns;
 use headers::{kept, table};
 use lexer::ReadAnswer;
 use lexer::sizes::{NAME_CELLS, TOKEN_CELLS};
@@ -74,8 +74,8 @@ fn recheck_whole<'t, 'c>(
         blocks,
         predecessors,
     ) {
-        ProgramRead::Refused(e) => checker::refuse(new, r, tokens, names, message, e),
-        ProgramRead::Done(n) => checker::counted(r.tokens, r.names, n),
+        Err(e) => checker::refuse(new, r, tokens, names, message, e),
+        Ok(n) => checker::counted(r.tokens, r.names, n),
     }
 }
 

@@ -388,7 +388,7 @@ module _ {old new : List Tok} {e : Edited old new} {before behind : List Functio
           let b = mistyped_by x' typed-both t in
           refused_as a.tokens b.0 x' (rest.answer ∙ ap (λ (c : Result Unit Refusal). after_typing all_new c) b.1) b.2
 
-      accepted-alone : (typed-alone f').end ≡ Ok tt
+      accepted-alone : (typed-alone f').end ≡ (Ok tt)
           → AcceptedAs e a.inside a.size alone before replaced behind (retyped replaced.head.type f')
       accepted-alone t =
           record {
@@ -419,7 +419,7 @@ module _ {old new : List Tok} {e : Edited old new} {before behind : List Functio
 
       by : (k : Result Unit Refusal) → (typed-alone f').end ≡ k
           → Follows e before replaced behind alone a (as_typed f' (typed-alone f').table k)
-      by Ok tt t = accepted-alone f' q ended t
+      by (Ok tt) t = accepted-alone f' q ended t
       by (Err x') t = λ n. refused_typing f' q ended x' t
   behind-brace f' q false true w g = λ n. absurd (n refl)
   behind-brace f' q false false w g = λ n.

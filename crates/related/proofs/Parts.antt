@@ -15,7 +15,7 @@ use Rattle.recheck.specs.Recheck.{refuses, accepts, after_typing, typed_as, alon
 -- it is read, its typing is fine, and leaves this table
 pub record AcceptedAlone (ts : List Tok) (globals : ℕ → Global) (f : Function) (table : List ℕ) : Type 0 where
   pub read : alone_d ts ≡ function f
-  pub fine : (function_typed ts globals f untyped).end ≡ Ok tt
+  pub fine : (function_typed ts globals f untyped).end ≡ (Ok tt)
   pub left : (function_typed ts globals f untyped).table ≡ table
 
 pub accepted-alone : (ts : List Tok) (globals : ℕ → Global) (f : Function) (table : List ℕ)
@@ -26,7 +26,7 @@ accepted-alone ts globals f table = by-reading (alone_d ts) refl
     by_typing : (g : Function) (c : Result Unit Refusal) → alone_d ts ≡ function g → (function_typed ts globals g untyped).end ≡ c
         → after_typing g (function_typed ts globals g untyped).table c ≡ accepts f table
         → AcceptedAlone ts globals f table
-    by_typing g Ok tt a t e =
+    by_typing g (Ok tt) a t e =
         let same : g ≡ f = cc in
         let left : (function_typed ts globals g untyped).table ≡ table = cc in
         subst (λ (h : Function). AcceptedAlone ts globals h table) same (record { read = a; fine = t; left = left })

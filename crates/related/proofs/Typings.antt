@@ -16,30 +16,30 @@ use Rattle.related.specs.Tables.{All, SimChecked, SimTyped, Tables, SameGlobals}
 use Rattle.related.proofs.SimProgram.{function_typed_s}
 
 -- both steps are fine
-fine_end : (c : Result Unit Refusal) (next this : Typed) → this.end ≡ c → (then_end c next this).end ≡ Ok tt
-    → (c ≡ Ok tt) × (next.end ≡ Ok tt)
+fine_end : (c : Result Unit Refusal) (next this : Typed) → this.end ≡ c → (then_end c next this).end ≡ (Ok tt)
+    → (c ≡ (Ok tt) × (next.end ≡ (Ok tt)
 unfolding then_end
-fine_end Ok tt next this e h = (refl, h)
+fine_end (Ok tt) next this e h = (refl, h)
 fine_end (Err x) next this e h = let z : ◌≡◌ {A = ℕ} 0 1 = cc in absurd (omega arith)
 
 -- the second decides where the first is fine, and the first where the second is
-second_decides : (c : Result Unit Refusal) (next this : Typed) → c ≡ Ok tt → (then_end c next this).end ≡ next.end
+second_decides : (c : Result Unit Refusal) (next this : Typed) → c ≡ (Ok tt) → (then_end c next this).end ≡ next.end
 unfolding then_end
-second_decides Ok tt next this e = refl
+second_decides (Ok tt) next this e = refl
 second_decides (Err x) next this e = let z : ◌≡◌ {A = ℕ} 0 1 = cc in absurd (omega arith)
 
-first_decides : (c : Result Unit Refusal) (next this : Typed) → this.end ≡ c → next.end ≡ Ok tt
+first_decides : (c : Result Unit Refusal) (next this : Typed) → this.end ≡ c → next.end ≡ (Ok tt)
     → (then_end c next this).end ≡ this.end
 unfolding then_end
-first_decides Ok tt next this e h = h ∙ sym e
+first_decides (Ok tt) next this e h = h ∙ sym e
 first_decides (Err x) next this e h = refl
 
 module _ (ts : List Tok) (all : List Function) (blank : List ℕ) where
   -- this function is typed, and fine
   abbrev pub FineIn : Function → Type 0
-  FineIn f = (function_typed ts (globals_of all) f blank).end ≡ Ok tt
+  FineIn f = (function_typed ts (globals_of all) f blank).end ≡ (Ok tt)
 
-  pub each-fine : (fs : List Function) → (type_program_d ts all fs blank).end ≡ Ok tt → All FineIn fs
+  pub each-fine : (fs : List Function) → (type_program_d ts all fs blank).end ≡ (Ok tt) → All FineIn fs
   unfolding type_program_d then_typed
   each-fine [] e = All.none
   each-fine (f ∷ fs) e =
@@ -47,7 +47,7 @@ module _ (ts : List Tok) (all : List Function) (blank : List ℕ) where
       let both = fine_end this.end (type_program_d ts all fs blank) this refl e in
       All.more both.0 (each-fine fs both.1)
 
-  pub all-fine : {fs : List Function} → All FineIn fs → (type_program_d ts all fs blank).end ≡ Ok tt
+  pub all-fine : {fs : List Function} → All FineIn fs → (type_program_d ts all fs blank).end ≡ (Ok tt)
   unfolding type_program_d then_typed
   all-fine All.none = refl
   all-fine (All.more {x = f} {xs = fs} q r) =
@@ -66,24 +66,24 @@ module _ (ts : List Tok) (all : List Function) (blank : List ℕ) where
 
 -- Related typings are both fine. -------------------------------------------------------------------------------------
 
-pub fine-to : {m : Move} {n : ℕ} {a a' : Typed} → SimTyped m n a a' → a.end ≡ Ok tt → a'.end ≡ Ok tt
+pub fine-to : {m : Move} {n : ℕ} {a a' : Typed} → SimTyped m n a a' → a.end ≡ (Ok tt) → a'.end ≡ (Ok tt)
 fine-to (SimTyped.both q SimChecked.fine) e = refl
 fine-to (SimTyped.both q (SimChecked.refused r)) e = let z : ◌≡◌ {A = ℕ} 0 1 = cc in absurd (omega arith)
 
-pub fine-from : {m : Move} {n : ℕ} {a a' : Typed} → SimTyped m n a a' → a'.end ≡ Ok tt → a.end ≡ Ok tt
+pub fine-from : {m : Move} {n : ℕ} {a a' : Typed} → SimTyped m n a a' → a'.end ≡ (Ok tt) → a.end ≡ (Ok tt)
 fine-from (SimTyped.both q SimChecked.fine) e = refl
 fine-from (SimTyped.both q (SimChecked.refused r)) e = let z : ◌≡◌ {A = ℕ} 0 1 = cc in absurd (omega arith)
 
 module _ {m : Move} {n : ℕ} {ts ts' : List Tok} {globals globals' : ℕ → Global} {blank blank' : List ℕ}
     (s : Sim m n ts ts') (g : SameGlobals m globals globals') (t : Tables m blank blank') where
   pub all_from : {fs fs' : List Function} → Each (SimFunction m n) fs fs'
-      → All (λ f. (function_typed ts' globals' f blank').end ≡ Ok tt) fs'
-      → All (λ f. (function_typed ts globals f blank).end ≡ Ok tt) fs
+      → All (λ f. (function_typed ts' globals' f blank').end ≡ (Ok tt) fs'
+      → All (λ f. (function_typed ts globals f blank).end ≡ (Ok tt) fs
   all_from Each.none All.none = All.none
   all_from (Each.more q r) (All.more a b) = All.more (fine-from (function_typed_s s g t q) a) (all_from r b)
 
   pub all-to : {fs fs' : List Function} → Each (SimFunction m n) fs fs'
-      → All (λ f. (function_typed ts globals f blank).end ≡ Ok tt) fs
-      → All (λ f. (function_typed ts' globals' f blank').end ≡ Ok tt) fs'
+      → All (λ f. (function_typed ts globals f blank).end ≡ (Ok tt) fs
+      → All (λ f. (function_typed ts' globals' f blank').end ≡ (Ok tt) fs'
   all-to Each.none All.none = All.none
   all-to (Each.more q r) (All.more a b) = All.more (fine-to (function_typed_s s g t q) a) (all-to r b)

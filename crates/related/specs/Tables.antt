@@ -18,7 +18,7 @@ pub record Tables (m : Move) (t t' : List ℕ) : Type 0 where
   pub room' : m.names ≤ length t'
 
 pub data SimChecked (m : Move) (n : ℕ) : Result Unit Refusal → Result Unit Refusal → Type 0 where
-  fine : SimChecked m n Ok tt Ok tt
+  fine : SimChecked m n (Ok tt) (Ok tt)
   refused : {e e' : Refusal} → SimE m n e e' → SimChecked m n (Err e) (Err e')
 
 -- both fine, or related refusals, at one of the first n tokens; the tables related

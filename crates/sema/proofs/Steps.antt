@@ -20,19 +20,19 @@ module _ (t : List ℕ) (token found wanted : ℕ) (next : Typed) {r : Result Un
       by : (b : Bool) → typed t (Err e) ≡ pick b (on t) (stop t (facts 17 token wanted found no_name))
           → typed t (Err e) ≡ pick b next (stop t (facts 17 token wanted found no_name))
       by true q =
-          let r : Err e ≡ Ok tt = ap (λ (x : Typed). x.end) q in
+          let r : Err e ≡ (Ok tt) = ap (λ (x : Typed). x.end) q in
           absurd (let z : ◌≡◌ {A = ℕ} 0 1 = cc in omega arith)
       by false q = q
 
-  pub same-fine : r ≡ Ok tt → next ≡ then_same t token found wanted next
+  pub same-fine : r ≡ (Ok tt) → next ≡ then_same t token found wanted next
   unfolding then_same pick
   same-fine g = by (eqb found wanted) (ap (typed t) (sym g) ∙ h t)
     where
-      by : (b : Bool) → typed t Ok tt ≡ pick b (on t) (stop t (facts 17 token wanted found no_name))
+      by : (b : Bool) → typed t (Ok tt) ≡ pick b (on t) (stop t (facts 17 token wanted found no_name))
           → next ≡ pick b next (stop t (facts 17 token wanted found no_name))
       by true q = refl
       by false q =
-          let r : Ok tt ≡ Err (facts 17 token wanted found no_name) = ap (λ (x : Typed). x.end) q in
+          let r : (Ok tt) ≡ Err (facts 17 token wanted found no_name) = ap (λ (x : Typed). x.end) q in
           absurd (let z : ◌≡◌ {A = ℕ} 0 1 = cc in omega arith)
 
 -- a comparison as a step
@@ -53,6 +53,6 @@ unfolding then_typed then_end
 typed-refused t this k h g = rw (← h, g)
 
 pub typed-fine : (t : List ℕ) (this : Typed) (k : List ℕ → Typed) {r : Result Unit Refusal}
-    → typed t r ≡ this → r ≡ Ok tt → k t ≡ then_typed this k
+    → typed t r ≡ this → r ≡ (Ok tt) → k t ≡ then_typed this k
 unfolding then_typed then_end
 typed-fine t this k h g = rw (← h, g)

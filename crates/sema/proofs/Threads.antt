@@ -52,7 +52,7 @@ module _ (ts : List Tok) (globals : ℕ → Global) (ret : ℕ) (t₀ : List ℕ
             typed-refused t₁ (type_items_d ts globals ret t₀ is₀) (λ t. type_end_d t is₀)
             (typed-refused t₁ (type_item_d ts globals ret t (item_at items args at)) more op g ∙ step) refl
 
-        pub items-fine : r ≡ Ok tt
+        pub items-fine : r ≡ (Ok tt)
             → type_items_d ts globals ret t₁ (items_at items args (at + 1) (left - 1)) ≡ type_items_d ts globals ret t₀ is₀
         unfolding more
         items-fine g = typed-fine t₁ (type_item_d ts globals ret t (item_at items args at)) more op g ∙ step
@@ -91,7 +91,7 @@ module _ (token : ℕ) (t₀ : List ℕ) (vs₀ : List Variable) (t rows : List 
         typed-refused t₁ (enter_d t token (named (get_or rows at 0)) (get_or rows (at + 1) 0)) more-formals op g
         ∙ formals_step
 
-    pub formals-fine : r ≡ Ok tt → enter_formals_d t₁ token (formals_from rows (at + 2) (left - 1)) ≡ enter_formals_d t₀
+    pub formals-fine : r ≡ (Ok tt) → enter_formals_d t₁ token (formals_from rows (at + 2) (left - 1)) ≡ enter_formals_d t₀
         token vs₀
     unfolding more-formals
     formals-fine g =
@@ -136,7 +136,7 @@ module _ (ts : List Tok) (globals : ℕ → Global) (ret : ℕ) (t₀ : List ℕ
             typed-refused t₁ (type_block_d ts globals ret t (block_items items args blocks (first + b.0))) more-blocks
             op g ∙ blocks_step
 
-        pub blocks-fine : r ≡ Ok tt
+        pub blocks-fine : r ≡ (Ok tt)
             → type_blocks_d ts globals ret t₁ (blocks_at items args blocks first (remaining order rest)) ≡ type_blocks_d ts
             globals ret t₀ bs₀
         unfolding more-blocks

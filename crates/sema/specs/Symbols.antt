@@ -1,7 +1,6 @@
 -- "One table of names per function: entering a name with another type is 15, reading one absent is 16." The table is a
 -- list of type cells by name number, 0 where the name is absent: 1 int, 2 bool (crates/parser/specs/Runs.antt).
-use Rattle.std.specs.Prelude.{Err, Ok, Result}
-use Rattle.std.specs.Prelude.{ℕ, List, eqb, get_or, set}
+use Rattle.std.specs.Prelude.{ℕ, List, eqb, get_or, set, Result, Ok, Err}
 use Rattle.utils.specs.Bytes.{pick}
 use Rattle.pieces.specs.declared.Identifier.{Identifier}
 use Rattle.parser.specs.declared.Refusal.{Refusal}
@@ -15,14 +14,14 @@ abbrev pub typed : List ℕ → Result Unit Refusal → Typed
 typed t e = record { table = t; end = e }
 
 abbrev pub on : List ℕ → Typed
-on t = typed t Ok tt
+on t = typed t (Ok tt)
 
 abbrev pub stop : List ℕ → Refusal → Typed
 stop t e = typed t (Err e)
 
 -- what follows a step that was fine
 unfoldable pub then_end : Result Unit Refusal → Typed → Typed → Typed
-then_end Ok tt next this = next
+then_end (Ok tt) next this = next
 then_end (Err e) next this = this
 
 unfoldable pub then_typed : Typed → (List ℕ → Typed) → Typed
@@ -42,6 +41,12 @@ enter_d t token name type =
     let known = get_or t name.0 0 in
     pick (eqb known 0) (on (set t name.0 type))
     (pick (eqb known type) (on t) (stop t (facts 15 token known type name)))
+
+-- The type that a name has; undefined identifier (16).
+unfoldable pub looked_d : List ℕ → ℕ → Identifier → Result ℕ Refusal
+looked_d t token name =
+    let known = get_or t name.0 0 in
+    pick (eqb known 0) (Err (facts 16 token 0 0 name)) (Ok known)
 
 -- Undefined identifier (16).
 unfoldable pub then_look : List ℕ → ℕ → Identifier → (ℕ → Typed) → Typed

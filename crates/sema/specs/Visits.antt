@@ -111,7 +111,7 @@ visits_of ts all blank f =
 
 -- It is typed, every operand that was looked up had a type at its visit, and the last table has that type for it.
 pub record Final (ts : List Tok) (all : List Function) (blank : List ℕ) (f : Function) : Type 0 where
-  pub fine : (typed_function ts all blank f).end ≡ Ok tt
+  pub fine : (typed_function ts all blank f).end ≡ (Ok tt)
   pub found : BlocksFound (visits_of ts all blank f)
   pub same : visits_of ts all blank f ≡ blocks_looks (typed_function ts all blank f).table (ordered_blocks f.items)
 

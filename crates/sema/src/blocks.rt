@@ -9,10 +9,11 @@ ghost use Rattle.sema.specs.Items.{operation_of, item_of, item_at};
 ghost use Rattle.sema.specs.Globals.{globals_in};
 ghost use Rattle.sema.specs.Blocks.{items_at, type_end_d, type_block_d};
 
-use crate::{Arguments, Checked, calls, operations, symbols};
+use crate::{Arguments, calls, operations};
 use body::records::record_at;
 use body::{ItemRecord, Last, kinds};
 use lexer::token_at;
+use parser::Refusal;
 use pieces::Identifier;
 use utils::numbers;
 
@@ -24,7 +25,7 @@ fn analyze_plain(
     table: &mut [u32],
     r: ItemRecord,
     x: Identifier,
-) -> Checked
+) -> Result<(), Refusal>
     ensures { typed table.new result
         ≡ type_plain_d (tokens_of tokens.now) ret table.old (operation_of r x) }
 {
@@ -40,7 +41,7 @@ fn analyze_plain(
         kinds::CONST => operations::analyze_const(table, word, w, result, ty),
         kinds::RET => operations::analyze_ret(ret, w),
         kinds::RET_VALUE => operations::analyze_ret_value(table, ret, w, left),
-        _ => Checked::Fine,
+        _ => Ok(()),
     }
 }
 
@@ -53,7 +54,7 @@ fn analyze_record(
     table: &mut [u32],
     r: ItemRecord,
     arguments: &[u32],
-) -> Checked
+) -> Result<(), Refusal>
     requires { HasRows rows.now n }
     ensures { typed table.new result
         ≡ type_item_d (tokens_of tokens.now) (globals_in rows.now n) ret table.old
@@ -66,7 +67,7 @@ fn analyze_record(
     let last = r.last;
     match last {
         Last::Name(x, _) => analyze_plain(tokens, ret, table, r, x),
-        Last::Labels { .. } => Checked::Fine,
+        Last::Labels { .. } => Ok(()),
         Last::Run { first, count } => {
             let run = Arguments { first, count };
             if r.kind == kinds::CALL_INTO {
@@ -89,7 +90,7 @@ pub fn analyze_op(
     items: &[u32],
     arguments: &[u32],
     i: usize,
-) -> Checked
+) -> Result<(), Refusal>
     requires { (n ≤ most_functions) × (table_size ≤ length rows.now) × (i ≤ 8589934592) }
     ensures { typed table.new result
         ≡ type_item_d (tokens_of tokens.now) (globals_in rows.now n) ret table.old
@@ -100,23 +101,18 @@ pub fn analyze_op(
 }
 
 // The kinds from 9 to 12 end a block.
-fn expect_terminator(items: &[u32], first: u32, count: u32) -> Checked
+fn expect_terminator(items: &[u32], first: u32, count: u32) -> Result<(), Refusal>
     ensures { (t args : List ℕ) → typed t result ≡ type_end_d t (items_at items.now args first count) }
 {
     if count == 0 {
-        return Checked::Fine;
+        return Ok(());
     }
     let i = first as usize + count as usize - 1;
     let last = record_at(items, i);
-    let kind = last.kind;
-    let w = last.token as usize;
-    if kind < kinds::JUMP {
-        return symbols::refuse(numbers::NO_TERMINATOR, w, 0, 0, Identifier(0));
+    if (kinds::JUMP..=kinds::RET_VALUE).contains(&last.kind) {
+        return Ok(());
     }
-    if kinds::RET_VALUE < kind {
-        return symbols::refuse(numbers::NO_TERMINATOR, w, 0, 0, Identifier(0));
-    }
-    Checked::Fine
+    Err(parser::refuse(numbers::NO_TERMINATOR, last.token as usize))
 }
 
 pub fn analyze_block(
@@ -129,7 +125,7 @@ pub fn analyze_block(
     arguments: &[u32],
     first: u32,
     count: u32,
-) -> Checked
+) -> Result<(), Refusal>
     requires { HasRows rows.now n }
     ensures { typed table.new result
         ≡ type_block_d (tokens_of tokens.now) (globals_in rows.now n) ret table.old
@@ -138,15 +134,9 @@ pub fn analyze_block(
     let mut at = first as usize;
     let mut left = count;
     while 0 < left {
-        match analyze_op(tokens, rows, n, ret, table, items, arguments, at) {
-            Checked::Refused(e) => {
-                return Checked::Refused(e);
-            }
-            Checked::Fine => {
-                at += 1;
-                left -= 1;
-            }
-        }
+        analyze_op(tokens, rows, n, ret, table, items, arguments, at)?;
+        at += 1;
+        left -= 1;
     }
     expect_terminator(items, first, count)
 }

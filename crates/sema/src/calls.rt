@@ -1,17 +1,17 @@
 // Calls: the callee, the result, then how many arguments, then which, then of which types.
-ghost use Rattle.std.specs.Prelude.{◌≡◌, ◌+◌, ◌*◌, ◌≤◌, ◌<◌, length, get_or};
+ghost use Rattle.std.specs.Prelude.{◌≡◌, ◌+◌, ◌*◌, ◌≤◌, ◌<◌, length, get_or, ok_or, IfOk};
 ghost use Rattle.functions.specs.Columns.{ret_at, count_at, formals_at, IsRow, HasRows};
-ghost use Rattle.functions.specs.Rows.{at_most16, types_at};
+ghost use Rattle.functions.specs.Rows.{at_most16, types_at, row_from};
 ghost use Rattle.utils.specs.Limits.{most_formals};
-ghost use Rattle.sema.specs.Symbols.{typed, then_typed, enter_d};
+ghost use Rattle.sema.specs.Symbols.{typed, then_typed, enter_d, facts};
 ghost use Rattle.sema.specs.Typing.{present_d, types_of, same_all, type_arguments_d, type_call_d, type_call_into_d};
 ghost use Rattle.body.specs.Records.{named};
 ghost use Rattle.sema.specs.Items.{variables_at};
 ghost use Rattle.sema.specs.Globals.{globals_in};
 
-use crate::{Arguments, Checked, symbols};
-use functions::{FoundRow, columns, known};
-use parser::{VARIABLE_CELLS, types};
+use crate::{Arguments, symbols};
+use functions::{columns, known};
+use parser::{Refusal, VARIABLE_CELLS, types};
 use pieces::Identifier;
 use utils::{cell_at, limits, numbers};
 
@@ -24,21 +24,18 @@ fn argument_at(arguments: &[u32], at: usize) -> Identifier
 }
 
 // 16 for the first argument that has no type.
-fn look_arguments(table: &[u32], token: usize, arguments: &[u32], run: Arguments) -> Checked
+fn look_arguments(table: &[u32], token: usize, arguments: &[u32], run: Arguments) -> Result<(), Refusal>
     ensures { typed table.now result
         ≡ present_d table.now token (variables_at arguments.now run.first run.count) }
 {
     let mut at = run.first as usize;
     let mut left = run.count;
     while 0 < left {
-        let name = argument_at(arguments, at);
-        if symbols::get(table, name) == 0 {
-            return symbols::refuse(numbers::UNDEFINED, token, 0, 0, name);
-        }
+        symbols::look(table, token, argument_at(arguments, at))?;
         at += 1;
         left -= 1;
     }
-    Checked::Fine
+    Ok(())
 }
 
 // 17 for the first argument whose type is not the formal's; the formals' types stand at every second cell from `formal`
@@ -50,7 +47,7 @@ fn compare_arguments(
     run: Arguments,
     rows: &[u32],
     formal: usize,
-) -> Checked
+) -> Result<(), Refusal>
     requires { formal + run.count * 2 ≤ length rows.now }
     ensures { typed table.now result
         ≡ same_all table.now token
@@ -62,18 +59,12 @@ fn compare_arguments(
     let mut left = run.count;
     while 0 < left {
         let found = symbols::get(table, argument_at(arguments, at));
-        match symbols::expect_type(token, found, rows[wanted + 1]) {
-            Checked::Refused(e) => {
-                return Checked::Refused(e);
-            }
-            Checked::Fine => {
-                at += 1;
-                wanted += VARIABLE_CELLS;
-                left -= 1;
-            }
-        }
+        symbols::expect_type(token, found, rows[wanted + 1])?;
+        at += 1;
+        wanted += VARIABLE_CELLS;
+        left -= 1;
     }
-    Checked::Fine
+    Ok(())
 }
 
 // A row has room for 16 formals.
@@ -94,7 +85,7 @@ fn analyze_arguments(
     i: usize,
     arguments: &[u32],
     run: Arguments,
-) -> Checked
+) -> Result<(), Refusal>
     requires { IsRow rows.now i }
     ensures { typed table.now result ≡ type_arguments_d table.now token
         (types_at rows.now (formals_at i) (at_most16 (get_or rows.now (count_at i) 0)))
@@ -103,21 +94,12 @@ fn analyze_arguments(
     let formals = at_most_16(rows[columns::COUNT + i * columns::ROW]);
     let count = run.count;
     if formals != count {
-        return symbols::refuse(numbers::OTHER_COUNT, token, formals, count, Identifier(0));
+        let none = Identifier(0);
+        return Err(symbols::refusal(numbers::OTHER_COUNT, token, formals, count, none));
     }
-    match look_arguments(table, token, arguments, run) {
-        Checked::Refused(e) => Checked::Refused(e),
-        Checked::Fine => {
-            compare_arguments(
-                table,
-                token,
-                arguments,
-                run,
-                rows,
-                columns::FORMALS + i * columns::ROW,
-            )
-        }
-    }
+    look_arguments(table, token, arguments, run)?;
+    let formal = columns::FORMALS + i * columns::ROW;
+    compare_arguments(table, token, arguments, run, rows, formal)
 }
 
 // The result type of the function in row i.
@@ -126,6 +108,16 @@ pub(crate) fn result_type(rows: &[u32], i: usize) -> u32
     ensures { result ≡ get_or rows.now (ret_at i) 0 }
 {
     rows[columns::RESULT + i * columns::ROW]
+}
+
+// The row of the callee; 16 where no function has its name.
+fn find_callee(rows: &[u32], n: usize, token: usize, callee: Identifier) -> Result<usize, Refusal>
+    requires { HasRows rows.now n }
+    ensures value { result ≡ ok_or (facts 16 token 0 0 callee) (row_from rows.now 0 n callee.0) }
+    ensures row { IfOk result (IsRow rows.now) }
+{
+    let undefined = symbols::refusal(numbers::UNDEFINED, token, 0, 0, callee);
+    known::find_function(rows, n, callee).ok_or(undefined)
 }
 
 // A call whose result nobody takes.
@@ -137,21 +129,17 @@ pub fn analyze_call(
     callee: Identifier,
     arguments: &[u32],
     run: Arguments,
-) -> Checked
+) -> Result<(), Refusal>
     requires { HasRows rows.now n }
     ensures { typed table.now result
         ≡ type_call_d table.now (globals_in rows.now n callee.0) token callee
         (variables_at arguments.now run.first run.count) }
 {
-    match known::find_function(rows, n, callee) {
-        FoundRow::Absent => symbols::refuse(numbers::UNDEFINED, token, 0, 0, callee),
-        FoundRow::At(i) => {
-            if result_type(rows, i) != types::VOID {
-                return symbols::refuse(numbers::NO_VALUE, token, 0, 0, Identifier(0));
-            }
-            analyze_arguments(table, token, rows, i, arguments, run)
-        }
+    let i = find_callee(rows, n, token, callee)?;
+    if result_type(rows, i) != types::VOID {
+        return Err(parser::refuse(numbers::NO_VALUE, token));
     }
+    analyze_arguments(table, token, rows, i, arguments, run)
 }
 
 // The result is entered before the arguments are looked up.
@@ -164,17 +152,15 @@ fn enter_result(
     ty: u32,
     arguments: &[u32],
     run: Arguments,
-) -> Checked
+) -> Result<(), Refusal>
     requires { IsRow rows.now i }
     ensures { typed table.new result ≡ then_typed (enter_d table.old token res ty)
         (λ t. type_arguments_d t token
         (types_at rows.now (formals_at i) (at_most16 (get_or rows.now (count_at i) 0)))
         (variables_at arguments.now run.first run.count)) }
 {
-    match symbols::insert(table, token, res, ty) {
-        Checked::Refused(e) => Checked::Refused(e),
-        Checked::Fine => analyze_arguments(table, token, rows, i, arguments, run),
-    }
+    symbols::insert(table, token, res, ty)?;
+    analyze_arguments(table, token, rows, i, arguments, run)
 }
 
 pub fn analyze_call_into(
@@ -187,23 +173,17 @@ pub fn analyze_call_into(
     callee: Identifier,
     arguments: &[u32],
     run: Arguments,
-) -> Checked
+) -> Result<(), Refusal>
     requires { HasRows rows.now n }
     ensures { typed table.new result
         ≡ type_call_into_d table.old (globals_in rows.now n callee.0) token res ty callee
         (variables_at arguments.now run.first run.count) }
 {
-    match known::find_function(rows, n, callee) {
-        FoundRow::Absent => symbols::refuse(numbers::UNDEFINED, token, 0, 0, callee),
-        FoundRow::At(i) => {
-            let ret = result_type(rows, i);
-            if ret == types::VOID {
-                return symbols::refuse(numbers::VOID_VALUE, token, 0, 0, Identifier(0));
-            }
-            match symbols::expect_type(token, ty, ret) {
-                Checked::Refused(e) => Checked::Refused(e),
-                Checked::Fine => enter_result(table, token, rows, i, res, ty, arguments, run),
-            }
-        }
+    let i = find_callee(rows, n, token, callee)?;
+    let ret = result_type(rows, i);
+    if ret == types::VOID {
+        return Err(parser::refuse(numbers::VOID_VALUE, token));
     }
+    symbols::expect_type(token, ty, ret)?;
+    enter_result(table, token, rows, i, res, ty, arguments, run)
 }

@@ -9,16 +9,16 @@ ghost use Rattle.sema.specs.Globals.{globals_in};
 ghost use Rattle.sema.specs.Blocks.{formals_from, formals_in, enter_formals_d};
 ghost use Rattle.sema.specs.Blocks.{type_block_d, type_blocks_d, block_items, blocks_at, in_order, type_row_d};
 
-use crate::{Checked, blocks, calls, symbols};
+use crate::{blocks, calls, symbols};
 use functions::columns;
 use graph::blocks::block_at;
 use graph::{Popped, RPOWorklist};
-use parser::VARIABLE_CELLS;
+use parser::{Refusal, VARIABLE_CELLS};
 use pieces::Identifier;
 use utils::limits;
 
 // Enters the formals from the cell `first` on.
-fn enter_formals(table: &mut [u32], token: u32, rows: &[u32], first: usize, count: u32) -> Checked
+fn enter_formals(table: &mut [u32], token: u32, rows: &[u32], first: usize, count: u32) -> Result<(), Refusal>
     requires { first + count * 2 ≤ length rows.now }
     ensures { typed table.new result
         ≡ enter_formals_d table.old token (formals_from rows.now first count) }
@@ -27,21 +27,15 @@ fn enter_formals(table: &mut [u32], token: u32, rows: &[u32], first: usize, coun
     let mut at = first;
     let mut left = count;
     while 0 < left {
-        match symbols::insert(table, w, Identifier(rows[at]), rows[at + 1]) {
-            Checked::Refused(e) => {
-                return Checked::Refused(e);
-            }
-            Checked::Fine => {
-                at += VARIABLE_CELLS;
-                left -= 1;
-            }
-        }
+        symbols::insert(table, w, Identifier(rows[at]), rows[at + 1])?;
+        at += VARIABLE_CELLS;
+        left -= 1;
     }
-    Checked::Fine
+    Ok(())
 }
 
 // The function's name is the token of its formals.
-fn enter_row(table: &mut [u32], rows: &[u32], row: usize) -> Checked
+fn enter_row(table: &mut [u32], rows: &[u32], row: usize) -> Result<(), Refusal>
     requires { IsRow rows.now row }
     ensures { typed table.new result
         ≡ enter_formals_d table.old (get_or rows.now (row_at row) 0)
@@ -64,7 +58,7 @@ fn analyze_recorded(
     arguments: &[u32],
     blocks: &[u32],
     k: usize,
-) -> Checked
+) -> Result<(), Refusal>
     requires { (n ≤ most_functions) × (table_size ≤ length rows.now) × (k ≤ 8589934592) }
     ensures { typed table.new result
         ≡ type_block_d (tokens_of tokens.now) (globals_in rows.now n) ret table.old
@@ -97,7 +91,7 @@ fn analyze_remaining(
     first: u32,
     order: &[u32; limits::BLOCKS],
     work: RPOWorklist,
-) -> Checked
+) -> Result<(), Refusal>
     requires { (n ≤ most_functions) × (table_size ≤ length rows.now) × (length order.now ≡ most_blocks)
         × (work.blocks ≤ most_blocks) }
     ensures { typed table.new result
@@ -109,18 +103,12 @@ fn analyze_remaining(
     loop {
         match left.pop(order) {
             Popped::Empty => {
-                return Checked::Fine;
+                return Ok(());
             }
             Popped::Block(b, rest) => {
                 let k = first as usize + b.0 as usize;
-                match analyze_recorded(tokens, rows, n, ret, table, items, arguments, blocks, k) {
-                    Checked::Refused(e) => {
-                        return Checked::Refused(e);
-                    }
-                    Checked::Fine => {
-                        left = rest;
-                    }
-                }
+                analyze_recorded(tokens, rows, n, ret, table, items, arguments, blocks, k)?;
+                left = rest;
             }
         }
     }
@@ -135,7 +123,7 @@ fn analyze_blocks(
     items: &[u32],
     arguments: &[u32],
     blocks: &[u32],
-) -> Checked
+) -> Result<(), Refusal>
     requires { (n ≤ most_functions) × (row < most_functions) × (table_size ≤ length rows.now) }
     ensures { typed table.new result
         ≡ type_blocks_d (tokens_of tokens.now) (globals_in rows.now n)
@@ -163,15 +151,13 @@ pub fn analyze(
     items: &[u32],
     arguments: &[u32],
     blocks: &[u32],
-) -> Checked
+) -> Result<(), Refusal>
     requires { (n ≤ most_functions) × (row < most_functions) × (table_size ≤ length rows.now) }
     ensures { typed table.new result
         ≡ type_row_d (tokens_of tokens.now) rows.now n items.now arguments.now
         blocks.now row table.old }
 {
     utils::clear(table);
-    match enter_row(table, rows, row) {
-        Checked::Refused(e) => Checked::Refused(e),
-        Checked::Fine => analyze_blocks(tokens, rows, n, row, table, items, arguments, blocks),
-    }
+    enter_row(table, rows, row)?;
+    analyze_blocks(tokens, rows, n, row, table, items, arguments, blocks)
 }

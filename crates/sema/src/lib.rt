@@ -7,14 +7,6 @@ pub mod function;
 mod operations;
 mod symbols;
 
-use parser::Refusal;
-
-#[derive(Clone, Copy)]
-pub enum Checked {
-    Fine,
-    Refused(Refusal),
-}
-
 // A call's arguments: `count` of them, from the argument `first` of the slice of all calls' arguments on.
 #[derive(Clone, Copy)]
 pub struct Arguments {

@@ -5,20 +5,24 @@ ghost use Rattle.sema.specs.Symbols.{typed, on, then_same};
 ghost use Rattle.sema.specs.Typing.{then_three, operands_d, type_binary_d, operand_d, type_unary_d, type_const_d};
 ghost use Rattle.sema.specs.Typing.{type_ret_d, type_ret_value_d};
 
-use crate::{Checked, symbols};
-use parser::types;
+use crate::symbols;
+use parser::{Refusal, types};
 use pieces::{Identifier, kinds};
 use utils::numbers;
 
 // One type, then another.
-fn expect_both(token: usize, found: u32, wanted: u32, other: u32, of_other: u32) -> Checked
+fn expect_both(
+    token: usize,
+    found: u32,
+    wanted: u32,
+    other: u32,
+    of_other: u32,
+) -> Result<(), Refusal>
     ensures { (t : List ℕ) → typed t result
         ≡ then_same t token found wanted (then_same t token other of_other (on t)) }
 {
-    match symbols::expect_type(token, found, wanted) {
-        Checked::Refused(e) => Checked::Refused(e),
-        Checked::Fine => symbols::expect_type(token, other, of_other),
-    }
+    symbols::expect_type(token, found, wanted)?;
+    symbols::expect_type(token, other, of_other)
 }
 
 // The result's type, then the left and the right operand's.
@@ -29,17 +33,15 @@ fn expect_three(
     right: u32,
     of_result: u32,
     of_operands: u32,
-) -> Checked
+) -> Result<(), Refusal>
     ensures { (t : List ℕ) → typed t result ≡ then_three t token res left right of_result of_operands }
 {
-    match symbols::expect_type(token, res, of_result) {
-        Checked::Refused(e) => Checked::Refused(e),
-        Checked::Fine => expect_both(token, left, of_operands, right, of_operands),
-    }
+    symbols::expect_type(token, res, of_result)?;
+    expect_both(token, left, of_operands, right, of_operands)
 }
 
 // The other comparisons, of integers, and `and` and `or`.
-fn expect_bool(kind: u32, token: usize, res: u32, left: u32, right: u32) -> Checked
+fn expect_bool(kind: u32, token: usize, res: u32, left: u32, right: u32) -> Result<(), Refusal>
     ensures { (t : List ℕ) → typed t result ≡ pick (leb kind 16) (then_three t token res left right 2 1)
         (then_three t token res left right 2 2) }
 {
@@ -49,7 +51,13 @@ fn expect_bool(kind: u32, token: usize, res: u32, left: u32, right: u32) -> Chec
     expect_three(token, res, left, right, types::BOOL, types::BOOL)
 }
 
-fn expect_operands(kind: u32, token: usize, res: u32, left: u32, right: u32) -> Checked
+fn expect_operands(
+    kind: u32,
+    token: usize,
+    res: u32,
+    left: u32,
+    right: u32,
+) -> Result<(), Refusal>
     ensures { (t : List ℕ) → typed t result ≡ operands_d t kind token res left right }
 {
     if kind <= kinds::MOD {
@@ -70,25 +78,17 @@ pub fn analyze_bin_op(
     ty: u32,
     lhs: Identifier,
     rhs: Identifier,
-) -> Checked
+) -> Result<(), Refusal>
     ensures { typed table.new result ≡ type_binary_d table.old kind token res ty lhs rhs }
 {
-    let left = symbols::get(table, lhs);
-    if left == 0 {
-        return symbols::refuse(numbers::UNDEFINED, token, 0, 0, lhs);
-    }
-    let right = symbols::get(table, rhs);
-    if right == 0 {
-        return symbols::refuse(numbers::UNDEFINED, token, 0, 0, rhs);
-    }
-    match symbols::insert(table, token, res, ty) {
-        Checked::Refused(e) => Checked::Refused(e),
-        Checked::Fine => expect_operands(kind, token, ty, left, right),
-    }
+    let left = symbols::look(table, token, lhs)?;
+    let right = symbols::look(table, token, rhs)?;
+    symbols::insert(table, token, res, ty)?;
+    expect_operands(kind, token, ty, left, right)
 }
 
 // `id` holds the operand against the result, `not` both against bool.
-fn expect_operand(kind: u32, token: usize, res: u32, operand: u32) -> Checked
+fn expect_operand(kind: u32, token: usize, res: u32, operand: u32) -> Result<(), Refusal>
     ensures { (t : List ℕ) → typed t result ≡ operand_d t kind token res operand }
 {
     if kind == kinds::ID {
@@ -104,17 +104,12 @@ pub fn analyze_unary_op(
     res: Identifier,
     ty: u32,
     operand: Identifier,
-) -> Checked
+) -> Result<(), Refusal>
     ensures { typed table.new result ≡ type_unary_d table.old kind token res ty operand }
 {
-    let found = symbols::get(table, operand);
-    if found == 0 {
-        return symbols::refuse(numbers::UNDEFINED, token, 0, 0, operand);
-    }
-    match symbols::insert(table, token, res, ty) {
-        Checked::Refused(e) => Checked::Refused(e),
-        Checked::Fine => expect_operand(kind, token, ty, found),
-    }
+    let found = symbols::look(table, token, operand)?;
+    symbols::insert(table, token, res, ty)?;
+    expect_operand(kind, token, ty, found)
 }
 
 fn constant_type(kind: u32) -> u32
@@ -133,33 +128,33 @@ pub fn analyze_const(
     token: usize,
     res: Identifier,
     ty: u32,
-) -> Checked
+) -> Result<(), Refusal>
     ensures { typed table.new result ≡ type_const_d table.old kind token res ty }
 {
-    match symbols::expect_type(token, constant_type(kind), ty) {
-        Checked::Refused(e) => Checked::Refused(e),
-        Checked::Fine => symbols::insert(table, token, res, ty),
-    }
+    symbols::expect_type(token, constant_type(kind), ty)?;
+    symbols::insert(table, token, res, ty)
 }
 
-pub fn analyze_ret(ret: u32, token: usize) -> Checked
+pub fn analyze_ret(ret: u32, token: usize) -> Result<(), Refusal>
     ensures { (t : List ℕ) → typed t result ≡ type_ret_d t ret token }
 {
     if ret == types::VOID {
-        return Checked::Fine;
+        return Ok(());
     }
-    symbols::refuse(numbers::NO_VALUE, token, 0, 0, Identifier(0))
+    Err(parser::refuse(numbers::NO_VALUE, token))
 }
 
-pub fn analyze_ret_value(table: &[u32], ret: u32, token: usize, x: Identifier) -> Checked
+pub fn analyze_ret_value(
+    table: &[u32],
+    ret: u32,
+    token: usize,
+    x: Identifier,
+) -> Result<(), Refusal>
     ensures { typed table.now result ≡ type_ret_value_d table.now ret token x }
 {
-    let found = symbols::get(table, x);
-    if found == 0 {
-        return symbols::refuse(numbers::UNDEFINED, token, 0, 0, x);
-    }
+    let found = symbols::look(table, token, x)?;
     if ret == types::VOID {
-        return symbols::refuse(numbers::VOID_VALUE, token, 0, 0, Identifier(0));
+        return Err(parser::refuse(numbers::VOID_VALUE, token));
     }
     symbols::expect_type(token, found, ret)
 }

@@ -31,13 +31,13 @@ module _ (ts : List Tok) (rows : List ℕ) (n : ℕ) (blocks t₀ : List ℕ) (i
     unfolding typed_rows then_row
     rows-refused g = rw (← one_more_lem, ← row_same, g)
 
-    pub rows-fine : r ≡ Ok tt
+    pub rows-fine : r ≡ (Ok tt)
         → (first count : ℕ) → first ≡ get_or rows (first_item_at i) 0 → count ≡ get_or rows (item_count_at i) 0
         → typed_rows ts rows n blocks t₀ (i + 1) (left - 1) (typed_items t₁ (callee_of rows n) items first count)
         (typed_calls t₁ items args first count) ≡ d
     unfolding typed_rows then_row
     rows-fine g first count f k = rw (f, k, ← one_more_lem, ← row_same, g)
 
-  pub rows-ended : left ≤ 0 → done Ok tt items args ≡ d
+  pub rows-ended : left ≤ 0 → done (Ok tt) items args ≡ d
   unfolding typed_rows
   rows-ended h = let m : left ≡ 0 = omega arith in rw (← same, m)

@@ -53,8 +53,8 @@ module _ (ts : List Tok) (names rows : List ℕ) (all : List Function) (total : 
   -- What the loop over these functions leaves, behind what stands before them: pi, pa; zi, za follow.
   pub record Same (gs : List Function) (n : Counts) (pi pa zi za : List ℕ) (d : Done) : Type 0 where
     pub ends : d.end ≡ (typed_d ts all gs untyped).end
-    pub items_are : d.end ≡ Ok tt → d.items ≡ pi ++ (all_items (callee_in all) n gs (tables_of ts all gs) ++ zi)
-    pub arguments_are : d.end ≡ Ok tt → d.arguments ≡ pa ++ (all_arguments gs (tables_of ts all gs) ++ za)
+    pub items_are : d.end ≡ (Ok tt) → d.items ≡ pi ++ (all_items (callee_in all) n gs (tables_of ts all gs) ++ zi)
+    pub arguments_are : d.end ≡ (Ok tt) → d.arguments ≡ pa ++ (all_arguments gs (tables_of ts all gs) ++ za)
 
   -- one function
   module _ (n : Counts) (f : Function) (gs : List Function) (fits : Fits n f) (pi pa zi za zr zb : List ℕ)
@@ -176,7 +176,7 @@ module _ (ts : List Tok) (names rows : List ℕ) (all : List Function) (total : 
     pub by_end : (e : Result Unit Refusal) → (one f).end ≡ e → Same gs next pi' pa' zi za rest-done
         → Same (f ∷ gs) n pi pa zi za (then_row e rest-done (λ r. done (Err r) items args))
     unfolding typed_d then_typed then_end then_row all_items all_arguments tables_of
-    by_end Ok tt h s =
+    by_end (Ok tt) h s =
         record {
           ends = s.ends ∙ rw h;
           items_are = λ e.

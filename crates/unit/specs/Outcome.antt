@@ -27,7 +27,7 @@ pub data UnitOutcome : Type 0 where
   refused : Refusal → UnitOutcome
 
 abbrev pub after_typing : List Function → Result Unit Refusal → UnitOutcome
-after_typing fs Ok tt = checked fs
+after_typing fs (Ok tt) = checked fs
 after_typing fs (Err e) = refused e
 
 abbrev pub after_parsing : List Tok → List Function → Result ℕ Refusal → UnitOutcome

@@ -18,12 +18,12 @@ abbrev pub done : Result Unit Refusal → List ℕ → List ℕ → Done
 done e items args = record { end = e; items = items; arguments = args }
 
 unfoldable pub then_row : Result Unit Refusal → Done → (Refusal → Done) → Done
-then_row Ok tt next fail = next
+then_row (Ok tt) next fail = next
 then_row (Err e) next fail = fail e
 
 -- The m functions from row i on, of n: each is typed in a table as long as t, and then its operands' types are written.
 unfoldable pub typed_rows : List Tok → List ℕ → ℕ → List ℕ → List ℕ → ℕ → ℕ → List ℕ → List ℕ → Done
-typed_rows ts rows n blocks t i zero items args = done Ok tt items args
+typed_rows ts rows n blocks t i zero items args = done (Ok tt) items args
 typed_rows ts rows n blocks t i (suc m) items args =
     let first = get_or rows (first_item_at i) 0 in
     let count = get_or rows (item_count_at i) 0 in
@@ -41,7 +41,7 @@ pub record RowsFit (rows : List ℕ) (n first more cells : ℕ) : Type 0 where
 
 -- The answer, and where all functions are typed, the cells. A refusal says nothing of them.
 abbrev pub HeldBy : Result Unit Refusal → List ℕ → List ℕ → Done → Type 0
-HeldBy Ok tt items args d = (items ≡ d.items) × (args ≡ d.arguments)
+HeldBy (Ok tt) items args d = (items ≡ d.items) × (args ≡ d.arguments)
 HeldBy (Err e) items args d = Unit
 
 pub record RowsHeld (r : Result Unit Refusal) (items args : List ℕ) (d : Done) : Type 0 where

@@ -10,8 +10,8 @@ ghost use Rattle.functions.specs.Answer.{Long, slices};
 ghost use Rattle.functions.specs.Columns.{table_size};
 ghost use Rattle.unit.specs.Outcome.{unit_d, unit_read, Counted, UnitHeld};
 
-use functions::ProgramRead;
-use sema::Checked;
+use functions::Counts;
+use parser::Refusal;
 
 // The functions of a text: parsed into the front of the slices, then typed. The caller clears what stands behind, and
 // after a refusal all.
@@ -23,7 +23,7 @@ pub fn unit(
     arguments: &mut [u32],
     blocks: &mut [u32],
     predecessors: &mut [u32],
-) -> ProgramRead
+) -> Result<Counts, Refusal>
     requires { Within (tokens_of tokens.now) 0 × (table_size ≤ length functions.old)
         × Long items.old arguments.old blocks.old predecessors.old }
     ensures value { result ≡ unit_read (unit_d (tokens_of tokens.now)) }
@@ -33,7 +33,7 @@ pub fn unit(
         (unit_d (tokens_of tokens.now)) }
     ensures counted { Counted result }
 {
-    match functions::parse(
+    let n = functions::parse(
         tokens,
         names,
         functions,
@@ -41,22 +41,8 @@ pub fn unit(
         arguments,
         blocks,
         predecessors,
-    ) {
-        ProgramRead::Refused(e) => ProgramRead::Refused(e),
-        ProgramRead::Done(n) => {
-            match types::type_rows(
-                tokens,
-                functions,
-                n.functions,
-                0,
-                n.functions,
-                items,
-                arguments,
-                blocks,
-            ) {
-                Checked::Refused(e) => ProgramRead::Refused(e),
-                Checked::Fine => ProgramRead::Done(n),
-            }
-        }
-    }
+    )?;
+    let all = n.functions;
+    types::type_rows(tokens, functions, all, 0, all, items, arguments, blocks)?;
+    Ok(n)
 }

@@ -7,7 +7,7 @@ ghost use Rattle.utils.specs.Limits.{most_functions};
 ghost use Rattle.unit.specs.Rows.{RowsFit, typed_rows, RowsHeld};
 
 use functions::columns;
-use sema::Checked;
+use parser::Refusal;
 use utils::limits;
 
 // A cell of a row, as an index or a count.
@@ -29,7 +29,7 @@ fn type_with(
     items: &mut [u32],
     arguments: &mut [u32],
     blocks: &[u32],
-) -> Checked
+) -> Result<(), Refusal>
     requires { (n ≤ most_functions) × (first + more ≤ most_functions) × (table_size ≤ length rows.now)
         × RowsFit rows.now n first more (length items.old) }
     ensures { RowsHeld result items.new arguments.new
@@ -39,20 +39,14 @@ fn type_with(
     let mut row = first;
     let mut left = more;
     while 0 < left {
-        match sema::function::analyze(tokens, rows, n, row, table, items, arguments, blocks) {
-            Checked::Refused(e) => {
-                return Checked::Refused(e);
-            }
-            Checked::Fine => {
-                let start = cell(rows, columns::FIRST_ITEM + row * columns::ROW);
-                let count = cell(rows, columns::ITEMS + row * columns::ROW);
-                elaborate::elaborate(table, rows, n, items, start, count, arguments);
-                row += 1;
-                left -= 1;
-            }
-        }
+        sema::function::analyze(tokens, rows, n, row, table, items, arguments, blocks)?;
+        let start = cell(rows, columns::FIRST_ITEM + row * columns::ROW);
+        let count = cell(rows, columns::ITEMS + row * columns::ROW);
+        elaborate::elaborate(table, rows, n, items, start, count, arguments);
+        row += 1;
+        left -= 1;
     }
-    Checked::Fine
+    Ok(())
 }
 
 // With a table for 1,024 names.
@@ -65,7 +59,7 @@ pub fn type_rows(
     items: &mut [u32],
     arguments: &mut [u32],
     blocks: &[u32],
-) -> Checked
+) -> Result<(), Refusal>
     requires { (n ≤ most_functions) × (first + more ≤ most_functions) × (table_size ≤ length rows.now)
         × RowsFit rows.now n first more (length items.old) }
     ensures { RowsHeld result items.new arguments.new
