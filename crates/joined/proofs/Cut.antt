@@ -1,5 +1,6 @@
 -- Cut: a text is cut where a piece ends. The names and tokens of the whole are those of the first part, then those of
 -- the second, moved.
+use Rattle.std.specs.Prelude.{Option, Some, Ok}
 use Prim.Native.Nat.{ℕ, suc, ◌+◌, ◌≤◌, ◌<◌}
 use mathlib.Core.Path.{◌≡◌, refl, sym, ap, ◌∙◌}
 use mathlib.Core.List.{List, [], ◌∷◌, ◌++◌, append_assoc}
@@ -14,8 +15,6 @@ use Rattle.pieces.specs.Tokens.{symbol}
 use Rattle.pieces.specs.Pieces.{cursor, token, piece_at, token_from, symbol_at, then_value}
 use Rattle.pieces.specs.declared.TokenValue.{TokenValue}
 use Rattle.pieces.specs.declared.TokenValue.TheVariants as T
-use Rattle.pieces.specs.declared.OptionValue.{OptionValue}
-use Rattle.pieces.specs.declared.OptionValue.TheVariants as O
 use Rattle.pieces.specs.declared.Lexed.TheVariants as L
 use Rattle.pieces.proofs.Progress.{pick_either}
 use Rattle.joined.specs.Runs.{Begins, Item, move_item, move_items, Run}
@@ -23,8 +22,8 @@ use Rattle.joined.proofs.Runs.{run_join, run_shift, run-front, run_back, Back, s
 use Rattle.joined.proofs.Runs.{start-at, end-at}
 
 -- a token of one byte, in any text
-pub symbol_piece : (s : List ℕ) (at line : ℕ) (v : TokenValue) → at < length s → symbol (get_or s at 0) ≡ O.Some v
-    → piece_at s at line ≡ L.Token (token v line at) (cursor (at + 1) line)
+pub symbol_piece : (s : List ℕ) (at line : ℕ) (v : TokenValue) → at < length s → symbol (get_or s at 0) ≡ Some v
+    → piece_at s at line ≡ Ok (L.Token (token v line at) (cursor (at + 1) line))
 unfolding piece_at token_from symbol_at then_value is_blank is_digit is_letter symbol pick
 symbol_piece s at line v h =
     let b = get_or s at 0 in
@@ -44,8 +43,8 @@ symbol_piece s at line v h =
     pick_either P (eqb b 44) _ _ (λ e q. let f : T.Comma ≡ v = cc in rw (over, eqb-true (get_or s at 0) 44 e, ← f))
     (λ _ q. absurd (let z : ◌≡◌ {A = ℕ} 0 1 = cc in omega arith)))))))))
   where
-    P : OptionValue → Type 0
-    P o = o ≡ O.Some v → piece_at s at line ≡ L.Token (token v line at) (cursor (at + 1) line)
+    P : Option TokenValue → Type 0
+    P o = o ≡ Some v → piece_at s at line ≡ Ok (L.Token (token v line at) (cursor (at + 1) line))
 
 -- Runs in a text with more behind it. ------------------------------------------------------------------------------
 
@@ -66,7 +65,7 @@ run-inner s v {at} {line} {a} {l} {is} r h k =
 -- a run to the text's end whose last piece is a token of one byte
 pub run-symbol : (s v : List ℕ) {at line a l : ℕ} {is : List Item} (x : TokenValue) → Run s at line is a l
     → at ≤ length s
-    → a + 1 ≡ length s → symbol (get_or s a 0) ≡ O.Some x
+    → a + 1 ≡ length s → symbol (get_or s a 0) ≡ Some x
     → Run (s ++ v) at line (is ++ (Item.plain (token x l a) ∷ [])) (length s) l
 run-symbol s v {a = a} {l = l} x r h k e =
     let n = length-append s v in
@@ -130,7 +129,7 @@ module _ (pre f post : List ℕ) {line l₁ l₂ last : ℕ} {A C : List Item} {
   module _ (new : List ℕ) {n' : List ℕ} (begins' : new ≡ b ∷ n') (down first : ℕ) {a l : ℕ} {N : List Item}
       (x : TokenValue)
       (line-there : l₁ ≡ down + first) (new-run : Run new 0 first N a l) (one : a + 1 ≡ length new)
-      (symbol-last : symbol (get_or new a 0) ≡ O.Some x) where
+      (symbol-last : symbol (get_or new a 0) ≡ Some x) where
     -- pre reads as in the old text
     pub pre_kept : Run (pre ++ (new ++ post)) 0 line A (length pre) l₁
     pre_kept =

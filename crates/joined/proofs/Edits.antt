@@ -1,4 +1,5 @@
 -- One function replaced: the edited text's pieces, its tokens, and that it lexes.
+use Rattle.std.specs.Prelude.{Some}
 use Prim.Native.Nat.{ℕ, ◌+◌, ◌≤◌, ◌<◌}
 use mathlib.Core.Path.{◌≡◌, refl, sym, ap, ◌∙◌}
 use mathlib.Core.List.{List, [], ◌∷◌, ◌++◌, append-nil, append_assoc}
@@ -12,7 +13,6 @@ use Rattle.pieces.specs.Tokens.{symbol, kind_of, carried}
 use Rattle.pieces.specs.Pieces.{token}
 use Rattle.pieces.specs.declared.Token.{Token}
 use Rattle.pieces.specs.declared.TokenValue.TheVariants as X
-use Rattle.pieces.specs.declared.OptionValue.TheVariants as O
 use Rattle.lexer.specs.Numbered.{Part, spellings, tokens_cells}
 use Rattle.lexer.specs.Decoded.{Tok, tok, is_name, tokens_of}
 use Rattle.lexer.proofs.Cells.{tok_of}
@@ -36,7 +36,7 @@ use Rattle.joined.proofs.Names.{renamed-apart}
 use Rattle.joined.specs.Names.{move_of, still}
 use Rattle.joined.proofs.Places.{CutAt, cut_at, run-behind, both_at, no_item}
 
-pub brace-symbol : (b : ℕ) → b ≡ 125 → symbol b ≡ O.Some X.RightBrace
+pub brace-symbol : (b : ℕ) → b ≡ 125 → symbol b ≡ Some X.RightBrace
 unfolding symbol pick
 brace-symbol b e = rw e
 
@@ -47,7 +47,7 @@ pub record Braced (s : List ℕ) (line : ℕ) : Type 0 where
   pub here : ℕ
   pub run : Run s 0 line front place here
   pub one : place + 1 ≡ length s
-  pub brace : symbol (get_or s place 0) ≡ O.Some X.RightBrace
+  pub brace : symbol (get_or s place 0) ≡ Some X.RightBrace
 
 pub braced : {s : List ℕ} {line : ℕ} {ts : List Token} {ns : List Part} → Lexes s line ts ns → (i : ℕ)
     → BraceIn s ts i (length s) → Braced s line

@@ -1,5 +1,6 @@
 -- Front: a piece of `s ++ u` that ends in s is the piece of `s ++ u'`, where u' is nothing or begins as u does.
 -- Each scan that stops in s has met there what stops it, or looks at one byte behind s.
+use Rattle.std.specs.Prelude.{Option, Some, None, Result, Ok}
 use Prim.Native.Nat.{ℕ, suc, ◌+◌, ◌-◌, ◌*◌, ◌≤◌, ◌<◌}
 use mathlib.Core.Path.{◌≡◌, refl, sym, ap, ◌∙◌}
 use mathlib.Core.Bool.{Bool, true, false}
@@ -17,16 +18,14 @@ use Rattle.pieces.specs.Pieces.{cursor, token, number, line_end, closes, star_af
 use Rattle.pieces.specs.Pieces.{name_end, name_end_at}
 use Rattle.pieces.specs.Pieces.{on_comment, slash_at, digit_at, minus_at, name_at, sigil_at, then_value, word_at, number_at}
 use Rattle.pieces.specs.Pieces.{symbol_at, token_from, piece_at}
-use Rattle.pieces.specs.declared.Comment.{Comment}
-use Rattle.pieces.specs.declared.Comment.TheVariants as C
 use Rattle.pieces.specs.declared.Number.{Number}
-use Rattle.pieces.specs.declared.OptionValue.{OptionValue}
-use Rattle.pieces.specs.declared.OptionValue.TheVariants as O
 use Rattle.pieces.specs.declared.Lexed.{Lexed}
 use Rattle.pieces.specs.declared.Lexed.TheVariants as L
 use Rattle.pieces.proofs.Progress.{pick_either, left-from, line_end-from, name_end-from, digits-end-from, ClosedIn}
 use Rattle.pieces.proofs.Progress.{comment_end_in}
 use Rattle.joined.specs.Runs.{EndsBy, Begins}
+use Rattle.pieces.specs.declared.TokenValue.{TokenValue}
+use Rattle.pieces.specs.declared.Refusal.{Refusal}
 
 -- Two choices by one test, under what is known of one of them.
 pub pick-front : {A : Type 0} (P : A → Type 0) (t : Bool) {a b a' b' : A} → (t ≡ true → P a → a' ≡ a)
@@ -46,13 +45,13 @@ unfolding is_digit digits_from pick
 taken_digit [] k a e = absurd (let z : ◌≡◌ {A = ℕ} 0 1 = cc in omega arith)
 taken_digit (b ∷ v) k a e = rw e (omega (arith, digits-end-from v (k + 1) (a * 10 + (b - 48))))
 
-abbrev ClosedBy : ℕ → Comment → Type 0
-ClosedBy n (C.Closed end) = end ≤ n
-ClosedBy n C.Open = ⊥
+abbrev ClosedBy : ℕ → Option ℕ → Type 0
+ClosedBy n (Some end) = end ≤ n
+ClosedBy n None = ⊥
 
-never_closed : (n : ℕ) (c : Comment) (to : ℕ) → ClosedIn n to c → ClosedBy n c → ⊥
-never_closed n (C.Closed end) to p q = omega arith
-never_closed n C.Open to p q = q
+never_closed : (n : ℕ) (c : Option ℕ) (to : ℕ) → ClosedIn n to c → ClosedBy n c → ⊥
+never_closed n (Some end) to p q = omega arith
+never_closed n None to p q = q
 
 -- The scans, over x with u or u' behind it. ------------------------------------------------------------------------
 
@@ -214,11 +213,11 @@ module _ (s : List ℕ) {u u' : List ℕ} (g : Begins u u') (at line : ℕ) (h :
       let e' = take-append-le (name_end_at (s ++ u) at) s u' n in
       rw (name_end_at-front n, e, e')
     where
-      ends : (v : OptionValue)
-          → EndsBy (length s) (then_value v (λ v. L.Token (token v line at) (cursor (name_end_at (s ++ u) at) line))
+      ends : (v : Option TokenValue)
+          → EndsBy (length s) (then_value v (λ v. Ok (L.Token (token v line at) (cursor (name_end_at (s ++ u) at) line)))
           (name_at 1 (s ++ u) at line)) → name_end_at (s ++ u) at ≤ length s
-      ends (O.Some v) k = k
-      ends O.None k = k
+      ends (Some v) k = k
+      ends None k = k
 
   symbol-front : symbol_at (s ++ u') at line ≡ symbol_at (s ++ u) at line
   unfolding symbol_at
@@ -228,17 +227,17 @@ module _ (s : List ℕ) {u u' : List ℕ} (g : Begins u u') (at line : ℕ) (h :
   unfolding slash_at
   slash_front = by (ltb (at + 1) (length s)) refl
     where
-      closed : (c : Comment) → EndsBy (length s) (on_comment at line c) → ClosedBy (length s) c
-      closed (C.Closed end) k = k
-      closed C.Open k = k
+      closed : (c : Option ℕ) → EndsBy (length s) (on_comment at line c) → ClosedBy (length s) c
+      closed (Some end) k = k
+      closed None k = k
 
       two : (v : List ℕ) → at + 1 < length s → drop (at + 2) (s ++ v) ≡ drop (at + 2) s ++ v
       two v m = drop-append-le (at + 2) s v (omega arith)
 
-      late : length s ≤ at + 1 → (c : Comment) → ClosedIn (at + 2) (at + 2 + length (drop (at + 2) (s ++ u))) c
+      late : length s ≤ at + 1 → (c : Option ℕ) → ClosedIn (at + 2) (at + 2 + length (drop (at + 2) (s ++ u))) c
           → ClosedBy (length s) c → ⊥
-      late m (C.Closed end) p q = omega arith
-      late m C.Open p q = q
+      late m (Some end) p q = omega arith
+      late m None p q = q
 
       by : (t : Bool) → ltb (at + 1) (length s) ≡ t
           → EndsBy (length s) (slash_at (s ++ u) at line) → slash_at (s ++ u') at line ≡ slash_at (s ++ u) at line
@@ -250,7 +249,7 @@ module _ (s : List ℕ) {u u' : List ℕ} (g : Begins u u') (at line : ℕ) (h :
           get_or-append s u' 0 (at + 1) m ∙ sym (get_or-append s u 0 (at + 1) m) in
           rw second
           (pick-front (EndsBy (length s)) (eqb (get_or (s ++ u) (at + 1) 0) 47)
-          (λ _ n. rw (two u m, two u' m) (ap (λ (z : ℕ). L.Skipped (cursor z line))
+          (λ _ n. rw (two u m, two u' m) (ap (λ (z : ℕ). Ok (L.Skipped (cursor z line)))
           (line_end-front g x (at + 2) (omega (arith, rw (two u m) at n)))))
           (λ _. pick-front (EndsBy (length s)) (eqb (get_or (s ++ u) (at + 1) 0) 42)
           (λ _ n. rw (two u m, two u' m) (ap (on_comment at line)
@@ -259,7 +258,7 @@ module _ (s : List ℕ) {u u' : List ℕ} (g : Begins u u') (at line : ℕ) (h :
       by false e k =
           let m : length s ≤ at + 1 = ltb-false _ _ e in
           let y = drop (at + 2) (s ++ u) in
-          let P : Lexed → Type 0 = λ l. EndsBy (length s) l → ⊥ in
+          let P : Result Lexed Refusal → Type 0 = λ l. EndsBy (length s) l → ⊥ in
           absurd (pick_either P (eqb (get_or (s ++ u) (at + 1) 0) 47) _ _
           (λ _ n. omega (arith, line_end-from y (at + 2)))
           (λ _. pick_either P (eqb (get_or (s ++ u) (at + 1) 0) 42) _ _
@@ -295,6 +294,6 @@ module _ (s : List ℕ) {u u' : List ℕ} (g : Begins u u') (at line : ℕ) (h :
       pick-front P (eqb b 10) (λ _ _. refl) (λ _.
       pick-front P (is_blank b) (λ _ _. refl) (λ _.
       pick-front P (eqb b 35)
-      (λ _ n. rw (left-front u, left-front u') (ap (λ (z : ℕ). L.Skipped (cursor z line))
+      (λ _ n. rw (left-front u, left-front u') (ap (λ (z : ℕ). Ok (L.Skipped (cursor z line)))
       (line_end-front g (drop (at + 1) s) (at + 1) (omega (arith, rw (left-front u) at n))))) (λ _.
       pick-front P (eqb b 47) (λ _. slash_front) (λ _. token-front))))) (rw (byte_front u, over-front u) at k))

@@ -1,5 +1,6 @@
 -- Limits: a text whose pieces come to its end, with short names, is accepted unless it has too many bytes, tokens or
 -- names. So the edited text is.
+use Rattle.std.specs.Prelude.{Option, Some, None, Result, Ok, Err}
 use Prim.Native.Nat.{ℕ, suc, ◌+◌, ◌≤◌}
 use mathlib.Core.Path.{◌≡◌, refl, ap, ◌∙◌}
 use mathlib.Core.Logic.{inl, inr, ⊎_elim}
@@ -19,8 +20,6 @@ use Rattle.pieces.specs.declared.Name.{Name}
 use Rattle.lexer.specs.Numbered.{Part, part, spellings, spelling_of, index_of, on_found, identified, named, Outcome}
 use Rattle.lexer.specs.Numbered.{then_identified, then_room, numbered_from, numbered}
 use Rattle.lexer.specs.Read.{lexed_from, reading_of}
-use Rattle.lexer.specs.declared.Found.{Found}
-use Rattle.lexer.specs.declared.Found.TheVariants as F
 use Rattle.lexer.specs.declared.Identified.{Identified}
 use Rattle.lexer.specs.declared.Identified.TheVariants as I
 use Rattle.pieces.proofs.Progress.{pick_either}
@@ -31,6 +30,8 @@ use Rattle.joined.specs.Edits.{Edit}
 use Rattle.joined.proofs.Runs.{pieces-of-run}
 use Rattle.joined.proofs.Parts.{run-first, pieces-at-end}
 use Rattle.joined.proofs.Edits.{Known, known, tail, edited_items, old_items}
+use Rattle.pieces.specs.declared.Refusal.{Refusal}
+use Rattle.pieces.specs.declared.Identifier.{Identifier}
 
 -- Short names. -----------------------------------------------------------------------------------------------------
 
@@ -66,18 +67,18 @@ short_unmoved on down (Item.plain t ∷ is) h = (tt, short_unmoved on down is h.
 
 -- Numbering. -------------------------------------------------------------------------------------------------------
 
-abbrev Numbered : Identified → Type 0
-Numbered (I.Known i) = Unit
-Numbered (I.New i) = Unit
-Numbered (I.Refused r) = (facts_of r).number ≡ 33
+abbrev Numbered : Result Identified Refusal → Type 0
+Numbered (Ok (I.Known i)) = Unit
+Numbered (Ok (I.New i)) = Unit
+Numbered (Err r) = (facts_of r).number ≡ 33
 
 identified-short : (s : List ℕ) (ns : List Part) (n : Name) → n.len ≤ 64 → Numbered (identified s ns n)
 unfolding identified pick
 identified-short s ns n h = rw (le-ltb 64 n.len h) (found (index_of (spelling_of s n) (spellings s ns) 0))
   where
-    found : (f : Found) → Numbered (on_found (length ns) n f)
-    found (F.At i) = tt
-    found F.Nothing = pick_either Numbered (ltb (length ns) 1024) _ _ (λ _. tt) (λ _. refl)
+    found : (f : Option Identifier) → Numbered (on_found (length ns) n f)
+    found (Some i) = tt
+    found None = pick_either Numbered (ltb (length ns) 1024) _ _ (λ _. tt) (λ _. refl)
 
 room-counted : (ts : List Token) (t : Token) (more : Outcome) → Counted more → Counted (then_room ts t more)
 unfolding then_room
@@ -93,13 +94,13 @@ numbered-counted s ts ns (Item.spelled n ∷ is) c h =
     on (λ us ms. numbered-counted s us ms is c h.1) (identified s ns n) (identified-short s ns n h.0)
   where
     on : ((us : List Token) (ms : List Part) → Counted (numbered_from s us ms (before is (Pieces.end c))))
-        → (i : Identified) → Numbered i
+        → (i : Result Identified Refusal) → Numbered i
         → Counted (then_identified ns n i (λ i ms. then_room ts (named n i)
         (numbered_from s (ts ++ (named n i ∷ [])) ms (before is (Pieces.end c)))))
-    on later (I.Known i) f = room-counted ts (named n i) _ (later (ts ++ (named n i ∷ [])) ns)
-    on later (I.New i) f =
+    on later (Ok (I.Known i)) f = room-counted ts (named n i) _ (later (ts ++ (named n i ∷ [])) ns)
+    on later (Ok (I.New i)) f =
         room-counted ts (named n i) _ (later (ts ++ (named n i ∷ [])) (ns ++ (part n.place n.len ∷ [])))
-    on later (I.Refused r) f = inr f
+    on later (Err r) f = inr f
 
 -- Bytes. -----------------------------------------------------------------------------------------------------------
 

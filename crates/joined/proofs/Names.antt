@@ -1,4 +1,5 @@
 -- Names: a table's names are distinct, and a renaming by spelling keeps them apart.
+use Rattle.std.specs.Prelude.{Option, Some, None}
 use Prim.Native.Nat.{ℕ, zero, suc, ◌+◌, ◌≤◌, ◌<◌}
 use mathlib.Core.Path.{◌≡◌, refl, sym, ap, ◌∙◌}
 use mathlib.Core.Bool.{Bool, true, false}
@@ -10,8 +11,6 @@ use lib.ListN.{length, get_or, length-append}
 use Rattle.pieces.specs.declared.Token.{Token}
 use Rattle.lexer.specs.Numbered.{Part, spellings, index_of}
 use Rattle.lexer.specs.Sound.{Pairs, Differ, no_part, spelling}
-use Rattle.lexer.specs.declared.Found.{Found}
-use Rattle.lexer.specs.declared.Found.TheVariants as F
 use Rattle.lexer.proofs.Same.{length-spellings, spelling-at, FoundIn, index_of-found}
 use lib.ListN.{get_or-append}
 use lib.Seq.{slice, get_or_at, take-append-le}
@@ -20,6 +19,7 @@ use Rattle.lexer.specs.Numbered.{spelling_of, named}
 use Rattle.joined.specs.Runs.{Item, move_items}
 use Rattle.joined.specs.Names.{Both, Stands, Distinct, found_or, renamed, words_of, with_word, entered, In, AllIn}
 use Rattle.joined.specs.Names.{AllInside}
+use Rattle.pieces.specs.declared.Identifier.{Identifier}
 
 pub names-distinct : (s : List ℕ) (ns : List Part) → Pairs no_part (Differ s) ns → Distinct (spellings s ns)
 names-distinct s ns d i j h k e = by (ltb i j) refl (ltb j i) refl
@@ -42,23 +42,23 @@ module _ (ws ws' : List (List ℕ)) where
   pub renamed-is : Distinct ws → (x k : ℕ) → k < length ws → get_or ws k [] ≡ get_or ws' x [] → renamed ws ws' x ≡ k
   renamed-is d x k h e = by (index_of (get_or ws' x []) ws 0) (index_of-found (get_or ws' x []) ws 0)
     where
-      by : (f : Found) → FoundIn (get_or ws' x []) ws 0 f → found_or (length ws + x) f ≡ k
-      by (F.At i) p =
+      by : (f : Option Identifier) → FoundIn (get_or ws' x []) ws 0 f → found_or (length ws + x) f ≡ k
+      by (Some i) p =
           let q : p.0 ≡ k = d p.0 k p.2 h (p.3 ∙ sym e) in
           omega (arith, p.1)
-      by F.Nothing p = absurd (p k h e)
+      by None p = absurd (p k h e)
 
   -- and is spelled there as here
   pub renamed-spelled : (x : ℕ) → In ws (get_or ws' x [])
       → (renamed ws ws' x < length ws) × (get_or ws (renamed ws ws' x) [] ≡ get_or ws' x [])
   renamed-spelled x h = by (index_of (get_or ws' x []) ws 0) (index_of-found (get_or ws' x []) ws 0)
     where
-      by : (f : Found) → FoundIn (get_or ws' x []) ws 0 f
+      by : (f : Option Identifier) → FoundIn (get_or ws' x []) ws 0 f
           → (found_or (length ws + x) f < length ws) × (get_or ws (found_or (length ws + x) f) [] ≡ get_or ws' x [])
-      by (F.At i) p =
+      by (Some i) p =
           let e : i.0 ≡ p.0 = omega (arith, p.1) in
           (omega (arith, p.1, p.2), ap (λ (n : ℕ). get_or ws n []) e ∙ p.3)
-      by F.Nothing p = absurd (p h.0 h.1 h.2)
+      by None p = absurd (p h.0 h.1 h.2)
 
   -- no two names get one number
   pub renamed-apart : Distinct ws' → (x y : ℕ) → x < length ws' → y < length ws' → renamed ws ws' x ≡ renamed ws ws' y
@@ -67,14 +67,15 @@ module _ (ws ws' : List (List ℕ)) where
       by (index_of (get_or ws' x []) ws 0) (index_of-found (get_or ws' x []) ws 0)
       (index_of (get_or ws' y []) ws 0) (index_of-found (get_or ws' y []) ws 0) e
     where
-      by : (f : Found) → FoundIn (get_or ws' x []) ws 0 f → (g : Found) → FoundIn (get_or ws' y []) ws 0 g
+      by : (f : Option Identifier) → FoundIn (get_or ws' x []) ws 0 f → (g : Option Identifier)
+          → FoundIn (get_or ws' y []) ws 0 g
           → found_or (length ws + x) f ≡ found_or (length ws + y) g → x ≡ y
-      by (F.At i) p (F.At j) q e =
+      by (Some i) p (Some j) q e =
           let z : p.0 ≡ q.0 = omega (arith, p.1, q.1) in
           d x y h k (sym p.3 ∙ ap (λ (n : ℕ). get_or ws n []) z ∙ q.3)
-      by (F.At i) p F.Nothing q e = absurd (omega (arith, p.1, p.2))
-      by F.Nothing p (F.At j) q e = absurd (omega (arith, q.1, q.2))
-      by F.Nothing p F.Nothing q e = omega arith
+      by (Some i) p None q e = absurd (omega (arith, p.1, p.2))
+      by None p (Some j) q e = absurd (omega (arith, q.1, q.2))
+      by None p None q e = omega arith
 
 -- Lists element by element: how long they are, and in two parts.
 pub both-length : {A B : Type 0} {R : A → B → Type 0} {xs : List A} {ys : List B} → Both R xs ys → length xs ≡ length ys
@@ -137,9 +138,9 @@ pub record Grown (ws us : List (List ℕ)) : Type 0 where
   pub new : List (List ℕ)
   pub whole : us ≡ ws ++ new
 
-grown_with : (ws : List (List ℕ)) (w : List ℕ) (f : Found) → Grown ws (with_word ws w f)
-grown_with ws w (F.At i) = record { new = []; whole = sym (append-nil ws) }
-grown_with ws w F.Nothing = record { new = w ∷ []; whole = refl }
+grown_with : (ws : List (List ℕ)) (w : List ℕ) (f : Option Identifier) → Grown ws (with_word ws w f)
+grown_with ws w (Some i) = record { new = []; whole = sym (append-nil ws) }
+grown_with ws w None = record { new = w ∷ []; whole = refl }
 
 grown_twice : {ws us vs : List (List ℕ)} → Grown ws us → Grown us vs → Grown ws vs
 grown_twice {ws} g h =
@@ -161,9 +162,9 @@ in_grown {ws} {us} w g h = (
 in_with : (ws : List (List ℕ)) (w : List ℕ) → In (with_word ws w (index_of w ws 0)) w
 in_with ws w = by (index_of w ws 0) (index_of-found w ws 0)
   where
-    by : (f : Found) → FoundIn w ws 0 f → In (with_word ws w f) w
-    by (F.At i) p = (p.0, p.2, p.3)
-    by F.Nothing p = (length ws, omega (arith, length-append ws (w ∷ [])), get_or_at ws w [] [] (length ws) refl)
+    by : (f : Option Identifier) → FoundIn w ws 0 f → In (with_word ws w f) w
+    by (Some i) p = (p.0, p.2, p.3)
+    by None p = (length ws, omega (arith, length-append ws (w ∷ [])), get_or_at ws w [] [] (length ws) refl)
 
 -- every word that was entered is there
 pub entered_all : (ws a : List (List ℕ)) → AllIn (entered ws a) a
@@ -184,9 +185,9 @@ unfolding entered
 entered_only U ws [] f h = f
 entered_only U ws (w ∷ a) f h = entered_only U (with_word ws w (index_of w ws 0)) a (one (index_of w ws 0)) h.1
   where
-    one : (x : Found) (k : ℕ) → k < length (with_word ws w x) → In U (get_or (with_word ws w x) k [])
-    one (F.At i) k m = f k m
-    one F.Nothing k m = by (ltb k (length ws)) refl
+    one : (x : Option Identifier) (k : ℕ) → k < length (with_word ws w x) → In U (get_or (with_word ws w x) k [])
+    one (Some i) k m = f k m
+    one None k m = by (ltb k (length ws)) refl
       where
         by : (t : Bool) → ltb k (length ws) ≡ t → In U (get_or (ws ++ (w ∷ [])) k [])
         by true e =
@@ -283,8 +284,8 @@ module _ {us ws : List (List ℕ)} (w : List ℕ) (c : Chosen us ws) where
   without_it n v zero h e g = absurd (n g.0 g.1 (g.2 ∙ sym e))
   without_it n v (suc k) h e g = c.all v (k, omega arith, e) g
 
-  choose : (f : Found) → FoundIn w us 0 f → Chosen us (w ∷ ws)
-  choose (F.At i) p =
+  choose : (f : Option Identifier) → FoundIn w us 0 f → Chosen us (w ∷ ws)
+  choose (Some i) p =
       record {
         words = w ∷ c.words;
         few = omega (arith, c.few);
@@ -294,7 +295,7 @@ module _ {us ws : List (List ℕ)} (w : List ℕ) (c : Chosen us ws) where
         all = λ v h g. with_it v h.0 h.1 h.2 g;
         distinct = λ d. distinct_more w c.words (first-only d) (c.distinct (distinct-rest w ws d));
       }
-  choose F.Nothing p =
+  choose None p =
       record {
         words = c.words;
         few = omega (arith, c.few);

@@ -1,4 +1,5 @@
 -- Numbering the items of a text: each token stands for its item by the table that numbering ends with.
+use Rattle.std.specs.Prelude.{Option, Some, None, Result, Ok, Err}
 use Prim.Native.Nat.{ℕ, ◌≤◌, ◌<◌}
 use mathlib.Core.Path.{◌≡◌, refl, sym, ap, ◌∙◌}
 use mathlib.Core.List.{List, [], ◌∷◌, ◌++◌, append-nil, append_assoc}
@@ -13,8 +14,6 @@ use Rattle.pieces.specs.declared.Name.{Name}
 use Rattle.lexer.specs.Numbered.{Part, part, spellings, spelling_of, index_of, identified, named, Outcome, then_identified}
 use Rattle.lexer.specs.Numbered.{then_room, numbered_from}
 use Rattle.lexer.specs.Sound.{Each, no_part, spelling}
-use Rattle.lexer.specs.declared.Found.{Found}
-use Rattle.lexer.specs.declared.Found.TheVariants as F
 use Rattle.lexer.specs.declared.Identified.{Identified}
 use Rattle.lexer.specs.declared.Identified.TheVariants as I
 use Rattle.pieces.proofs.Progress.{pick_either}
@@ -22,6 +21,8 @@ use Rattle.lexer.proofs.Same.{length-spellings, spelling-at, FoundIn, index_of-f
 use Rattle.lexer.proofs.Sound.{Fits, identified-fits}
 use Rattle.joined.specs.Runs.{Item, before}
 use Rattle.joined.specs.Names.{Both, Numbers, words_of, with_word, entered, In}
+use Rattle.pieces.specs.declared.Refusal.{Refusal}
+use Rattle.pieces.specs.declared.Identifier.{Identifier}
 
 -- There was room, if it came to an end.
 room-done : (ts : List Token) (t : Token) (more : Outcome) (ts' : List Token) (ns' : List Part)
@@ -45,16 +46,16 @@ table_at s ns new k h =
 pub with_known : (ws : List (List ℕ)) (w : List ℕ) → In ws w → with_word ws w (index_of w ws 0) ≡ ws
 with_known ws w h = by (index_of w ws 0) (index_of-found w ws 0)
   where
-    by : (f : Found) → FoundIn w ws 0 f → with_word ws w f ≡ ws
-    by (F.At i) p = refl
-    by F.Nothing p = absurd (p h.0 h.1 h.2)
+    by : (f : Option Identifier) → FoundIn w ws 0 f → with_word ws w f ≡ ws
+    by (Some i) p = refl
+    by None p = absurd (p h.0 h.1 h.2)
 
 pub with_new : (ws : List (List ℕ)) (w : List ℕ) → (In ws w → ⊥) → with_word ws w (index_of w ws 0) ≡ ws ++ (w ∷ [])
 with_new ws w h = by (index_of w ws 0) (index_of-found w ws 0)
   where
-    by : (f : Found) → FoundIn w ws 0 f → with_word ws w f ≡ ws ++ (w ∷ [])
-    by (F.At i) p = absurd (h (p.0, p.2, p.3))
-    by F.Nothing p = refl
+    by : (f : Option Identifier) → FoundIn w ws 0 f → with_word ws w f ≡ ws ++ (w ∷ [])
+    by (Some i) p = absurd (h (p.0, p.2, p.3))
+    by None p = refl
 
 pub spellings_snoc : (s : List ℕ) (ns : List Part) (p : Part) → spellings s (ns ++ (p ∷ [])) ≡ spellings s ns ++
     (spelling s p ∷ [])
@@ -140,16 +141,16 @@ numbers_of_lem s ts ns (Pieces.spelled n rest) ts' ns' e =
   where
     on : ((us : List Token) (ms : List Part) → numbered_from s us ms rest ≡ Outcome.done ts' ns'
         → Numbers s us ms rest ts' ns')
-        → (i : Identified) → Fits s ns n i
+        → (i : Result Identified Refusal) → Fits s ns n i
         → then_identified ns n i (λ i ms. then_room ts (named n i) (numbered_from s (ts ++ (named n i ∷ [])) ms rest))
         ≡ Outcome.done ts' ns' → Numbers s ts ns (Pieces.spelled n rest) ts' ns'
-    on later (I.Known i) f e =
+    on later (Ok (I.Known i)) f e =
         known_more s n i.0 f.0 f.1 f.2
         (later (ts ++ (named n i ∷ [])) ns (room-done ts (named n i) _ ts' ns' e))
-    on later (I.New i) f e =
+    on later (Ok (I.New i)) f e =
         new-more s n i.0 f.0 f.1 f.3
         (later (ts ++ (named n i ∷ [])) (ns ++ (part n.place n.len ∷ [])) (room-done ts (named n i) _ ts' ns' e))
-    on later (I.Refused r) f e = absurd (let z : ◌≡◌ {A = ℕ} 0 1 = cc in omega arith)
+    on later (Err r) f e = absurd (let z : ◌≡◌ {A = ℕ} 0 1 = cc in omega arith)
 numbers_of_lem s ts ns (Pieces.plain t rest) ts' ns' e =
     plain_more s t (numbers_of_lem s (ts ++ (t ∷ [])) ns rest ts' ns' (room-done ts t _ ts' ns' e))
 numbers_of_lem s ts ns (Pieces.end c) ts' ns' e =

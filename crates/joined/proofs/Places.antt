@@ -1,4 +1,5 @@
 -- Places: an accepted text is cut before each of its tokens, and behind each that is one byte.
+use Rattle.std.specs.Prelude.{Some}
 use Prim.Native.Nat.{ℕ, zero, suc, ◌+◌, ◌<◌}
 use mathlib.Core.Path.{◌≡◌, sym, ap, ◌∙◌}
 use mathlib.Core.List.{List, [], ◌∷◌, ◌++◌}
@@ -11,7 +12,6 @@ use Rattle.pieces.specs.declared.Cursor.{Cursor}
 use Rattle.pieces.specs.declared.Token.{Token}
 use Rattle.pieces.specs.declared.TokenValue.{TokenValue}
 use Rattle.pieces.specs.declared.TokenValue.TheVariants as X
-use Rattle.pieces.specs.declared.OptionValue.TheVariants as O
 use Rattle.lexer.specs.Numbered.{Part, spellings}
 use Rattle.lexer.specs.Sound.{no_token}
 use Rattle.joined.specs.Runs.{Item, place_of, line_of, Run}
@@ -82,7 +82,7 @@ module _ {s : List ℕ} {line : ℕ} {ts : List Token} {ns : List Part} (v : Lex
 -- behind a token of one byte
 pub run-behind : {s : List ℕ} {a l at line : ℕ} {i : Item} {is : List Item} (x : TokenValue) → Run s a l
     (i ∷ is) at line
-    → a < length s → symbol (get_or s a 0) ≡ O.Some x → Run s (a + 1) l is at line
+    → a < length s → symbol (get_or s a 0) ≡ Some x → Run s (a + 1) l is at line
 run-behind {s} {a} {l} x (Run.skip e r) h q =
     let f = symbol_piece s a l x h q in
     absurd (let z : ◌≡◌ {A = ℕ} 0 1 = cc in omega arith)

@@ -1,5 +1,6 @@
 -- Room: words that are told apart are no more than those of a table that has them all, and a text whose pieces come to
 -- its end, within the limits on bytes, tokens and names, is accepted.
+use Rattle.std.specs.Prelude.{Option, Some, None}
 use Prim.Native.Nat.{ℕ, zero, suc, ◌+◌, ◌≤◌, ◌<◌}
 use mathlib.Core.Path.{◌≡◌, refl, sym, ap, ◌∙◌}
 use mathlib.Core.Bool.{Bool, true, false}
@@ -17,8 +18,6 @@ use Rattle.pieces.specs.declared.Token.{Token}
 use Rattle.lexer.specs.Numbered.{Part, part, spellings, spelling_of, index_of, on_found, identified, named, Outcome}
 use Rattle.lexer.specs.Numbered.{then_identified, then_room, numbered_from, numbered}
 use Rattle.lexer.specs.Read.{lexed_from}
-use Rattle.lexer.specs.declared.Found.{Found}
-use Rattle.lexer.specs.declared.Found.TheVariants as F
 use Rattle.lexer.proofs.Same.{length-spellings, FoundIn, index_of-found}
 use Rattle.joined.specs.Runs.{Item, before, Run}
 use Rattle.joined.specs.Names.{words_of, with_word, entered, In, Distinct}
@@ -27,6 +26,7 @@ use Rattle.joined.proofs.Runs.{pieces-of-run}
 use Rattle.joined.proofs.Names.{entered-grown, grown-few, in_more, distinct-rest, distinct_more}
 use Rattle.joined.proofs.Numbering.{spellings_snoc}
 use Rattle.joined.proofs.Parts.{pieces-at-end}
+use Rattle.pieces.specs.declared.Identifier.{Identifier}
 
 -- Words that are told apart. ---------------------------------------------------------------------------------------
 
@@ -88,10 +88,10 @@ distinct_snoc (v ∷ ws) w n d =
             let l : length ws ≡ q.0 = omega (arith, ltb-false q.0 (length ws) e, q.1, length-append ws (w ∷ [])) in
             n (zero, omega arith, sym q.2 ∙ get_or_at ws w [] [] q.0 l)
 
-distinct_with : (ws : List (List ℕ)) (w : List ℕ) (f : Found) → FoundIn w ws 0 f → Distinct ws
+distinct_with : (ws : List (List ℕ)) (w : List ℕ) (f : Option Identifier) → FoundIn w ws 0 f → Distinct ws
     → Distinct (with_word ws w f)
-distinct_with ws w (F.At i) p d = d
-distinct_with ws w F.Nothing p d = distinct_snoc ws w (λ q. p q.0 q.1 q.2) d
+distinct_with ws w (Some i) p d = d
+distinct_with ws w None p d = distinct_snoc ws w (λ q. p q.0 q.1 q.2) d
 
 -- words that are entered are told apart
 pub entered-distinct : (ws a : List (List ℕ)) → Distinct ws → Distinct (entered ws a)
@@ -131,12 +131,12 @@ numbered-done s ts ns (Item.spelled x ∷ is) c h l n =
     (index_of (spelling_of s x) (spellings s ns) 0) n)
   where
     by : ((t : Token) (ms : List Part) → length (entered (spellings s ms) (words_of s is)) ≤ 1024
-        → IsDone (numbered_from s (ts ++ (t ∷ [])) ms (before is (Pieces.end c)))) → (f : Found)
+        → IsDone (numbered_from s (ts ++ (t ∷ [])) ms (before is (Pieces.end c)))) → (f : Option Identifier)
         → length (entered (with_word (spellings s ns) (spelling_of s x) f) (words_of s is)) ≤ 1024
         → IsDone (then_identified ns x (on_found (length ns) x f) (λ i ms. then_room ts (named x i)
         (numbered_from s (ts ++ (named x i ∷ [])) ms (before is (Pieces.end c)))))
-    by later (F.At i) m = room_is ts (named x i) _ (omega arith) (later (named x i) ns m)
-    by later F.Nothing m =
+    by later (Some i) m = room_is ts (named x i) _ (omega arith) (later (named x i) ns m)
+    by later None m =
         let ws = spellings s ns ++ (spelling_of s x ∷ []) in
         let few : length ns < 1024 =
         omega (

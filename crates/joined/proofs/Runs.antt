@@ -1,5 +1,6 @@
 -- Runs of pieces: they can be joined, split before a name or a token, moved behind another text and back, and read with
 -- something else behind them. From the pieces of a text to its run, and back.
+use Rattle.std.specs.Prelude.{Result, Ok, Err}
 use Prim.Native.Nat.{ℕ, zero, suc, ◌+◌, ◌≤◌, ◌<◌}
 use mathlib.Core.Path.{◌≡◌, refl, sym, ap, ◌∙◌}
 use mathlib.Core.List.{List, [], ◌∷◌, ◌++◌}
@@ -16,9 +17,11 @@ use Rattle.joined.specs.Moves.{move_cursor, move_token, move_name, move_piece}
 use Rattle.joined.specs.Runs.{EndsBy, Begins, Item, before, place_of, line_of, move_items, Run}
 use Rattle.joined.proofs.Shift.{piece_shift}
 use Rattle.joined.proofs.Front.{piece_front}
+use Rattle.pieces.specs.declared.Refusal.{Refusal}
 
 -- what a piece has passed, where it is known
-pub past_of : (s : List ℕ) (at line : ℕ) (l : Lexed) → piece_at s at line ≡ l → at ≤ length s → Past (length s) at line l
+pub past_of : (s : List ℕ) (at line : ℕ) (l : Result Lexed Refusal) → piece_at s at line ≡ l → at ≤ length s
+    → Past (length s) at line l
 past_of s at line l e h = rw e at (piece_past s at line h)
 
 -- A run goes on and stays in the text.
@@ -26,13 +29,13 @@ pub run_range : {s : List ℕ} {at line at' line' : ℕ} {is : List Item} → Ru
     → (at ≤ at') × (at' ≤ length s)
 run_range Run.stop h = omega arith
 run_range {s} {at} {line} (Run.skip {a = a} {l = l} e r) h =
-    let p = past_of s at line (L.Skipped (cursor a l)) e h in
+    let p = past_of s at line (Ok (L.Skipped (cursor a l))) e h in
     omega (arith, run_range r p.within, p.on)
 run_range {s} {at} {line} (Run.spelled {a = a} {l = l} {n = n} e r) h =
-    let p = past_of s at line (L.Name n (cursor a l)) e h in
+    let p = past_of s at line (Ok (L.Name n (cursor a l))) e h in
     omega (arith, run_range r p.within, p.on)
 run_range {s} {at} {line} (Run.plain {a = a} {l = l} {t = t} e r) h =
-    let p = past_of s at line (L.Token t (cursor a l)) e h in
+    let p = past_of s at line (Ok (L.Token t (cursor a l))) e h in
     omega (arith, run_range r p.within, p.on)
 
 pub run_join : {s : List ℕ} {at line at' line' at'' line'' : ℕ} {is js : List Item} → Run s at line is at' line'
@@ -57,7 +60,7 @@ run_shift p down {s} {at} {line} (Run.plain e r) =
 
 -- With something else behind it.
 module _ (s : List ℕ) {u u' : List ℕ} (g : Begins u u') where
-  front : (at line : ℕ) (l : Lexed) → piece_at (s ++ u) at line ≡ l → EndsBy (length s) l → at < length s
+  front : (at line : ℕ) (l : Result Lexed Refusal) → piece_at (s ++ u) at line ≡ l → EndsBy (length s) l → at < length s
       → piece_at (s ++ u') at line ≡ l
   front at line l e k h = piece_front s g at line h (rw e k) ∙ e
 
@@ -65,20 +68,20 @@ module _ (s : List ℕ) {u u' : List ℕ} (g : Begins u u') where
       → at' ≤ length s → Run (s ++ u') at line is at' line'
   run-front Run.stop h k = Run.stop
   run-front {at} {line} (Run.skip {a = a} {l = l} e r) h k =
-      let p = past_of (s ++ u) at line (L.Skipped (cursor a l)) e h in
+      let p = past_of (s ++ u) at line (Ok (L.Skipped (cursor a l))) e h in
       let q = run_range r p.within in
       let m : a ≤ length s = omega arith in
-      Run.skip (front at line (L.Skipped (cursor a l)) e m (omega (arith, p.on))) (run-front r p.within k)
+      Run.skip (front at line (Ok (L.Skipped (cursor a l))) e m (omega (arith, p.on))) (run-front r p.within k)
   run-front {at} {line} (Run.spelled {a = a} {l = l} {n = n} e r) h k =
-      let p = past_of (s ++ u) at line (L.Name n (cursor a l)) e h in
+      let p = past_of (s ++ u) at line (Ok (L.Name n (cursor a l))) e h in
       let q = run_range r p.within in
       let m : a ≤ length s = omega arith in
-      Run.spelled (front at line (L.Name n (cursor a l)) e m (omega (arith, p.on))) (run-front r p.within k)
+      Run.spelled (front at line (Ok (L.Name n (cursor a l))) e m (omega (arith, p.on))) (run-front r p.within k)
   run-front {at} {line} (Run.plain {a = a} {l = l} {t = t} e r) h k =
-      let p = past_of (s ++ u) at line (L.Token t (cursor a l)) e h in
+      let p = past_of (s ++ u) at line (Ok (L.Token t (cursor a l))) e h in
       let q = run_range r p.within in
       let m : a ≤ length s = omega arith in
-      Run.plain (front at line (L.Token t (cursor a l)) e m (omega (arith, p.on))) (run-front r p.within k)
+      Run.plain (front at line (Ok (L.Token t (cursor a l))) e m (omega (arith, p.on))) (run-front r p.within k)
 
 -- Runs and pieces. -------------------------------------------------------------------------------------------------
 
@@ -93,15 +96,15 @@ turns_alike (suc n) (suc m) s at line h g k =
   where
     on : ((at' line' : ℕ) → at' ≤ length s → length s < n + at' → length s < m + at'
         → pieces_from n s at' line' ≡ pieces_from m s at' line')
-        → (l : Lexed) → Past (length s) at line l
+        → (l : Result Lexed Refusal) → Past (length s) at line l
         → on_piece (λ c. pieces_from n s c.place c.line) l ≡ on_piece (λ c. pieces_from m s c.place c.line) l
-    on later (L.Skipped c) p = later c.place c.line p.within (omega (arith, p.on)) (omega (arith, p.on))
-    on later (L.Name x c) p =
+    on later (Ok (L.Skipped c)) p = later c.place c.line p.within (omega (arith, p.on)) (omega (arith, p.on))
+    on later (Ok (L.Name x c)) p =
         ap (Pieces.spelled x) (later c.place c.line p.within (omega (arith, p.on)) (omega (arith, p.on)))
-    on later (L.Token t c) p =
+    on later (Ok (L.Token t c)) p =
         ap (Pieces.plain t) (later c.place c.line p.within (omega (arith, p.on)) (omega (arith, p.on)))
-    on later (L.End c) p = refl
-    on later (L.Refused r) p = refl
+    on later (Ok (L.End c)) p = refl
+    on later (Err r) p = refl
 
 -- the pieces from a run's start are its items, then the pieces from its end
 pub pieces-of-run : {s : List ℕ} (n m : ℕ) {at line at' line' : ℕ} {is : List Item} → Run s at line is at' line'
@@ -113,13 +116,13 @@ pieces-of-run zero m (Run.skip e r) h g k = absurd (omega arith)
 pieces-of-run zero m (Run.spelled e r) h g k = absurd (omega arith)
 pieces-of-run zero m (Run.plain e r) h g k = absurd (omega arith)
 pieces-of-run {s} (suc n) m {at} {line} (Run.skip {a = a} {l = l} e r) h g k =
-    let p = past_of s at line (L.Skipped (cursor a l)) e h in
+    let p = past_of s at line (Ok (L.Skipped (cursor a l))) e h in
     rw e (pieces-of-run n m r p.within (omega (arith, p.on)) k)
 pieces-of-run {s} (suc n) m {at} {line} (Run.spelled {a = a} {l = l} {n = x} e r) h g k =
-    let p = past_of s at line (L.Name x (cursor a l)) e h in
+    let p = past_of s at line (Ok (L.Name x (cursor a l))) e h in
     rw e (ap (Pieces.spelled x) (pieces-of-run n m r p.within (omega (arith, p.on)) k))
 pieces-of-run {s} (suc n) m {at} {line} (Run.plain {a = a} {l = l} {t = t} e r) h g k =
-    let p = past_of s at line (L.Token t (cursor a l)) e h in
+    let p = past_of s at line (Ok (L.Token t (cursor a l))) e h in
     rw e (ap (Pieces.plain t) (pieces-of-run n m r p.within (omega (arith, p.on)) k))
 
 -- A run's ends under another name.
@@ -148,34 +151,34 @@ run_of-pieces (suc n) s at line is c h e =
   where
     on : ((at' line' : ℕ) (is' : List Item) → at' ≤ length s → pieces_from n s at' line' ≡ before is' (Pieces.end c)
         → Run s at' line' is' (length s) c.line × (c.place ≡ length s))
-        → (l : Lexed) → piece_at s at line ≡ l → Past (length s) at line l → (is : List Item)
+        → (l : Result Lexed Refusal) → piece_at s at line ≡ l → Past (length s) at line l → (is : List Item)
         → on_piece (λ c. pieces_from n s c.place c.line) l ≡ before is (Pieces.end c)
         → Run s at line is (length s) c.line × (c.place ≡ length s)
-    on later (L.Skipped d) q p is e =
+    on later (Ok (L.Skipped d)) q p is e =
         let z = later d.place d.line is p.within e in
         (Run.skip q z.0, z.1)
-    on later (L.Name x d) q p [] e = absurd (let z : ◌≡◌ {A = ℕ} 0 1 = cc in omega arith)
-    on later (L.Name x d) q p (Item.spelled y ∷ is) e =
+    on later (Ok (L.Name x d)) q p [] e = absurd (let z : ◌≡◌ {A = ℕ} 0 1 = cc in omega arith)
+    on later (Ok (L.Name x d)) q p (Item.spelled y ∷ is) e =
         let f : x ≡ y = cc in
         let z = later d.place d.line is p.within (cc) in
-        (Run.spelled (q ∙ ap (λ (z : Name). L.Name z d) f) z.0, z.1)
-    on later (L.Name x d) q p (Item.plain y ∷ is) e = absurd (let z : ◌≡◌ {A = ℕ} 0 1 = cc in omega arith)
-    on later (L.Token t d) q p [] e = absurd (let z : ◌≡◌ {A = ℕ} 0 1 = cc in omega arith)
-    on later (L.Token t d) q p (Item.spelled y ∷ is) e = absurd (let z : ◌≡◌ {A = ℕ} 0 1 = cc in omega arith)
-    on later (L.Token t d) q p (Item.plain y ∷ is) e =
+        (Run.spelled (q ∙ ap (λ (z : Name). Ok (L.Name z d)) f) z.0, z.1)
+    on later (Ok (L.Name x d)) q p (Item.plain y ∷ is) e = absurd (let z : ◌≡◌ {A = ℕ} 0 1 = cc in omega arith)
+    on later (Ok (L.Token t d)) q p [] e = absurd (let z : ◌≡◌ {A = ℕ} 0 1 = cc in omega arith)
+    on later (Ok (L.Token t d)) q p (Item.spelled y ∷ is) e = absurd (let z : ◌≡◌ {A = ℕ} 0 1 = cc in omega arith)
+    on later (Ok (L.Token t d)) q p (Item.plain y ∷ is) e =
         let f : t ≡ y = cc in
         let z = later d.place d.line is p.within (cc) in
-        (Run.plain (q ∙ ap (λ (z : Token). L.Token z d) f) z.0, z.1)
-    on later (L.End d) q p [] e =
+        (Run.plain (q ∙ ap (λ (z : Token). Ok (L.Token z d)) f) z.0, z.1)
+    on later (Ok (L.End d)) q p [] e =
         let f : d ≡ c = cc in
         let g : at ≡ length s = omega (arith, p.at_end) in
         let l : line ≡ c.line = sym p.same_line ∙ ap (λ (x : Cursor). x.line) f in
         (stop-at g l, sym (ap (λ (x : Cursor). x.place) f) ∙ p.same_place ∙ g)
-    on later (L.End d) q p (Item.spelled y ∷ is) e = absurd (let z : ◌≡◌ {A = ℕ} 0 1 = cc in omega arith)
-    on later (L.End d) q p (Item.plain y ∷ is) e = absurd (let z : ◌≡◌ {A = ℕ} 0 1 = cc in omega arith)
-    on later (L.Refused r) q p [] e = absurd (let z : ◌≡◌ {A = ℕ} 0 1 = cc in omega arith)
-    on later (L.Refused r) q p (Item.spelled y ∷ is) e = absurd (let z : ◌≡◌ {A = ℕ} 0 1 = cc in omega arith)
-    on later (L.Refused r) q p (Item.plain y ∷ is) e = absurd (let z : ◌≡◌ {A = ℕ} 0 1 = cc in omega arith)
+    on later (Ok (L.End d)) q p (Item.spelled y ∷ is) e = absurd (let z : ◌≡◌ {A = ℕ} 0 1 = cc in omega arith)
+    on later (Ok (L.End d)) q p (Item.plain y ∷ is) e = absurd (let z : ◌≡◌ {A = ℕ} 0 1 = cc in omega arith)
+    on later (Err r) q p [] e = absurd (let z : ◌≡◌ {A = ℕ} 0 1 = cc in omega arith)
+    on later (Err r) q p (Item.spelled y ∷ is) e = absurd (let z : ◌≡◌ {A = ℕ} 0 1 = cc in omega arith)
+    on later (Err r) q p (Item.plain y ∷ is) e = absurd (let z : ◌≡◌ {A = ℕ} 0 1 = cc in omega arith)
 
 -- Split before an item, with what is skipped before it in the first part. ------------------------------------------
 
@@ -185,11 +188,11 @@ split_from : {s : List ℕ} {at line at'' line'' : ℕ} {ks : List Item} → Run
 split_from Run.stop h [] i js q = absurd (let z : ◌≡◌ {A = ℕ} 0 1 = cc in omega arith)
 split_from Run.stop h (k ∷ is) i js q = absurd (let z : ◌≡◌ {A = ℕ} 0 1 = cc in omega arith)
 split_from {s} {at} {line} (Run.skip {a = a} {l = l} e r) h is i js q =
-    let p = past_of s at line (L.Skipped (cursor a l)) e h in
+    let p = past_of s at line (Ok (L.Skipped (cursor a l))) e h in
     let z = split_from r p.within is i js q in
     (Run.skip e z.0, z.1)
 split_from {s} {at} {line} (Run.spelled {a = a} {l = l} {n = n} {is = ks} e r) h [] i js q =
-    let p = past_of s at line (L.Name n (cursor a l)) e h in
+    let p = past_of s at line (Ok (L.Name n (cursor a l))) e h in
     let f : Item.spelled n ≡ i = cc in
     let g : ks ≡ js = cc in
     rw (← f, ← g) (
@@ -198,12 +201,12 @@ split_from {s} {at} {line} (Run.spelled {a = a} {l = l} {n = n} {is = ks} e r) h
           (Run.spelled e r),
     )
 split_from {s} {at} {line} (Run.spelled {a = a} {l = l} {n = n} {is = ks} e r) h (k ∷ is) i js q =
-    let p = past_of s at line (L.Name n (cursor a l)) e h in
+    let p = past_of s at line (Ok (L.Name n (cursor a l))) e h in
     let f : Item.spelled n ≡ k = cc in
     let z = split_from r p.within is i js (cc) in
     (rw (← f) (Run.spelled e z.0), z.1)
 split_from {s} {at} {line} (Run.plain {a = a} {l = l} {t = t} {is = ks} e r) h [] i js q =
-    let p = past_of s at line (L.Token t (cursor a l)) e h in
+    let p = past_of s at line (Ok (L.Token t (cursor a l))) e h in
     let f : Item.plain t ≡ i = cc in
     let g : ks ≡ js = cc in
     rw (← f, ← g) (
@@ -212,7 +215,7 @@ split_from {s} {at} {line} (Run.plain {a = a} {l = l} {t = t} {is = ks} e r) h [
           (Run.plain e r),
     )
 split_from {s} {at} {line} (Run.plain {a = a} {l = l} {t = t} {is = ks} e r) h (k ∷ is) i js q =
-    let p = past_of s at line (L.Token t (cursor a l)) e h in
+    let p = past_of s at line (Ok (L.Token t (cursor a l))) e h in
     let f : Item.plain t ≡ k = cc in
     let z = split_from r p.within is i js (cc) in
     (rw (← f) (Run.plain e z.0), z.1)
@@ -235,7 +238,7 @@ pub record Back (p s : List ℕ) (down at line : ℕ) (is : List Item) (a l : �
   pub same_line : l ≡ down + last
 
 module _ (p s : List ℕ) (down : ℕ) {at line a l : ℕ} {is : List Item} {c : Cursor} where
-  back_skipped : piece_at s at line ≡ L.Skipped c → Back p s down c.place c.line is a l
+  back_skipped : piece_at s at line ≡ Ok (L.Skipped c) → Back p s down c.place c.line is a l
       → Back p s down at line is a l
   back_skipped g z =
       record {
@@ -248,7 +251,7 @@ module _ (p s : List ℕ) (down : ℕ) {at line a l : ℕ} {is : List Item} {c :
         same_line = z.same_line;
       }
 
-  back_named : {n n₀ : Name} → n ≡ move_name (length p) down n₀ → piece_at s at line ≡ L.Name n₀ c
+  back_named : {n n₀ : Name} → n ≡ move_name (length p) down n₀ → piece_at s at line ≡ Ok (L.Name n₀ c)
       → Back p s down c.place c.line is a l → Back p s down at line (Item.spelled n ∷ is) a l
   unfolding move_items
   back_named {n₀ = n₀} h g z =
@@ -262,7 +265,7 @@ module _ (p s : List ℕ) (down : ℕ) {at line a l : ℕ} {is : List Item} {c :
         same_line = z.same_line;
       }
 
-  back_plain : {t t₀ : Token} → t ≡ move_token (length p) down t₀ → piece_at s at line ≡ L.Token t₀ c
+  back_plain : {t t₀ : Token} → t ≡ move_token (length p) down t₀ → piece_at s at line ≡ Ok (L.Token t₀ c)
       → Back p s down c.place c.line is a l → Back p s down at line (Item.plain t ∷ is) a l
   unfolding move_items
   back_plain {t₀ = t₀} h g z =
@@ -277,7 +280,8 @@ module _ (p s : List ℕ) (down : ℕ) {at line a l : ℕ} {is : List Item} {c :
       }
 
 module _ (p s : List ℕ) (down : ℕ) where
-  known : (at line : ℕ) {a l : ℕ} {x : Lexed} → a ≡ length p + at → l ≡ down + line → piece_at (p ++ s) a l ≡ x
+  known : (at line : ℕ) {a l : ℕ} {x : Result Lexed Refusal} → a ≡ length p + at → l ≡ down + line
+      → piece_at (p ++ s) a l ≡ x
       → move_piece (length p) down (piece_at s at line) ≡ x
   known at line e f q = sym (piece_shift p s down at line) ∙ rw (← e, ← f) q
 
@@ -290,46 +294,49 @@ module _ (p s : List ℕ) (down : ℕ) where
       on (λ at' line'. back_from r at' line') (piece_at s at line) refl (known at line e f q)
     where
       on : ((at' line' : ℕ) → b ≡ length p + at' → m ≡ down + line' → Back p s down at' line' is a'' l'')
-          → (x : Lexed) → piece_at s at line ≡ x → move_piece (length p) down x ≡ L.Skipped (cursor b m)
+          → (x : Result Lexed Refusal) → piece_at s at line ≡ x
+          → move_piece (length p) down x ≡ Ok (L.Skipped (cursor b m))
           → Back p s down at line is a'' l''
-      on later (L.Skipped c) g w =
+      on later (Ok (L.Skipped c)) g w =
           let k : cursor b m ≡ move_cursor (length p) down c = cc in
           back_skipped p s down g
           (later c.place c.line (ap (λ (d : Cursor). d.place) k) (ap (λ (d : Cursor). d.line) k))
-      on later (L.Name n c) g w = absurd (let z : ◌≡◌ {A = ℕ} 0 1 = cc in omega arith)
-      on later (L.Token t c) g w = absurd (let z : ◌≡◌ {A = ℕ} 0 1 = cc in omega arith)
-      on later (L.End c) g w = absurd (let z : ◌≡◌ {A = ℕ} 0 1 = cc in omega arith)
-      on later (L.Refused c) g w = absurd (let z : ◌≡◌ {A = ℕ} 0 1 = cc in omega arith)
+      on later (Ok (L.Name n c)) g w = absurd (let z : ◌≡◌ {A = ℕ} 0 1 = cc in omega arith)
+      on later (Ok (L.Token t c)) g w = absurd (let z : ◌≡◌ {A = ℕ} 0 1 = cc in omega arith)
+      on later (Ok (L.End c)) g w = absurd (let z : ◌≡◌ {A = ℕ} 0 1 = cc in omega arith)
+      on later (Err c) g w = absurd (let z : ◌≡◌ {A = ℕ} 0 1 = cc in omega arith)
   back_from {a'' = a''} {l'' = l''} (Run.spelled {a = b} {l = m} {n = n} {is = is} q r) at line e f =
       on (λ at' line'. back_from r at' line') (piece_at s at line) refl (known at line e f q)
     where
       on : ((at' line' : ℕ) → b ≡ length p + at' → m ≡ down + line' → Back p s down at' line' is a'' l'')
-          → (x : Lexed) → piece_at s at line ≡ x → move_piece (length p) down x ≡ L.Name n (cursor b m)
+          → (x : Result Lexed Refusal) → piece_at s at line ≡ x
+          → move_piece (length p) down x ≡ Ok (L.Name n (cursor b m))
           → Back p s down at line (Item.spelled n ∷ is) a'' l''
-      on later (L.Skipped c) g w = absurd (let z : ◌≡◌ {A = ℕ} 0 1 = cc in omega arith)
-      on later (L.Name n₀ c) g w =
+      on later (Ok (L.Skipped c)) g w = absurd (let z : ◌≡◌ {A = ℕ} 0 1 = cc in omega arith)
+      on later (Ok (L.Name n₀ c)) g w =
           let k : cursor b m ≡ move_cursor (length p) down c = cc in
           let h : n ≡ move_name (length p) down n₀ = cc in
           back_named p s down h g
           (later c.place c.line (ap (λ (d : Cursor). d.place) k) (ap (λ (d : Cursor). d.line) k))
-      on later (L.Token t c) g w = absurd (let z : ◌≡◌ {A = ℕ} 0 1 = cc in omega arith)
-      on later (L.End c) g w = absurd (let z : ◌≡◌ {A = ℕ} 0 1 = cc in omega arith)
-      on later (L.Refused c) g w = absurd (let z : ◌≡◌ {A = ℕ} 0 1 = cc in omega arith)
+      on later (Ok (L.Token t c)) g w = absurd (let z : ◌≡◌ {A = ℕ} 0 1 = cc in omega arith)
+      on later (Ok (L.End c)) g w = absurd (let z : ◌≡◌ {A = ℕ} 0 1 = cc in omega arith)
+      on later (Err c) g w = absurd (let z : ◌≡◌ {A = ℕ} 0 1 = cc in omega arith)
   back_from {a'' = a''} {l'' = l''} (Run.plain {a = b} {l = m} {t = t} {is = is} q r) at line e f =
       on (λ at' line'. back_from r at' line') (piece_at s at line) refl (known at line e f q)
     where
       on : ((at' line' : ℕ) → b ≡ length p + at' → m ≡ down + line' → Back p s down at' line' is a'' l'')
-          → (x : Lexed) → piece_at s at line ≡ x → move_piece (length p) down x ≡ L.Token t (cursor b m)
+          → (x : Result Lexed Refusal) → piece_at s at line ≡ x
+          → move_piece (length p) down x ≡ Ok (L.Token t (cursor b m))
           → Back p s down at line (Item.plain t ∷ is) a'' l''
-      on later (L.Skipped c) g w = absurd (let z : ◌≡◌ {A = ℕ} 0 1 = cc in omega arith)
-      on later (L.Name n c) g w = absurd (let z : ◌≡◌ {A = ℕ} 0 1 = cc in omega arith)
-      on later (L.Token t₀ c) g w =
+      on later (Ok (L.Skipped c)) g w = absurd (let z : ◌≡◌ {A = ℕ} 0 1 = cc in omega arith)
+      on later (Ok (L.Name n c)) g w = absurd (let z : ◌≡◌ {A = ℕ} 0 1 = cc in omega arith)
+      on later (Ok (L.Token t₀ c)) g w =
           let k : cursor b m ≡ move_cursor (length p) down c = cc in
           let h : t ≡ move_token (length p) down t₀ = cc in
           back_plain p s down h g
           (later c.place c.line (ap (λ (d : Cursor). d.place) k) (ap (λ (d : Cursor). d.line) k))
-      on later (L.End c) g w = absurd (let z : ◌≡◌ {A = ℕ} 0 1 = cc in omega arith)
-      on later (L.Refused c) g w = absurd (let z : ◌≡◌ {A = ℕ} 0 1 = cc in omega arith)
+      on later (Ok (L.End c)) g w = absurd (let z : ◌≡◌ {A = ℕ} 0 1 = cc in omega arith)
+      on later (Err c) g w = absurd (let z : ◌≡◌ {A = ℕ} 0 1 = cc in omega arith)
 
   pub run_back : (at line : ℕ) {a'' l'' : ℕ} {is : List Item} → Run (p ++ s) (length p + at) (down + line) is a'' l''
       → Back p s down at line is a'' l''

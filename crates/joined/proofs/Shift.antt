@@ -1,5 +1,6 @@
 -- Shift: behind p, a text s reads as it does alone, moved by the length of p (and by as many lines as one likes). Each
 -- scan goes over what is left of the text, which is the same behind p, and only counts from another place.
+use Rattle.std.specs.Prelude.{Option, Some, None, Ok, Err}
 use Prim.Native.Nat.{ℕ, ◌+◌, ◌-◌, ◌*◌}
 use mathlib.Core.Path.{◌≡◌, refl, sym, ◌∙◌}
 use mathlib.Core.Bool.{Bool, true, false}
@@ -16,14 +17,11 @@ use Rattle.pieces.specs.Pieces.{cursor, token, number, line_end, closes, star_af
 use Rattle.pieces.specs.Pieces.{name_end_at}
 use Rattle.pieces.specs.Pieces.{on_comment, slash_at, digit_at, minus_at, name_at, sigil_at, then_value, word_at, number_at}
 use Rattle.pieces.specs.Pieces.{symbol_at, token_from, piece_at}
-use Rattle.pieces.specs.declared.Comment.{Comment}
-use Rattle.pieces.specs.declared.Comment.TheVariants as C
 use Rattle.pieces.specs.declared.Number.{Number}
-use Rattle.pieces.specs.declared.OptionValue.{OptionValue}
-use Rattle.pieces.specs.declared.OptionValue.TheVariants as O
 use Rattle.pieces.specs.declared.Refusal.TheVariants as R
 use Rattle.pieces.specs.declared.Lexed.TheVariants as L
 use Rattle.joined.specs.Moves.{move_piece}
+use Rattle.pieces.specs.declared.TokenValue.{TokenValue}
 
 -- A choice, taken through a function: where each side is what the function makes of a side.
 pub pick_through : {A B : Type 0} (f : A → B) (t : Bool) {a b : A} {a' b' : B} → (t ≡ true → a' ≡ f a) →
@@ -59,9 +57,9 @@ digits_shift by (b ∷ r) at v =
     let e : by + at + 1 ≡ by + (at + 1) = omega arith in
     rw e (pick_through (move_number by) (is_digit b) (λ _. digits_shift by r (at + 1) (v * 10 + (b - 48))) (λ _. refl))
 
-abbrev move_comment : ℕ → Comment → Comment
-move_comment by (C.Closed end) = C.Closed (by + end)
-move_comment by C.Open = C.Open
+abbrev move_comment : ℕ → Option ℕ → Option ℕ
+move_comment by (Some end) = Some (by + end)
+move_comment by None = None
 
 comment_shift : (by : ℕ) (star : Bool) (r : List ℕ) (at : ℕ)
     → comment_end star r (by + at) ≡ move_comment by (comment_end star r at)
@@ -131,14 +129,13 @@ module _ (p s : List ℕ) (down at line : ℕ) where
       rw (name_end_at_shift p s at, slice_shift p s at (name_end_at s at))
       (worded (keyword (slice at (name_end_at s at) s)))
     where
-      worded : (v : OptionValue)
-          → then_value v (λ v. L.Token (token v (down + line) (length p + at))
-          (cursor (length p + name_end_at s at) (down + line)))
+      worded : (v : Option TokenValue)
+          → then_value v (λ v. Ok (L.Token (token v (down + line) (length p + at)) (cursor (length p + name_end_at s at) (down + line))))
           (name_at 1 (p ++ s) (length p + at) (down + line))
           ≡ move_piece (length p) down
-          (then_value v (λ v. L.Token (token v line at) (cursor (name_end_at s at) line)) (name_at 1 s at line))
-      worded (O.Some v) = refl
-      worded O.None = name_shift 1
+          (then_value v (λ v. Ok (L.Token (token v line at) (cursor (name_end_at s at) line))) (name_at 1 s at line))
+      worded (Some v) = refl
+      worded None = name_shift 1
 
   symbol_shift : symbol_at (p ++ s) (length p + at) (down + line) ≡ move_piece (length p) down (symbol_at s at line)
   unfolding symbol_at then_value
@@ -146,15 +143,14 @@ module _ (p s : List ℕ) (down at line : ℕ) where
       let e : length p + at + 1 ≡ length p + (at + 1) = omega arith in
       rw (byte_shift p s at, e) (found (symbol (get_or s at 0)))
     where
-      found : (v : OptionValue)
-          → then_value v (λ v. L.Token (token v (down + line) (length p + at))
-          (cursor (length p + (at + 1)) (down + line)))
-          (L.Refused (R.UnexpectedByte (get_or s at 0) (cursor (length p + at) (down + line))))
+      found : (v : Option TokenValue)
+          → then_value v (λ v. Ok (L.Token (token v (down + line) (length p + at)) (cursor (length p + (at + 1)) (down + line))))
+          (Err (R.UnexpectedByte (get_or s at 0) (cursor (length p + at) (down + line))))
           ≡ move_piece (length p) down
-          (then_value v (λ v. L.Token (token v line at) (cursor (at + 1) line))
-          (L.Refused (R.UnexpectedByte (get_or s at 0) (cursor at line))))
-      found (O.Some v) = refl
-      found O.None = refl
+          (then_value v (λ v. Ok (L.Token (token v line at) (cursor (at + 1) line)))
+          (Err (R.UnexpectedByte (get_or s at 0) (cursor at line))))
+      found (Some v) = refl
+      found None = refl
 
   digit_shift : digit_at (p ++ s) (length p + at) (down + line) ≡ move_piece (length p) down (digit_at s at line)
   unfolding digit_at
@@ -187,11 +183,11 @@ module _ (p s : List ℕ) (down at line : ℕ) where
       pick_through (move_piece (length p) down) (eqb (get_or s (at + 1) 0) 42)
       (λ _. commented (comment_end false (drop (at + 2) s) (at + 2))) (λ _. refl)))
     where
-      commented : (c : Comment)
+      commented : (c : Option ℕ)
           → on_comment (length p + at) (down + line) (move_comment (length p) c)
           ≡ move_piece (length p) down (on_comment at line c)
-      commented (C.Closed end) = refl
-      commented C.Open = refl
+      commented (Some end) = refl
+      commented None = refl
 
   token_shift : token_from (p ++ s) (length p + at) (down + line) ≡ move_piece (length p) down (token_from s at line)
   unfolding token_from

@@ -1,4 +1,5 @@
 -- Tokens: where items are read in two texts, with the same spellings, their tokens are the same, moved and renamed.
+use Rattle.std.specs.Prelude.{Ok}
 use Prim.Native.Nat.{ℕ, zero, suc, ◌+◌, ◌≤◌, ◌<◌}
 use mathlib.Core.Path.{◌≡◌, refl, sym, ap, ◌∙◌}
 use mathlib.Core.Bool.{Bool, true, false}
@@ -31,12 +32,12 @@ pub run_inside : {s : List ℕ} {at line a l : ℕ} {is : List Item} → Run s a
     → AllInside (length s) is
 run_inside Run.stop h = tt
 run_inside {s} {at} {line} (Run.skip {a = a} {l = l} e r) h =
-    run_inside r (past_of s at line (L.Skipped (cursor a l)) e h).within
+    run_inside r (past_of s at line (Ok (L.Skipped (cursor a l))) e h).within
 run_inside {s} {at} {line} (Run.spelled {a = a} {l = l} {n = n} e r) h =
-    let p = past_of s at line (L.Name n (cursor a l)) e h in
+    let p = past_of s at line (Ok (L.Name n (cursor a l))) e h in
     ((omega (arith, p.name_end_lem, p.within), p.kind_from, p.kind_to), run_inside r p.within)
 run_inside {s} {at} {line} (Run.plain {a = a} {l = l} {t = t} e r) h =
-    let p = past_of s at line (L.Token t (cursor a l)) e h in
+    let p = past_of s at line (Ok (L.Token t (cursor a l))) e h in
     ((p.kind_from, p.kind_to), run_inside r p.within)
 
 name_is : (k : ℕ) → 1 ≤ k → k ≤ 3 → is_name k ≡ true

@@ -1,5 +1,6 @@
 -- Within: a part of an accepted text, from one of its tokens to a closing brace, read alone. It lexes, and its tokens
 -- are those that the text has there, moved back.
+use Rattle.std.specs.Prelude.{Some}
 use Prim.Native.Nat.{ℕ, suc, ◌+◌, ◌-◌, ◌≤◌, ◌<◌}
 use mathlib.Core.Path.{◌≡◌, refl, sym, ap, subst, ◌∙◌}
 use mathlib.Core.List.{List, [], ◌∷◌, ◌++◌, append-nil}
@@ -10,7 +11,6 @@ use Rattle.pieces.specs.Tokens.{symbol, kind_of}
 use Rattle.pieces.specs.Pieces.{token}
 use Rattle.pieces.specs.declared.Token.{Token}
 use Rattle.pieces.specs.declared.TokenValue.TheVariants as X
-use Rattle.pieces.specs.declared.OptionValue.TheVariants as O
 use Rattle.lexer.specs.Numbered.{Part, Outcome, spellings}
 use Rattle.lexer.specs.Read.{lexed_from}
 use Rattle.lexer.specs.Decoded.{Tok}
@@ -121,7 +121,7 @@ module _ {pre f post : List ℕ} {line : ℕ} {ts : List Token} {ns : List Part}
       ≡ brace.line.0)
   stands_there = rw brace-item (stands_place s (spellings s ns) cut-brace.item brace cut-brace.stand)
 
-  is-brace : symbol (get_or s brace.place 0) ≡ O.Some X.RightBrace
+  is-brace : symbol (get_or s brace.place 0) ≡ Some X.RightBrace
   is-brace = brace-symbol _ ((token-says v j b.inner).1 b.closes_kind)
 
   in_text : brace.place < length s

@@ -1,5 +1,5 @@
 -- What was read of a text, moved: places go on by `by`, lines by `down`. So reads the same text behind `by` bytes.
-use Rattle.std.specs.Prelude.{ℕ, ◌+◌}
+use Rattle.std.specs.Prelude.{ℕ, ◌+◌, Result, Ok, Err}
 use Rattle.pieces.specs.Pieces.{cursor, token, name}
 use Rattle.pieces.specs.declared.Cursor.{Cursor}
 use Rattle.pieces.specs.declared.Token.{Token}
@@ -30,9 +30,9 @@ move_refusal by down (R.TooManyNames c) = R.TooManyNames (move_cursor by down c)
 move_refusal by down (R.NameTooLong c) = R.NameTooLong (move_cursor by down c)
 
 -- one piece
-abbrev pub move_piece : ℕ → ℕ → Lexed → Lexed
-move_piece by down (L.Skipped c) = L.Skipped (move_cursor by down c)
-move_piece by down (L.Name n c) = L.Name (move_name by down n) (move_cursor by down c)
-move_piece by down (L.Token t c) = L.Token (move_token by down t) (move_cursor by down c)
-move_piece by down (L.End c) = L.End (move_cursor by down c)
-move_piece by down (L.Refused r) = L.Refused (move_refusal by down r)
+abbrev pub move_piece : ℕ → ℕ → Result Lexed Refusal → Result Lexed Refusal
+move_piece by down (Ok (L.Skipped c)) = Ok (L.Skipped (move_cursor by down c))
+move_piece by down (Ok (L.Name n c)) = Ok (L.Name (move_name by down n) (move_cursor by down c))
+move_piece by down (Ok (L.Token t c)) = Ok (L.Token (move_token by down t) (move_cursor by down c))
+move_piece by down (Ok (L.End c)) = Ok (L.End (move_cursor by down c))
+move_piece by down (Err r) = Err (move_refusal by down r)

@@ -1,5 +1,5 @@
 -- The tokens that stand for the items of a text, by a table of spellings; and names that are the same in two tables.
-use Rattle.std.specs.Prelude.{ℕ, ◌+◌, ◌≤◌, ◌<◌, ◌≡◌, List, [], ◌∷◌, ◌++◌, length, get_or}
+use Rattle.std.specs.Prelude.{ℕ, ◌+◌, ◌≤◌, ◌<◌, ◌≡◌, List, [], ◌∷◌, ◌++◌, length, get_or, Option, Some, None}
 use Rattle.pieces.specs.Tokens.{kind_of}
 use Rattle.pieces.specs.Pieces.{Pieces, token}
 use Rattle.pieces.specs.Kinds as K
@@ -8,12 +8,11 @@ use Rattle.pieces.specs.declared.Cursor.{Cursor}
 use Rattle.pieces.specs.declared.Token.{Token}
 use Rattle.pieces.specs.declared.TokenValue.TheVariants as T
 use Rattle.lexer.specs.Numbered.{Part, spellings, spelling_of, index_of, named}
-use Rattle.lexer.specs.declared.Found.{Found}
-use Rattle.lexer.specs.declared.Found.TheVariants as F
 use Rattle.lexer.specs.Decoded.{Tok, tok, is_name}
 use Rattle.parser.specs.Moved.{Move}
 use Rattle.utils.specs.Bytes.{pick}
 use Rattle.joined.specs.Runs.{Item, before}
+use Rattle.pieces.specs.declared.Identifier.{Identifier}
 
 -- two lists, element by element
 pub data Both {A B : Type 0} (R : A → B → Type 0) : List A → List B → Type 0 where
@@ -34,9 +33,9 @@ words_of s (Item.spelled n ∷ is) = spelling_of s n ∷ words_of s is
 words_of s (Item.plain t ∷ is) = words_of s is
 
 -- A table after words were entered, from left to right: each that isn't there is put at its end.
-abbrev pub with_word : List (List ℕ) → List ℕ → Found → List (List ℕ)
-with_word ws w (F.At i) = ws
-with_word ws w F.Nothing = ws ++ (w ∷ [])
+abbrev pub with_word : List (List ℕ) → List ℕ → Option Identifier → List (List ℕ)
+with_word ws w (Some i) = ws
+with_word ws w None = ws ++ (w ∷ [])
 
 unfoldable pub entered : List (List ℕ) → List (List ℕ) → List (List ℕ)
 entered ws [] = ws
@@ -71,9 +70,9 @@ Distinct ws = (i j : ℕ) → i < length ws → j < length ws → get_or ws i []
 
 -- A name of one table by its number in another: found by its spelling; one that isn't there gets a number behind all
 -- others, so that no two names get one number.
-abbrev pub found_or : ℕ → Found → ℕ
-found_or other (F.At i) = i.0
-found_or other F.Nothing = other
+abbrev pub found_or : ℕ → Option Identifier → ℕ
+found_or other (Some i) = i.0
+found_or other None = other
 
 abbrev pub renamed : List (List ℕ) → List (List ℕ) → ℕ → ℕ
 renamed ws ws' x = found_or (length ws + x) (index_of (get_or ws' x []) ws 0)

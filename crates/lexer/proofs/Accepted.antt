@@ -1,5 +1,6 @@
 -- From an answer to the reading behind it: behind a result that says done, or an answer with number 0, stand tokens and
 -- names, which are sound and lie in the cells. By cases over the outcome, which is never cut (`never_cut`).
+use Rattle.std.specs.Prelude.{Ok, Err}
 use Prim.Native.Nat.{ℕ}
 use mathlib.Core.Path.{◌≡◌, refl, sym, ap, ◌∙◌}
 use mathlib.Core.Bool.{Bool, true, false}
@@ -9,11 +10,11 @@ use lib.ListN.{length}
 use Rattle.utils.specs.Bytes.{pick, pad_to}
 use Rattle.lexer.specs.Numbered.{Part, Outcome, tokens_cells, names_cells}
 use Rattle.lexer.specs.Read.{reading, read_refusal, lexed_from, reading_of, read_of, sized, padded, read_def, result_of}
-use Rattle.lexer.specs.Read.{Reads}
+use Rattle.lexer.specs.Read.{Reads, counts}
 use Rattle.lexer.specs.Sound.{Sound}
 use Rattle.pieces.specs.declared.Token.{Token}
 use Rattle.pieces.specs.declared.Refusal.{Refusal}
-use Rattle.lexer.specs.declared.LexResult.TheVariants as X
+use Rattle.lexer.specs.declared.Counts.{Counts}
 use Rattle.lexer.specs.declared.ReadAnswer.{ReadAnswer}
 use Rattle.lexer.proofs.Sound.{read_sound, never_cut}
 use Rattle.lexer.proofs.Numbers.{refusal-number}
@@ -28,20 +29,28 @@ pub record Done (s : List ℕ) (line count known : ℕ) : Type 0 where
   pub sound : Sound s line ts ns
 
 pub result-done : (line : ℕ) (s : List ℕ) (count known : ℕ)
-    → X.Done count known ≡ result_of (lexed_from line s) → Done s line count known
+    → Ok (counts count known) ≡ result_of (lexed_from line s) → Done s line count known
 result-done line s count known e = from (lexed_from line s) refl e
   where
-    from : (o : Outcome) → lexed_from line s ≡ o → X.Done count known ≡ result_of o → Done s line count known
+    from : (o : Outcome) → lexed_from line s ≡ o → Ok (counts count known) ≡ result_of o → Done s line count known
     from (Outcome.done ts ns) p q =
-        record { ts = ts; ns = ns; lexed = p; counted = cc; counted_names = cc; sound = read_sound line s ts ns p }
+        let same : counts count known ≡ counts (length ts) (length ns) = cc in
+        record {
+          ts = ts;
+          ns = ns;
+          lexed = p;
+          counted = ap (λ (c : Counts). c.tokens) same;
+          counted_names = ap (λ (c : Counts). c.names) same;
+          sound = read_sound line s ts ns p;
+        }
     from (Outcome.refused r) p q = absurd (let z : ◌≡◌ {A = ℕ} 0 1 = cc in omega arith)
     from Outcome.cut p q = absurd (never_cut line s p)
 
 pub result-refused : (line : ℕ) (s : List ℕ) (r : Refusal)
-    → X.Refused r ≡ result_of (lexed_from line s) → lexed_from line s ≡ Outcome.refused r
+    → Err r ≡ result_of (lexed_from line s) → lexed_from line s ≡ Outcome.refused r
 result-refused line s r e = from (lexed_from line s) refl e
   where
-    from : (o : Outcome) → lexed_from line s ≡ o → X.Refused r ≡ result_of o → lexed_from line s ≡ Outcome.refused r
+    from : (o : Outcome) → lexed_from line s ≡ o → Err r ≡ result_of o → lexed_from line s ≡ Outcome.refused r
     from (Outcome.done ts ns) p q = absurd (let z : ◌≡◌ {A = ℕ} 0 1 = cc in omega arith)
     from (Outcome.refused r') p q = cc
     from Outcome.cut p q = absurd (never_cut line s p)

@@ -1,4 +1,5 @@
 -- The names that cells hold: the first of a run and how many there are; and the cells of one token or name more.
+use Rattle.std.specs.Prelude.{Option, Some}
 use Prim.Native.Nat.{ℕ, zero, suc, ◌+◌, ◌-◌, ◌*◌, ◌≤◌, ◌<◌}
 use mathlib.Core.Path.{◌≡◌, refl, sym, ap, ◌∙◌}
 use mathlib.Core.List.{List, [], ◌∷◌, ◌++◌}
@@ -11,8 +12,7 @@ use Rattle.pieces.specs.Tokens.{token_cells}
 use Rattle.lexer.specs.Numbered.{Part, part, spellings, index_of, tokens_cells, names_cells}
 use Rattle.lexer.specs.Steps.{parts_of, Within, Table}
 use Rattle.pieces.specs.declared.Token.{Token}
-use Rattle.lexer.specs.declared.Found.{Found}
-use Rattle.lexer.specs.declared.Found.TheVariants as F
+use Rattle.pieces.specs.declared.Identifier.{Identifier}
 
 pub parts_step : (ns : List ℕ) (k count : ℕ) → k < count → count * 2 ≤ length ns
     → parts_of (drop (k * 2) (take (count * 2) ns))
@@ -46,11 +46,11 @@ module _ (text names : List ℕ) (count k : ℕ) (below : k < count) (table : Ta
     pub names-within : Within (length text) (parts_of (drop ((k + 1) * 2) (take (count * 2) names)))
     names-within = (rw step at inside).1
 
-  module _ (w : List ℕ) {f : Found} {q : Bool}
+  module _ (w : List ℕ) {f : Option Identifier} {q : Bool}
       (here : index_of w (spellings text (parts_of (drop (k * 2) (take (count * 2) names)))) k ≡ f)
       (same : q ≡ same_bytes (slice (get_or names (k * 2) 0) (get_or names (k * 2) 0 + get_or names (k * 2 + 1) 0) text) w)
     where
-      pub name-here : q ≡ true → F.At (record { 0 = k }) ≡ f
+      pub name-here : q ≡ true → Some (record { 0 = k }) ≡ f
       unfolding index_of spellings pick
       name-here e = sym (sym here ∙ rw (step, ← same, e))
 

@@ -1,4 +1,5 @@
 -- Prints: names whose prints differ differ; what is kept of the names before stays when a name is added.
+use Rattle.std.specs.Prelude.{Result, Ok, Err}
 use Prim.Native.Nat.{ℕ, suc, ◌+◌, ◌*◌, ◌≤◌, ◌<◌}
 use mathlib.Core.Path.{◌≡◌, refl, sym, ap, ◌∙◌}
 use mathlib.Core.Bool.{Bool, true, false}
@@ -21,6 +22,7 @@ use Rattle.lexer.specs.declared.Identified.TheVariants as I
 use Rattle.lexer.specs.declared.Next.{Next}
 use Rattle.lexer.specs.declared.Next.TheVariants as N
 use Rattle.lexer.proofs.Same.{same_bytes-true}
+use Rattle.pieces.specs.declared.Refusal.{Refusal}
 
 pub other-print : (x w : List ℕ) → (print_of x ≡ print_of w → ⊥) → false ≡ same_bytes x w
 other-print x w h = by (same_bytes x w) refl
@@ -72,18 +74,19 @@ pub prints_as : {text cells prints : List ℕ} {count : ℕ} (then : ℕ) → th
 prints_as then l h = record { room = h.room; each = λ k q. h.each k (omega arith) }
 
 -- a token brings one name at most
-known_by : (count : ℕ) (m : Name) (c c' : Cursor) (u : Token) (k : ℕ) (i : Identified)
-    → next_name count m c i ≡ N.Token u c' k → k ≤ count + 1
-known_by count m c c' u k (I.Known i) e = let q : count ≡ k = cc in omega arith
-known_by count m c c' u k (I.New i) e = let q : count + 1 ≡ k = cc in omega arith
-known_by count m c c' u k (I.Refused r) e = absurd (let z : ◌≡◌ {A = ℕ} 0 1 = cc in omega arith)
+known_by : (count : ℕ) (m : Name) (c c' : Cursor) (u : Token) (k : ℕ) (i : Result Identified Refusal)
+    → next_name count m c i ≡ Ok (N.Token u c' k) → k ≤ count + 1
+known_by count m c c' u k (Ok (I.Known i)) e = let q : count ≡ k = cc in omega arith
+known_by count m c c' u k (Ok (I.New i)) e = let q : count + 1 ≡ k = cc in omega arith
+known_by count m c c' u k (Err r) e = absurd (let z : ◌≡◌ {A = ℕ} 0 1 = cc in omega arith)
 
-pub known_more : (s : List ℕ) (ps : List Part) (count : ℕ) (p : Lexed) {r : Next} {u : Token} {c : Cursor} {k : ℕ}
-    → r ≡ next_of s ps count p → r ≡ N.Token u c k → k ≤ count + 1
+pub known_more : (s : List ℕ) (ps : List Part) (count : ℕ) (p : Result Lexed Refusal) {r : Result Next Refusal}
+    {u : Token} {c : Cursor} {k : ℕ}
+    → r ≡ next_of s ps count p → r ≡ Ok (N.Token u c k) → k ≤ count + 1
 unfolding next_of
-known_more s ps count (L.Skipped c) e h = absurd (let z : ◌≡◌ {A = ℕ} 0 1 = cc in omega arith)
-known_more s ps count (L.Name m c) {u = u} {c = c'} {k = k} e h =
+known_more s ps count (Ok (L.Skipped c)) e h = absurd (let z : ◌≡◌ {A = ℕ} 0 1 = cc in omega arith)
+known_more s ps count (Ok (L.Name m c)) {u = u} {c = c'} {k = k} e h =
     known_by count m c c' u k (identified s ps m) (sym e ∙ h)
-known_more s ps count (L.Token t c) {k = k} e h = let q : count ≡ k = cc in omega arith
-known_more s ps count (L.End c) e h = absurd (let z : ◌≡◌ {A = ℕ} 0 1 = cc in omega arith)
-known_more s ps count (L.Refused r) e h = absurd (let z : ◌≡◌ {A = ℕ} 0 1 = cc in omega arith)
+known_more s ps count (Ok (L.Token t c)) {k = k} e h = let q : count ≡ k = cc in omega arith
+known_more s ps count (Ok (L.End c)) e h = absurd (let z : ◌≡◌ {A = ℕ} 0 1 = cc in omega arith)
+known_more s ps count (Err r) e h = absurd (let z : ◌≡◌ {A = ℕ} 0 1 = cc in omega arith)

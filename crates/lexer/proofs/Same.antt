@@ -1,5 +1,6 @@
 -- Lists by their elements: what `same_bytes` and `index_of` say, by recursion on the lists. What holds of each element,
 -- or of every two, holds with one more behind them: an index is below the old length, or is that length.
+use Rattle.std.specs.Prelude.{Option, Some, None}
 use Prim.Native.Nat.{ℕ, zero, suc, ◌+◌, ◌<◌}
 use mathlib.Core.Path.{◌≡◌, refl, sym, ap}
 use mathlib.Core.Bool.{Bool, true, false}
@@ -12,9 +13,8 @@ use lib.Seq.{get_or_at}
 use Rattle.utils.specs.Bytes.{pick, same_bytes}
 use Rattle.lexer.specs.Numbered.{Part, spellings, index_of}
 use Rattle.lexer.specs.Sound.{Each, Pairs, no_part, spelling}
-use Rattle.lexer.specs.declared.Found.{Found}
-use Rattle.lexer.specs.declared.Found.TheVariants as F
 use Rattle.pieces.proofs.Progress.{pick_either}
+use Rattle.pieces.specs.declared.Identifier.{Identifier}
 
 -- Bytes that are the same. ------------------------------------------------------------------------------------------
 
@@ -54,18 +54,18 @@ spelling-at s (p ∷ ps) zero h = refl
 spelling-at s (p ∷ ps) (suc i) h = spelling-at s ps i (omega arith)
 
 -- the first of the words is number k
-abbrev pub FoundIn : List ℕ → List (List ℕ) → ℕ → Found → Type 0
-FoundIn w ws k (F.At n) = (i : ℕ) × (n.0 ≡ k + i) × (i < length ws) × (get_or ws i [] ≡ w)
-FoundIn w ws k F.Nothing = Each [] (λ x. x ≡ w → ⊥) ws
+abbrev pub FoundIn : List ℕ → List (List ℕ) → ℕ → Option Identifier → Type 0
+FoundIn w ws k (Some n) = (i : ℕ) × (n.0 ≡ k + i) × (i < length ws) × (get_or ws i [] ≡ w)
+FoundIn w ws k None = Each [] (λ x. x ≡ w → ⊥) ws
 
 each_cons : {A : Type 0} (d x : A) (l : List A) (P : A → Type 0) → P x → Each d P l → Each d P (x ∷ l)
 each_cons d x l P p f zero h = p
 each_cons d x l P p f (suc i) h = f i (omega arith)
 
-found-later : (w x : List ℕ) (ws : List (List ℕ)) (k : ℕ) (f : Found)
+found-later : (w x : List ℕ) (ws : List (List ℕ)) (k : ℕ) (f : Option Identifier)
     → same_bytes x w ≡ false → FoundIn w ws (k + 1) f → FoundIn w (x ∷ ws) k f
-found-later w x ws k (F.At n) e h = (suc h.0, omega arith, omega arith, h.3)
-found-later w x ws k F.Nothing e h = each_cons [] x ws (λ y. y ≡ w → ⊥) (same_bytes-false x w e) h
+found-later w x ws k (Some n) e h = (suc h.0, omega arith, omega arith, h.3)
+found-later w x ws k None e h = each_cons [] x ws (λ y. y ≡ w → ⊥) (same_bytes-false x w e) h
 
 pub index_of-found : (w : List ℕ) (ws : List (List ℕ)) (k : ℕ) → FoundIn w ws k (index_of w ws k)
 unfolding index_of

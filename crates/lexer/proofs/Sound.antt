@@ -1,5 +1,6 @@
 -- Every accepted reading is sound, every refusal stands in the text, and no reading is cut short: by one induction over
 -- the turns of `pieces_from`, in which each piece keeps what holds of the tokens and the names so far (`Going`).
+use Rattle.std.specs.Prelude.{Option, Some, None, Result, Ok, Err}
 use Prim.Native.Nat.{ℕ, zero, suc, ◌+◌, ◌-◌, ◌≤◌, ◌<◌}
 use mathlib.Core.Path.{◌≡◌, refl, sym, ap, ◌∙◌}
 use mathlib.Core.Bool.{true}
@@ -24,8 +25,6 @@ use Rattle.pieces.specs.declared.Cursor.{Cursor}
 use Rattle.pieces.specs.declared.Token.{Token}
 use Rattle.pieces.specs.declared.TokenValue.TheVariants as T
 use Rattle.pieces.specs.declared.Name.{Name}
-use Rattle.lexer.specs.declared.Found.{Found}
-use Rattle.lexer.specs.declared.Found.TheVariants as F
 use Rattle.lexer.specs.declared.Identified.{Identified}
 use Rattle.lexer.specs.declared.Identified.TheVariants as I
 use Rattle.pieces.specs.declared.Refusal.{Refusal}
@@ -33,6 +32,7 @@ use Rattle.pieces.specs.declared.Lexed.{Lexed}
 use Rattle.pieces.specs.declared.Lexed.TheVariants as L
 use Rattle.pieces.proofs.Progress.{pick_either, SkippedPast, NamePast, EndPast, Past, piece_past}
 use Rattle.lexer.proofs.Same.{length-spellings, spelling-at, FoundIn, index_of-found, each_snoc, pairs_snoc}
+use Rattle.pieces.specs.declared.Identifier.{Identifier}
 
 -- A name's number. --------------------------------------------------------------------------------------------------
 
@@ -53,19 +53,19 @@ name-carried (suc (suc (suc zero))) x h g = refl
 name-carried (suc (suc (suc (suc k)))) x h g = absurd (omega arith)
 
 -- what a name's number says of the table
-abbrev pub Fits : List ℕ → List Part → Name → Identified → Type 0
-Fits s ns n (I.Known i) = (n.len ≤ 64) × (i.0 < length ns) × (spelling s (get_or ns i.0 no_part) ≡ spelling_of s n)
-Fits s ns n (I.New i) =
+abbrev pub Fits : List ℕ → List Part → Name → Result Identified Refusal → Type 0
+Fits s ns n (Ok (I.Known i)) = (n.len ≤ 64) × (i.0 < length ns) × (spelling s (get_or ns i.0 no_part) ≡ spelling_of s n)
+Fits s ns n (Ok (I.New i)) =
     (n.len ≤ 64) × (i.0 ≡ length ns) × (length ns < 1024) × Each no_part (λ p. spelling s p ≡ spelling_of s n → ⊥) ns
-Fits s ns n (I.Refused r) = ((facts_of r).place ≡ n.place) × ((facts_of r).line ≡ n.line.0)
+Fits s ns n (Err r) = ((facts_of r).place ≡ n.place) × ((facts_of r).line ≡ n.line.0)
 
-found-fits : (s : List ℕ) (ns : List Part) (n : Name) (f : Found)
+found-fits : (s : List ℕ) (ns : List Part) (n : Name) (f : Option Identifier)
     → n.len ≤ 64 → FoundIn (spelling_of s n) (spellings s ns) 0 f → Fits s ns n (on_found (length ns) n f)
-found-fits s ns n (F.At i) h f =
+found-fits s ns n (Some i) h f =
     let l = length-spellings s ns in
     let e : i.0 ≡ f.0 = omega arith in
     (h, omega arith, rw e (sym (spelling-at s ns f.0 (omega arith)) ∙ f.3))
-found-fits s ns n F.Nothing h f =
+found-fits s ns n None h f =
     let l = length-spellings s ns in
     pick_either (Fits s ns n) (ltb (length ns) 1024) _ _
     (λ e. (h, refl, ltb-true _ _ e, λ i k. rw (spelling-at s ns i k) at (f i (omega arith)))) (λ _. (refl, refl))
@@ -263,37 +263,38 @@ module _ (s : List ℕ) (first : ℕ) (short : length s ≤ 16384) (ascii : is_a
   -- one turn, where the turns after it are good
   module _ (turns : ℕ) (later : AllGood s first turns) (ts : List Token) (ns : List Part) (at line : ℕ)
       (enough : length s < suc turns + at) (g : Going s first ts ns at line) where
-    name-good : (n : Name) (c : Cursor) → NamePast (length s) at line n c → (i : Identified) → Fits s ns n i
+    name-good : (n : Name) (c : Cursor) → NamePast (length s) at line n c → (i : Result Identified Refusal)
+        → Fits s ns n i
         → Good s first (then_identified ns n i (λ i ns'. then_room ts (named n i)
         (numbered_from s (ts ++ (named n i ∷ [])) ns' (pieces_from turns s c.place c.line))))
     unfolding then_identified
-    name-good n c p (I.Known i) f =
+    name-good n c p (Ok (I.Known i)) f =
         room-good ts (named n i) _ (omega arith) (omega arith)
         (λ _. later (ts ++ (named n i ∷ [])) ns c.place c.line (omega arith)
         (going_name g n c i.0 p f.1 f.2))
-    name-good n c p (I.New i) f =
+    name-good n c p (Ok (I.New i)) f =
         let new = part n.place n.len in
         let known = ns ++ (new ∷ []) in
         room-good ts (named n i) _ (omega arith) (omega arith)
         (λ _. later (ts ++ (named n i ∷ [])) known c.place c.line (omega arith)
         (going_name (going_new g n c p f.0 f.2 f.3) n c i.0 p (omega (arith, length-append ns (new ∷ [])))
         (ap (spelling s) (get_or_at ns new [] no_part i.0 (sym f.1)))))
-    name-good n c p (I.Refused r) f = omega arith
+    name-good n c p (Err r) f = omega arith
 
-    turn_good : (l : Lexed) → Past (length s) at line l
+    turn_good : (l : Result Lexed Refusal) → Past (length s) at line l
         → Good s first (numbered_from s ts ns (on_piece (λ c. pieces_from turns s c.place c.line) l))
     unfolding numbered_from on_piece
-    turn_good (L.Skipped c) p = later ts ns c.place c.line (omega arith) (going_skipped g c p)
-    turn_good (L.Name n c) p = name-good n c p (identified s ns n) (identified-fits s ns n)
-    turn_good (L.Token t c) p =
+    turn_good (Ok (L.Skipped c)) p = later ts ns c.place c.line (omega arith) (going_skipped g c p)
+    turn_good (Ok (L.Name n c)) p = name-good n c p (identified s ns n) (identified-fits s ns n)
+    turn_good (Ok (L.Token t c)) p =
         room-good ts t _ (omega arith) (omega arith)
         (λ _. later (ts ++ (t ∷ [])) ns c.place c.line (omega arith)
         (rw p.same_line
         (going_token g t c.place p.on p.within p.token_place p.token_line p.kind_to
         (λ k. absurd (omega arith)) (λ k. absurd (omega arith)) (λ _ k. absurd (omega arith)))))
-    turn_good (L.End c) p =
+    turn_good (Ok (L.End c)) p =
         room-good ts _ _ (omega arith) (omega arith) (end_sound ts ns at line c g p)
-    turn_good (L.Refused r) p = omega arith
+    turn_good (Err r) p = omega arith
 
   turns_good : (turns : ℕ) → AllGood s first turns
   unfolding pieces_from

@@ -1,11 +1,12 @@
 -- Why the reader's loop is right: what is left to do, done from here, gives the whole answer. `Lexing` is the loop's
 -- state with the tokens and names found so far; `turn` says what next_token makes of it, by cases of the piece.
+use Rattle.std.specs.Prelude.{Option, Some, None, Result, Ok, Err}
 use Prim.Native.Nat.{ℕ, suc, ◌+◌, ◌-◌, ◌*◌, ◌≤◌, ◌<◌}
 use mathlib.Core.Path.{◌≡◌, refl, sym, ap, ◌∙◌}
 use mathlib.Core.List.{List, [], ◌∷◌, ◌++◌}
-use mathlib.Core.Bool.{Bool, true, false, not}
+use mathlib.Core.Bool.{Bool, true, false}
 use native.Mathlib.Omega.{arith}
-use borrow.Author.Tests.{lt-ltb, le-ltb, ltb-true, ltb-false, not-true, not-false}
+use borrow.Author.Tests.{lt-ltb, le-ltb, ltb-true, ltb-false}
 use mir.Syntax.{w32}
 use mir.Val.{Fits}
 use lib.Dec.{ltb}
@@ -19,8 +20,8 @@ use Rattle.pieces.specs.Pieces.{Pieces, token, piece_at, on_piece, pieces_from}
 use Rattle.lexer.specs.Numbered.{Part, part, Outcome, identified, on_found, index_of, spellings, spelling_of, named}
 use Rattle.lexer.specs.Numbered.{at_token, then_identified, then_room, numbered_from, numbered, tokens_cells}
 use Rattle.lexer.specs.Numbered.{names_cells}
-use Rattle.lexer.specs.Read.{result_of, Held}
-use Rattle.lexer.specs.Steps.{parts_of, Within, Table, new_cells, next_name, next_of, added_by, pushed}
+use Rattle.lexer.specs.Read.{result_of, Held, counts}
+use Rattle.lexer.specs.Steps.{parts_of, Within, Table, new_cells, next_name, next_of, added_by, room_for, pushed}
 use Rattle.lexer.proofs.Parts.{tokens_cells_snoc, names_cells_snoc, within_snoc}
 use Rattle.lexer.proofs.Cells.{length-tokens_cells, length-names_cells, cells_parts_over}
 use Rattle.pieces.proofs.Progress.{Past, piece_past, pick_either}
@@ -28,27 +29,25 @@ use Rattle.pieces.specs.declared.Cursor.{Cursor}
 use Rattle.pieces.specs.declared.Name.{Name}
 use Rattle.pieces.specs.declared.Token.{Token}
 use Rattle.pieces.specs.declared.TokenValue.TheVariants as T
-use Rattle.lexer.specs.declared.Found.{Found}
-use Rattle.lexer.specs.declared.Found.TheVariants as F
 use Rattle.lexer.specs.declared.Identified.{Identified}
 use Rattle.lexer.specs.declared.Identified.TheVariants as I
 use Rattle.pieces.specs.declared.Refusal.{Refusal}
 use Rattle.pieces.specs.declared.Refusal.TheVariants as R
 use Rattle.pieces.specs.declared.Lexed.{Lexed}
 use Rattle.pieces.specs.declared.Lexed.TheVariants as L
-use Rattle.lexer.specs.declared.LexResult.TheVariants as X
 use Rattle.lexer.specs.declared.Next.{Next}
 use Rattle.lexer.specs.declared.Next.TheVariants as N
+use Rattle.pieces.specs.declared.Identifier.{Identifier}
 
 -- a new name had room, and a refused one is refused where it stands
-abbrev pub Room : ℕ → Name → Identified → Type 0
-Room count n (I.Known i) = Unit
-Room count n (I.New i) = count < 1024
-Room count n (I.Refused r) = (facts_of r).place ≡ n.place
+abbrev pub Room : ℕ → Name → Result Identified Refusal → Type 0
+Room count n (Ok (I.Known i)) = Unit
+Room count n (Ok (I.New i)) = count < 1024
+Room count n (Err r) = (facts_of r).place ≡ n.place
 
-room-found : (count : ℕ) (n : Name) (f : Found) → Room count n (on_found count n f)
-room-found count n (F.At i) = tt
-room-found count n F.Nothing =
+room-found : (count : ℕ) (n : Name) (f : Option Identifier) → Room count n (on_found count n f)
+room-found count n (Some i) = tt
+room-found count n None =
     pick_either (Room count n) (ltb count 1024) _ _ (λ e. ltb-true _ _ e) (λ e. refl)
 
 pub identified-room : (s : List ℕ) (ps : List Part) (n : Name) → Room (length ps) n (identified s ps n)
@@ -135,12 +134,12 @@ pub record Closed (s : List ℕ) (first : ℕ) (t₀ n₀ t n : List ℕ) (count
   pub done : count < 4096 → (t' : List ℕ) → t' ≡ sets t (count * 4) (token_cells u)
       → Ended s first t₀ n₀ t' n (count + 1) known
 
-abbrev pub After : List ℕ → ℕ → List ℕ → List ℕ → List ℕ → List ℕ → ℕ → ℕ → Cursor → Next → Type 0
-After s first t₀ n₀ t n count known at (N.Skipped c) =
+abbrev pub After : List ℕ → ℕ → List ℕ → List ℕ → List ℕ → List ℕ → ℕ → ℕ → Cursor → Result Next Refusal → Type 0
+After s first t₀ n₀ t n count known at (Ok (N.Skipped c)) =
     Lexing s first t₀ n₀ t n count known c × (at.place < c.place) × (c.place ≤ length s)
-After s first t₀ n₀ t n count known at (N.Token u c k) = Made s first t₀ n₀ t n count k at c u
-After s first t₀ n₀ t n count known at (N.End u) = Closed s first t₀ n₀ t n count known u
-After s first t₀ n₀ t n count known at (N.Refused r) =
+After s first t₀ n₀ t n count known at (Ok (N.Token u c k)) = Made s first t₀ n₀ t n count k at c u
+After s first t₀ n₀ t n count known at (Ok (N.End u)) = Closed s first t₀ n₀ t n count known u
+After s first t₀ n₀ t n count known at (Err r) =
     (numbered s first ≡ Outcome.refused r) × ((facts_of r).place ≤ length s)
 
 module _ {s : List ℕ} {first : ℕ} {t₀ n₀ t n : List ℕ} {count known : ℕ} {at : Cursor}
@@ -208,24 +207,24 @@ module _ {s : List ℕ} {first : ℕ} {t₀ n₀ t n : List ℕ} {count known : 
   kept n' e = e ∙ v.parts_held
 
   -- what the numbers of the whole say of one piece
-  unfolded : (p : Lexed) → piece_at s at.place at.line ≡ p
+  unfolded : (p : Result Lexed Refusal) → piece_at s at.place at.line ≡ p
       → numbered s first
       ≡ numbered_from s v.found v.parts (on_piece (λ c. pieces_from v.turns s c.place c.line) p)
   unfolding pieces_from
   unfolded p e = sym v.same ∙ rw e
 
-  of-name : (m : Name) (c : Cursor) (i : Identified) (n' : List ℕ)
-      → Past (length s) at.place at.line (L.Name m c)
+  of-name : (m : Name) (c : Cursor) (i : Result Identified Refusal) (n' : List ℕ)
+      → Past (length s) at.place at.line (Ok (L.Name m c))
       → identified s v.parts m ≡ i → Room (length v.parts) m i
       → numbered s first
       ≡ numbered_from s v.found v.parts (Pieces.spelled m (pieces_from v.turns s c.place c.line))
       → n' ≡ sets n (known * 2) (new_cells m i)
       → After s first t₀ n₀ t n' count known at (next_name known m c i)
   unfolding numbered_from then_identified
-  of-name m c (I.Known i) n' past e r whole d =
+  of-name m c (Ok (I.Known i)) n' past e r whole d =
       made (named m i) c v.parts known n' past.on past.within past.same_line past.name_place
       v.parts_counted v.parts_room (rw d v.long_names) (kept n' d) v.parts_within (whole ∙ rw e)
-  of-name m c (I.New i) n' past e r whole d =
+  of-name m c (Ok (I.New i)) n' past e r whole d =
       let p = part m.place m.len in
       let l : length (names_cells v.parts) ≡ known * 2 =
       omega (arith, length-names_cells v.parts, v.parts_counted) in
@@ -240,14 +239,14 @@ module _ {s : List ℕ} {first : ℕ} {t₀ n₀ t n : List ℕ} {count known : 
       past.name_place q (omega arith) (rw d (length-sets n _ cells ∙ v.long_names)) held
       (within_snoc (length s) v.parts p v.parts_within (omega (arith, past.name_end_lem, past.within)))
       (whole ∙ rw e)
-  of-name m c (I.Refused x) n' past e r whole d = (whole ∙ rw e, omega (arith, r, past.name_place, v.within))
+  of-name m c (Err x) n' past e r whole d = (whole ∙ rw e, omega (arith, r, past.name_place, v.within))
 
-  of_piece : (p : Lexed) (n' : List ℕ)
+  of_piece : (p : Result Lexed Refusal) (n' : List ℕ)
       → piece_at s at.place at.line ≡ p → Past (length s) at.place at.line p
       → n' ≡ sets n (known * 2) (added_by s v.parts p)
       → After s first t₀ n₀ t n' count known at (next_of s v.parts known p)
   unfolding next_of added_by on_piece numbered_from then_room pick
-  of_piece (L.Skipped c) n' e past d = (
+  of_piece (Ok (L.Skipped c)) n' e past d = (
     record {
       small = v.small;
       early = v.early;
@@ -268,38 +267,38 @@ module _ {s : List ℕ} {first : ℕ} {t₀ n₀ t n : List ℕ} {count known : 
       parts_room = v.parts_room;
       parts_held = kept n' d;
       parts_within = v.parts_within;
-      same = rw (fewer c past.on past.within) (sym (unfolded (L.Skipped c) e));
+      same = rw (fewer c past.on past.within) (sym (unfolded (Ok (L.Skipped c)) e));
     },
     past.on,
     past.within,
   )
-  of_piece (L.Name m c) n' e past d =
+  of_piece (Ok (L.Name m c)) n' e past d =
       of-name m c (identified s v.parts m) n' past refl (identified-room s v.parts m)
-      (unfolded (L.Name m c) e) d
-  of_piece (L.Token u c) n' e past d =
+      (unfolded (Ok (L.Name m c)) e) d
+  of_piece (Ok (L.Token u c)) n' e past d =
       made u c v.parts known n' past.on past.within past.same_line past.token_place
       v.parts_counted v.parts_room (rw d v.long_names) (kept n' d) v.parts_within
-      (unfolded (L.Token u c) e)
-  of_piece (L.End c) n' e past d =
+      (unfolded (Ok (L.Token u c)) e)
+  of_piece (Ok (L.End c)) n' e past d =
       let u = token T.EndOfFile c.line c.place in
       record {
         place = omega (arith, past.same_place, v.within);
-        full = λ f. unfolded (L.End c) e ∙ rw (v.counted, le-ltb count 4096 f);
+        full = λ f. unfolded (Ok (L.End c)) e ∙ rw (v.counted, le-ltb count 4096 f);
         done = λ f t' h.
             record {
               tokens = v.found ++ (u ∷ []);
               names = v.parts;
-              whole = unfolded (L.End c) e ∙ rw (v.counted, lt-ltb count 4096 f);
+              whole = unfolded (Ok (L.End c)) e ∙ rw (v.counted, lt-ltb count 4096 f);
               counted = length-append v.found (u ∷ []) ∙ omega (arith, v.counted);
               names_counted = v.parts_counted;
               held = stored u t' f h;
               names_held = kept n' d;
             };
       }
-  of_piece (L.Refused r) n' e past d = (unfolded (L.Refused r) e, omega (arith, past.place, v.within))
+  of_piece (Err r) n' e past d = (unfolded (Err r) e, omega (arith, past.place, v.within))
 
   -- THE TURN: what next_token's answer makes of the loop's state
-  pub turn : (r : Next) (n' : List ℕ)
+  pub turn : (r : Result Next Refusal) (n' : List ℕ)
       → r ≡ next_of s (parts_of (take (known * 2) n)) known (piece_at s at.place at.line)
       → n' ≡ sets n (known * 2) (added_by s (parts_of (take (known * 2) n)) (piece_at s at.place at.line))
       → After s first t₀ n₀ t n' count known at r
@@ -340,77 +339,94 @@ module _ {s : List ℕ} {first : ℕ} {t₀ n₀ t n : List ℕ} {count known : 
   pub names_long : (e n' : List ℕ) → length n₀ ≡ length e → length n' ≡ length n → length n' ≡ length e
   names_long e n' h g = g ∙ v.long_names ∙ h
 
+-- What push_token's answer says of the room: with an error there was none, else there was.
+module _ (count : ℕ) (t : Token) {p : Result Unit Refusal} (is : p ≡ room_for count t) where
+  pub no-room : {x : Refusal} → p ≡ Err x → (4096 ≤ count) × (x ≡ R.TooManyTokens (at_token t))
+  unfolding room_for pick
+  no-room {x} e = by (ltb count 4096) refl (sym e ∙ is)
+    where
+      by : (b : Bool) → ltb count 4096 ≡ b → Err x ≡ pick b (Ok (tt {0})) (Err (R.TooManyTokens (at_token t)))
+          → (4096 ≤ count) × (x ≡ R.TooManyTokens (at_token t))
+      by true q h = absurd (let z : ◌≡◌ {A = ℕ} 0 1 = cc in omega arith)
+      by false q h = (ltb-false _ _ q, cc)
+
+  pub with-room : {y : Unit} → p ≡ Ok y → count < 4096
+  unfolding room_for pick
+  with-room {y} e = by (ltb count 4096) refl (sym e ∙ is)
+    where
+      by : (b : Bool) → ltb count 4096 ≡ b → Ok y ≡ pick b (Ok (tt {0})) (Err (R.TooManyTokens (at_token t)))
+          → count < 4096
+      by true q h = ltb-true _ _ q
+      by false q h = absurd (let z : ◌≡◌ {A = ℕ} 0 1 = cc in omega arith)
+
 -- A turn by next_token's answer, from what its call ensures: each need of the loop is one of these.
-module _ {s : List ℕ} {first : ℕ} {t₀ n₀ t n : List ℕ} {count known : ℕ} {at : Cursor} {r : Next} {n' : List ℕ}
-    (v : Lexing s first t₀ n₀ t n count known at)
+module _ {s : List ℕ} {first : ℕ} {t₀ n₀ t n : List ℕ} {count known : ℕ} {at : Cursor} {r : Result Next Refusal}
+    {n' : List ℕ} (v : Lexing s first t₀ n₀ t n count known at)
     (is : r ≡ next_of s (parts_of (take (known * 2) n)) known (piece_at s at.place at.line))
     (adds : n' ≡ sets n (known * 2) (added_by s (parts_of (take (known * 2) n)) (piece_at s at.place at.line))) where
-  after : {q : Next} → r ≡ q → After s first t₀ n₀ t n' count known at q
+  after : {q : Result Next Refusal} → r ≡ q → After s first t₀ n₀ t n' count known at q
   after e = rw e at (turn v r n' is adds)
 
-  pub skipped : {c : Cursor} → r ≡ N.Skipped c → Lexing s first t₀ n₀ t n' count known c
-  skipped e = (after e).0
-
-  pub skipped_less : {c : Cursor} → r ≡ N.Skipped c → length s - c.place < length s - at.place
-  skipped_less e = omega (arith, (after e).1, (after e).2)
-
-  pub refused : {x : Refusal} → r ≡ N.Refused x → X.Refused x ≡ result_of (numbered s first)
+  pub refused : {x : Refusal} → r ≡ Err x → Err x ≡ result_of (numbered s first)
   refused e = rw (after e).0
 
-  pub refused-held : (a b t' n'' : List ℕ) {x : Refusal} → r ≡ N.Refused x → Held (numbered s first) a b t' n''
+  pub refused-held : (a b t' n'' : List ℕ) {x : Refusal} → r ≡ Err x → Held (numbered s first) a b t' n''
   refused-held a b t' n'' e = rw (after e).0 tt
 
-  -- a token: the code has asked whether there is room for it
-  module _ {u : Token} {c : Cursor} {k : ℕ} (e : r ≡ N.Token u c k) where
-    pub token_place : u.place < 4294967296
-    token_place = omega (arith, (after e).place, v.small)
+  -- what stands there, by its case
+  module _ {m : Next} (was : r ≡ Ok m) where
+    met : {q : Next} → m ≡ q → After s first t₀ n₀ t n' count known at (Ok q)
+    met e = after (was ∙ ap (λ (x : Next). Ok x) e)
 
-    pub token-less : length s - c.place < length s - at.place
-    token-less = omega (arith, (after e).later, (after e).inside)
+    pub skipped : {c : Cursor} → m ≡ N.Skipped c → Lexing s first t₀ n₀ t n' count known c
+    skipped e = (met e).0
 
-    token-over : {q : Bool} → q ≡ ltb count 4096 → not q ≡ true
-        → numbered s first ≡ Outcome.refused (R.TooManyTokens (at_token u))
-    token-over h g = (after e).full (ltb-false _ _ (sym h ∙ not-true _ g))
+    pub skipped_less : {c : Cursor} → m ≡ N.Skipped c → length s - c.place < length s - at.place
+    skipped_less e = omega (arith, (met e).1, (met e).2)
 
-    pub token_full : {x : Refusal} {q : Bool} → q ≡ ltb count 4096 → not q ≡ true → x ≡ R.TooManyTokens (at_token u)
-        → X.Refused x ≡ result_of (numbered s first)
-    token_full h g d = rw (token-over h g, d)
+    -- a token: the code has stored it, or found no room for it
+    module _ {u : Token} {c : Cursor} {k : ℕ} (e : m ≡ N.Token u c k) where
+      pub token_place : u.place < 4294967296
+      token_place = omega (arith, (met e).place, v.small)
 
-    pub token_full_held : (a b t' n'' : List ℕ) {q : Bool} → q ≡ ltb count 4096 → not q ≡ true
-        → Held (numbered s first) a b t' n''
-    token_full_held a b t' n'' h g = rw (token-over h g) tt
+      pub token-less : length s - c.place < length s - at.place
+      token-less = omega (arith, (met e).later, (met e).inside)
 
-    pub token-more : {q : Bool} {t' : List ℕ} → q ≡ ltb count 4096 → not q ≡ false → t' ≡ pushed t count u
-        → Lexing s first t₀ n₀ t' n' (count + 1) k c
-    unfolding pushed pick
-    token-more h g d =
-        let room = sym h ∙ not-false _ g in
-        (after e).more (ltb-true _ _ room) _ (rw room at d)
+      module _ {p : Result Unit Refusal} (h : p ≡ room_for count u) where
+        pub token_full : {x : Refusal} → p ≡ Err x → Err x ≡ result_of (numbered s first)
+        token_full g = rw ((met e).full (no-room count u h g).0, (no-room count u h g).1)
 
-  -- the end token
-  module _ {u : Token} (e : r ≡ N.End u) where
-    pub end-place : u.place < 4294967296
-    end-place = omega (arith, (after e).place, v.small)
+        pub token_full_held : (a b t' n'' : List ℕ) {x : Refusal} → p ≡ Err x → Held (numbered s first) a b t' n''
+        token_full_held a b t' n'' g = rw ((met e).full (no-room count u h g).0) tt
 
-    end-over : {q : Bool} → q ≡ ltb count 4096 → not q ≡ true
-        → numbered s first ≡ Outcome.refused (R.TooManyTokens (at_token u))
-    end-over h g = (after e).full (ltb-false _ _ (sym h ∙ not-true _ g))
+        pub token-more : {y : Unit} {t' : List ℕ} → p ≡ Ok y → t' ≡ pushed t count u
+            → Lexing s first t₀ n₀ t' n' (count + 1) k c
+        unfolding pushed pick
+        token-more g d =
+            let room = with-room count u h g in
+            (met e).more room _ (rw (lt-ltb count 4096 room) at d)
 
-    pub end_full : {x : Refusal} {q : Bool} → q ≡ ltb count 4096 → not q ≡ true → x ≡ R.TooManyTokens (at_token u)
-        → X.Refused x ≡ result_of (numbered s first)
-    end_full h g d = rw (end-over h g, d)
+    -- the end token
+    module _ {u : Token} (e : m ≡ N.End u) where
+      pub end-place : u.place < 4294967296
+      end-place = omega (arith, (met e).place, v.small)
 
-    pub end_full_held : (a b t' n'' : List ℕ) {q : Bool} → q ≡ ltb count 4096 → not q ≡ true
-        → Held (numbered s first) a b t' n''
-    end_full_held a b t' n'' h g = rw (end-over h g) tt
+      module _ {p : Result Unit Refusal} (h : p ≡ room_for count u) where
+        pub end_full : {x : Refusal} → p ≡ Err x → Err x ≡ result_of (numbered s first)
+        end_full g = rw ((met e).full (no-room count u h g).0, (no-room count u h g).1)
 
-    module _ {q : Bool} {t' : List ℕ} (h : q ≡ ltb count 4096) (g : not q ≡ false) (d : t' ≡ pushed t count u) where
-      ended : Ended s first t₀ n₀ t' n' (count + 1) known
-      unfolding pushed pick
-      ended = let room = sym h ∙ not-false _ g in (after e).done (ltb-true _ _ room) _ (rw room at d)
+        pub end_full_held : (a b t' n'' : List ℕ) {x : Refusal} → p ≡ Err x → Held (numbered s first) a b t' n''
+        end_full_held a b t' n'' g = rw ((met e).full (no-room count u h g).0) tt
 
-      pub end-done : X.Done (count + 1) known ≡ result_of (numbered s first)
-      end-done = rw (ended.whole, ended.counted, ended.names_counted)
+        module _ {y : Unit} {t' : List ℕ} (g : p ≡ Ok y) (d : t' ≡ pushed t count u) where
+          ended : Ended s first t₀ n₀ t' n' (count + 1) known
+          unfolding pushed pick
+          ended =
+              let room = with-room count u h g in
+              (met e).done room _ (rw (lt-ltb count 4096 room) at d)
 
-      pub end-held : Held (numbered s first) t₀ n₀ t' n'
-      end-held = rw ended.whole (ended.held, ended.names_held)
+          pub end-done : Ok (counts (count + 1) known) ≡ result_of (numbered s first)
+          end-done = rw (ended.whole, ended.counted, ended.names_counted)
+
+          pub end-held : Held (numbered s first) t₀ n₀ t' n'
+          end-held = rw ended.whole (ended.held, ended.names_held)

@@ -1,5 +1,5 @@
 -- A fold over the pieces: names are numbered and the limits applied, from left to right.
-use Rattle.std.specs.Prelude.{ℕ, ◌+◌, List, [], ◌∷◌, ◌++◌, ltb, length}
+use Rattle.std.specs.Prelude.{ℕ, ◌+◌, List, [], ◌∷◌, ◌++◌, ltb, length, Option, Some, None, Result, Ok, Err}
 use Rattle.std.proofs.Math.Seq.{slice}
 use Rattle.utils.specs.Bytes.{pick, same_bytes}
 use Rattle.pieces.specs.Tokens.{value_of, token_cells}
@@ -10,8 +10,6 @@ use Rattle.pieces.specs.declared.Identifier.{Identifier}
 use Rattle.pieces.specs.declared.Token.{Token}
 use Rattle.pieces.specs.declared.TokenValue.TheVariants as T
 use Rattle.pieces.specs.declared.Name.{Name}
-use Rattle.lexer.specs.declared.Found.{Found}
-use Rattle.lexer.specs.declared.Found.TheVariants as F
 use Rattle.lexer.specs.declared.Identified.{Identified}
 use Rattle.lexer.specs.declared.Identified.TheVariants as I
 use Rattle.pieces.specs.declared.Refusal.{Refusal}
@@ -31,9 +29,9 @@ spellings s [] = []
 spellings s (p ∷ ps) = slice p.place (p.place + p.len) s ∷ spellings s ps
 
 -- The number of the first that is spelled so.
-unfoldable pub index_of : List ℕ → List (List ℕ) → ℕ → Found
-index_of w [] k = F.Nothing
-index_of w (x ∷ xs) k = let more = index_of w xs (k + 1) in pick (same_bytes x w) (F.At (record { 0 = k })) more
+unfoldable pub index_of : List ℕ → List (List ℕ) → ℕ → Option Identifier
+index_of w [] k = None
+index_of w (x ∷ xs) k = let more = index_of w xs (k + 1) in pick (same_bytes x w) (Some (record { 0 = k })) more
 
 abbrev pub spelling_of : List ℕ → Name → List ℕ
 spelling_of s n = slice n.place (n.place + n.len) s
@@ -46,15 +44,15 @@ abbrev pub at_name : Name → Cursor
 at_name n = cursor n.place n.line.0
 
 -- Names are numbered from 0 in order of first appearance; 1,024 names.
-abbrev pub on_found : ℕ → Name → Found → Identified
-on_found count n (F.At i) = I.Known i
-on_found count n F.Nothing =
-    pick (ltb count most_names) (I.New (record { 0 = count })) (I.Refused (R.TooManyNames (at_name n)))
+abbrev pub on_found : ℕ → Name → Option Identifier → Result Identified Refusal
+on_found count n (Some i) = Ok (I.Known i)
+on_found count n None =
+    pick (ltb count most_names) (Ok (I.New (record { 0 = count }))) (Err (R.TooManyNames (at_name n)))
 
 -- 64 bytes a name with its sigil. For one name 34 comes before 33.
-unfoldable pub identified : List ℕ → List Part → Name → Identified
+unfoldable pub identified : List ℕ → List Part → Name → Result Identified Refusal
 identified s names n =
-    pick (ltb most_name_bytes n.len) (I.Refused (R.NameTooLong (at_name n)))
+    pick (ltb most_name_bytes n.len) (Err (R.NameTooLong (at_name n)))
     (on_found (length names) n (index_of (spelling_of s n) (spellings s names) 0))
 
 -- the token of a name that has its number
@@ -68,10 +66,11 @@ pub data Outcome : Type 0 where
   cut : Outcome
 
 -- what follows a name's number, with the table then
-unfoldable pub then_identified : List Part → Name → Identified → (Identifier → List Part → Outcome) → Outcome
-then_identified names n (I.Known i) k = k i names
-then_identified names n (I.New i) k = k i (names ++ (part n.place n.len ∷ []))
-then_identified names n (I.Refused r) k = refused r
+unfoldable pub then_identified : List Part → Name → Result Identified Refusal → (Identifier → List Part → Outcome)
+    → Outcome
+then_identified names n (Ok (I.Known i)) k = k i names
+then_identified names n (Ok (I.New i)) k = k i (names ++ (part n.place n.len ∷ []))
+then_identified names n (Err r) k = refused r
 
 -- 4,096 tokens with the end token; the token one too many is 32.
 unfoldable pub then_room : List Token → Token → Outcome → Outcome

@@ -1,5 +1,5 @@
 -- The whole answer of `read`: number, line, place, counts, and what every lent slice holds at exit.
-use Rattle.std.specs.Prelude.{ℕ, ◌*◌, ◌≤◌, ◌≡◌, List, [], Bool, true, false, eqb, ltb, length, take}
+use Rattle.std.specs.Prelude.{ℕ, ◌*◌, ◌≤◌, ◌≡◌, List, [], Bool, true, false, eqb, ltb, length, take, Result, Ok, Err}
 use Rattle.utils.specs.Bytes.{pick, pad_to, over}
 use Rattle.pieces.specs.Classes.{is_ascii}
 use Rattle.pieces.specs.Refusals.{facts_of, message_of}
@@ -8,8 +8,8 @@ use Rattle.lexer.specs.Sizes.{tokens_size, names_size, token_width, name_width}
 use Rattle.lexer.specs.Numbered.{Outcome, numbered, tokens_cells, names_cells}
 use Rattle.pieces.specs.declared.Refusal.{Refusal}
 use Rattle.pieces.specs.declared.Refusal.TheVariants as R
-use Rattle.lexer.specs.declared.LexResult.{LexResult}
 use Rattle.lexer.specs.declared.ReadAnswer.{ReadAnswer}
+use Rattle.lexer.specs.declared.Counts.{Counts}
 
 -- the answer, and the contents of every slice
 pub record Reading : Type 0 where
@@ -70,17 +70,20 @@ unfoldable pub read_def : List ℕ → List ℕ → List ℕ → List ℕ → Re
 read_def text t n m =
     pick (sized (length t) (length n) (length m)) (padded t n m (read_of text)) (reading (read_refusal 30 0 0) t n m)
 
--- Where the answer is an enum: document 01's number, line, place and counts for each of its cases.
-abbrev pub answered : LexResult → ReadAnswer
-answered (LexResult.Done tokens names) = accepted tokens names
-answered (LexResult.Refused r) = answer_of r
+abbrev pub counts : ℕ → ℕ → Counts
+counts tokens names = record { tokens = tokens; names = names }
+
+-- Where the answer is a Result: document 01's number, line, place and counts for each of its cases.
+abbrev pub answered : Result Counts Refusal → ReadAnswer
+answered (Ok c) = accepted c.tokens c.names
+answered (Err r) = answer_of r
 
 -- What the inner functions say: the counts; the slices where a text is accepted, over what they held before; the sizes
 -- that the gate has seen.
-abbrev pub result_of : Outcome → LexResult
-result_of (Outcome.done ts ns) = LexResult.Done (length ts) (length ns)
-result_of (Outcome.refused r) = LexResult.Refused r
-result_of Outcome.cut = LexResult.Done 0 0
+abbrev pub result_of : Outcome → Result Counts Refusal
+result_of (Outcome.done ts ns) = Ok (counts (length ts) (length ns))
+result_of (Outcome.refused r) = Err r
+result_of Outcome.cut = Ok (counts 0 0)
 
 abbrev pub Held : Outcome → List ℕ → List ℕ → List ℕ → List ℕ → Type 0
 Held (Outcome.done ts ns) t₀ n₀ t n = (t ≡ over t₀ (tokens_cells ts)) × (n ≡ over n₀ (names_cells ns))

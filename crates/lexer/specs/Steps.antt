@@ -1,6 +1,7 @@
 -- What the reader's loop does at one turn: a piece, its name numbered, and the names' cells that it adds.
 -- `numbered_from` says the same of all pieces; that turns add up to it is shown in `proofs/Turns.antt`.
-use Rattle.std.specs.Prelude.{ℕ, ◌+◌, ◌*◌, ◌%◌, ◌≤◌, ◌<◌, ◌≡◌, List, [], ◌∷◌, ltb, length, get_or, take}
+use Rattle.std.specs.Prelude.{ℕ, ◌+◌, ◌*◌, ◌%◌, ◌≤◌, ◌<◌, ◌≡◌, List, [], ◌∷◌, ltb, length, get_or, take, Result, Ok}
+use Rattle.std.specs.Prelude.{Err}
 use Rattle.std.proofs.lemmas.List.Edits.{sets}
 use Rattle.std.proofs.Math.Seq.{slice}
 use Rattle.utils.specs.Bytes.{pick}
@@ -8,7 +9,7 @@ use Rattle.pieces.specs.Tokens.{token_cells}
 use Rattle.pieces.specs.Pieces.{token}
 use Rattle.utils.specs.Limits.{most_names, most_tokens}
 use Rattle.lexer.specs.Sizes.{names_size, token_width, name_width}
-use Rattle.lexer.specs.Numbered.{Part, part, identified, named}
+use Rattle.lexer.specs.Numbered.{Part, part, at_token, identified, named}
 use Rattle.pieces.specs.declared.Cursor.{Cursor}
 use Rattle.pieces.specs.declared.Token.{Token}
 use Rattle.pieces.specs.declared.TokenValue.TheVariants as T
@@ -19,6 +20,8 @@ use Rattle.pieces.specs.declared.Lexed.{Lexed}
 use Rattle.pieces.specs.declared.Lexed.TheVariants as L
 use Rattle.lexer.specs.declared.Next.{Next}
 use Rattle.lexer.specs.declared.Next.TheVariants as N
+use Rattle.pieces.specs.declared.Refusal.{Refusal}
+use Rattle.pieces.specs.declared.Refusal.TheVariants as R
 
 -- the names that cells hold, two cells a name
 unfoldable pub parts_of : List ℕ → List Part
@@ -63,31 +66,35 @@ pub record Prints (text cells : List ℕ) (count : ℕ) (prints : List ℕ) : Ty
   pub each : (k : ℕ) → k < count → get_or prints k 0 ≡ print_of (spelled_at text cells k)
 
 -- what a name adds to the names' cells
-abbrev pub new_cells : Name → Identified → List ℕ
-new_cells n (I.Known i) = []
-new_cells n (I.New i) = n.place ∷ n.len ∷ []
-new_cells n (I.Refused r) = []
+abbrev pub new_cells : Name → Result Identified Refusal → List ℕ
+new_cells n (Ok (I.Known i)) = []
+new_cells n (Ok (I.New i)) = n.place ∷ n.len ∷ []
+new_cells n (Err r) = []
 
 -- a name that has its number, and how many names there are then
-abbrev pub next_name : ℕ → Name → Cursor → Identified → Next
-next_name count n c (I.Known i) = N.Token (named n i) c count
-next_name count n c (I.New i) = N.Token (named n i) c (count + 1)
-next_name count n c (I.Refused r) = N.Refused r
+abbrev pub next_name : ℕ → Name → Cursor → Result Identified Refusal → Result Next Refusal
+next_name count n c (Ok (I.Known i)) = Ok (N.Token (named n i) c count)
+next_name count n c (Ok (I.New i)) = Ok (N.Token (named n i) c (count + 1))
+next_name count n c (Err r) = Err r
 
-unfoldable pub next_of : List ℕ → List Part → ℕ → Lexed → Next
-next_of s names count (L.Skipped c) = N.Skipped c
-next_of s names count (L.Name n c) = next_name count n c (identified s names n)
-next_of s names count (L.Token t c) = N.Token t c count
-next_of s names count (L.End c) = N.End (token T.EndOfFile c.line c.place)
-next_of s names count (L.Refused r) = N.Refused r
+unfoldable pub next_of : List ℕ → List Part → ℕ → Result Lexed Refusal → Result Next Refusal
+next_of s names count (Ok (L.Skipped c)) = Ok (N.Skipped c)
+next_of s names count (Ok (L.Name n c)) = next_name count n c (identified s names n)
+next_of s names count (Ok (L.Token t c)) = Ok (N.Token t c count)
+next_of s names count (Ok (L.End c)) = Ok (N.End (token T.EndOfFile c.line c.place))
+next_of s names count (Err r) = Err r
 
 -- what a piece adds to the names' cells
-unfoldable pub added_by : List ℕ → List Part → Lexed → List ℕ
-added_by s names (L.Skipped c) = []
-added_by s names (L.Name n c) = new_cells n (identified s names n)
-added_by s names (L.Token t c) = []
-added_by s names (L.End c) = []
-added_by s names (L.Refused r) = []
+unfoldable pub added_by : List ℕ → List Part → Result Lexed Refusal → List ℕ
+added_by s names (Ok (L.Skipped c)) = []
+added_by s names (Ok (L.Name n c)) = new_cells n (identified s names n)
+added_by s names (Ok (L.Token t c)) = []
+added_by s names (Ok (L.End c)) = []
+added_by s names (Err r) = []
+
+-- whether there is room for a token behind `count` others: the token one too many is 32
+unfoldable pub room_for : ℕ → Token → Result Unit Refusal
+room_for count t = pick (ltb count most_tokens) (Ok tt) (Err (R.TooManyTokens (at_token t)))
 
 -- the tokens' cells with one token more, where there is room for it
 unfoldable pub pushed : List ℕ → ℕ → Token → List ℕ

@@ -4,31 +4,22 @@
 pub mod names;
 pub mod sizes;
 
-ghost use Rattle.std.specs.Prelude.{◌≡◌, ◌+◌, ◌*◌, ◌≤◌, ◌<◌, ltb, length};
+ghost use Rattle.std.specs.Prelude.{◌≡◌, ◌+◌, ◌*◌, ◌≤◌, ◌<◌, length};
 ghost use Rattle.std.proofs.lemmas.List.Edits.{sets};
 ghost use Rattle.pieces.specs.Tokens.{token_cells};
-ghost use Rattle.utils.specs.Limits.{most_tokens};
 ghost use Rattle.lexer.specs.Sizes.{token_width, tokens_size};
-ghost use Rattle.lexer.specs.Steps.{pushed};
+ghost use Rattle.lexer.specs.Steps.{room_for, pushed};
 ghost use Rattle.lexer.specs.Decoded.{tokens_of, name_in, integer_in, index_behind, token_at, name_of};
 
 use crate::sizes::{NAME_CELLS, TOKEN_CELLS};
 use pieces::{Cursor, Identifier, Location, Refusal, Token, kinds, tokens};
 use utils::{limits, put_cells};
 
-// A name's number, or none: the Rust's Option<Identifier>.
-#[derive(Clone, Copy)]
-pub enum Found {
-    At(Identifier),
-    Nothing,
-}
-
 // A name's number, in the table already or new to it.
 #[derive(Clone, Copy)]
 pub enum Identified {
     Known(Identifier),
     New(Identifier),
-    Refused(Refusal),
 }
 
 // One turn of `lexing::lex_all`: a piece whose name has its number.
@@ -38,14 +29,13 @@ pub enum Next {
     // The token, the cursor after it, and how many names there are then.
     Token(Token, Cursor, usize),
     End(Token),
-    Refused(Refusal),
 }
 
-// What `lexing::lex_text` answers: how many tokens and names a text has.
+// How many tokens and names a text has.
 #[derive(Clone, Copy)]
-pub enum LexResult {
-    Done { tokens: u32, names: u32 },
-    Refused(Refusal),
+pub struct Counts {
+    pub tokens: u32,
+    pub names: u32,
 }
 
 // What `read::read` answers: document 01's number, line and place, and how many tokens and names there are.
@@ -83,15 +73,19 @@ fn put_token(cells: &mut [u32], count: usize, token: Token)
 }
 
 // Stores a token behind `count` others, where there is room for it.
-pub fn push_token(cells: &mut [u32], count: usize, token: Token) -> bool
+pub fn push_token(cells: &mut [u32], count: usize, token: Token) -> Result<(), Refusal>
     requires { (tokens_size ≤ length cells.old) × (token.place < 4294967296) }
-    ensures { (result ≡ ltb count most_tokens) × (cells.new ≡ pushed cells.old count token) }
+    ensures value { result ≡ room_for count token }
+    ensures cells_after { cells.new ≡ pushed cells.old count token }
 {
     if count < limits::TOKENS {
         put_token(cells, count, token);
-        return true;
+        return Ok(());
     }
-    false
+    Err(Refusal::TooManyTokens(Cursor {
+        place: token.place,
+        line: token.line.0,
+    }))
 }
 
 // The number that a name's token carries in its second cell; 0 where the kind is no name's.

@@ -7,8 +7,8 @@ ghost use Rattle.lexer.specs.Sizes.{name_width};
 ghost use Rattle.lexer.specs.Numbered.{index_of, spellings, identified};
 ghost use Rattle.lexer.specs.Steps.{first_names, Table, new_cells, print_of, spelled_at, Prints};
 
+use crate::Identified;
 use crate::sizes::NAME_CELLS;
-use crate::{Found, Identified};
 use pieces::{Cursor, Identifier, Name, Refusal, tokens};
 use utils::{limits, put_cells};
 
@@ -80,7 +80,7 @@ fn lookup(
     place: usize,
     len: usize,
     print: u32,
-) -> Found
+) -> Option<Identifier>
     requires { Table text.now names.now count × Prints text.now names.now count prints.now
         × (place + len ≤ length text.now) × (print ≡ print_of (slice place (place + len) text.now)) }
     ensures { result ≡ index_of (slice place (place + len) text.now)
@@ -89,11 +89,11 @@ fn lookup(
     let mut k: usize = 0;
     while k < count {
         if is_name(text, names, prints, count, k, place, len, print) {
-            return Found::At(Identifier(k as u32));
+            return Some(Identifier(k as u32));
         }
         k += 1;
     }
-    Found::Nothing
+    None
 }
 
 // A name's number; a new name is stored behind the `count` that there are.
@@ -103,7 +103,7 @@ pub fn get_identifier(
     prints: &[u32],
     count: usize,
     name: Name,
-) -> Identified
+) -> Result<Identified, Refusal>
     requires { Table text.now names.old count × Prints text.now names.old count prints.now
         × (name.place + name.len ≤ length text.now) }
     ensures value { result ≡ identified text.now (first_names count names.old) name }
@@ -116,18 +116,18 @@ pub fn get_identifier(
         line: name.line.0,
     };
     if limits::NAME_BYTES < len {
-        return Identified::Refused(Refusal::NameTooLong(at));
+        return Err(Refusal::NameTooLong(at));
     }
     let print = print_of(&text[place..place + len]);
     match lookup(text, names, prints, count, place, len, print) {
-        Found::At(i) => Identified::Known(i),
-        Found::Nothing => {
+        Some(i) => Ok(Identified::Known(i)),
+        None => {
             if limits::NAMES <= count {
-                return Identified::Refused(Refusal::TooManyNames(at));
+                return Err(Refusal::TooManyNames(at));
             }
             let part = [place as u32, len as u32];
             put_cells(names, count * NAME_CELLS, &part);
-            Identified::New(Identifier(count as u32))
+            Ok(Identified::New(Identifier(count as u32)))
         }
     }
 }

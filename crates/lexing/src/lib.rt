@@ -6,11 +6,11 @@ ghost use Rattle.std.proofs.lemmas.List.Edits.{sets};
 ghost use Rattle.pieces.specs.Pieces.{piece_at};
 ghost use Rattle.utils.specs.Limits.{most_bytes};
 ghost use Rattle.lexer.specs.Sizes.{tokens_size, names_size};
-ghost use Rattle.lexer.specs.Numbered.{at_token, identified, named, numbered};
+ghost use Rattle.lexer.specs.Numbered.{identified, named, numbered};
 ghost use Rattle.lexer.specs.Steps.{first_names, Table, new_cells, Prints, next_name, next_of, added_by};
 ghost use Rattle.lexer.specs.Read.{lexed_from, result_of, Held};
 
-use lexer::{Identified, LexResult, Next, names, push_token};
+use lexer::{Counts, Identified, Next, names, push_token};
 use pieces::{Cursor, Identifier, Lexed, Location, Name, Refusal, Token, TokenValue, scan, tokens};
 use utils::limits;
 
@@ -35,7 +35,7 @@ fn number_name(
     count: usize,
     name: Name,
     next: Cursor,
-) -> Next
+) -> Result<Next, Refusal>
     requires { Table text.now names.old count × Prints text.now names.old count prints.now
         × (name.place + name.len ≤ length text.now) }
     ensures value { result ≡ next_name count name next
@@ -43,15 +43,21 @@ fn number_name(
     ensures names_after { names.new ≡ sets names.old (count * 2)
         (new_cells name (identified text.now (first_names count names.old) name)) }
 {
-    match names::get_identifier(text, names, prints, count, name) {
-        Identified::Known(i) => Next::Token(named(name, i), next, count),
-        Identified::New(i) => Next::Token(named(name, i), next, count + 1),
-        Identified::Refused(refusal) => Next::Refused(refusal),
+    match names::get_identifier(text, names, prints, count, name)? {
+        Identified::Known(i) => Ok(Next::Token(named(name, i), next, count)),
+        Identified::New(i) => Ok(Next::Token(named(name, i), next, count + 1)),
     }
 }
 
 // A piece, with its name numbered.
-fn next_token(text: &[u8], names: &mut [u32], prints: &[u32], count: usize, at: Cursor) -> Next
+#[tactic(auto, unfolding(lexer::specs::Steps::next_of, lexer::specs::Steps::added_by))]
+fn next_token(
+    text: &[u8],
+    names: &mut [u32],
+    prints: &[u32],
+    count: usize,
+    at: Cursor,
+) -> Result<Next, Refusal>
     requires { Table text.now names.old count × Prints text.now names.old count prints.now
         × (at.place ≤ length text.now) × (at.line < 4294967295) }
     ensures value { result ≡ next_of text.now (first_names count names.old) count
@@ -60,21 +66,20 @@ fn next_token(text: &[u8], names: &mut [u32], prints: &[u32], count: usize, at: 
         (added_by text.now (first_names count names.old)
         (piece_at text.now at.place at.line)) }
 {
-    match reader::lex_at(text, at.place, at.line) {
-        Lexed::Skipped(next) => Next::Skipped(next),
-        Lexed::Token(token, next) => Next::Token(token, next, count),
+    match reader::lex_at(text, at.place, at.line)? {
+        Lexed::Skipped(next) => Ok(Next::Skipped(next)),
+        Lexed::Token(token, next) => Ok(Next::Token(token, next, count)),
         Lexed::Name(name, next) => number_name(text, names, prints, count, name, next),
-        Lexed::End(end) => Next::End(Token {
+        Lexed::End(end) => Ok(Next::End(Token {
             value: TokenValue::EndOfFile,
             line: Location(end.line),
             place: end.place,
-        }),
-        Lexed::Refused(refusal) => Next::Refused(refusal),
+        })),
     }
 }
 
 // The cells of tokens and names, stored over what the slices hold.
-fn lex_all(text: &[u8], line: u32, tokens: &mut [u32], names: &mut [u32]) -> LexResult
+fn lex_all(text: &[u8], line: u32, tokens: &mut [u32], names: &mut [u32]) -> Result<Counts, Refusal>
     requires { (length text.now ≤ most_bytes) × (line ≤ 2147483648)
         × (tokens_size ≤ length tokens.old) × (names_size ≤ length names.old) }
     ensures value { result ≡ result_of (numbered text.now line) }
@@ -86,56 +91,43 @@ fn lex_all(text: &[u8], line: u32, tokens: &mut [u32], names: &mut [u32]) -> Lex
     let mut known: usize = 0;
     let mut at = Cursor { place: 0, line };
     loop {
-        match next_token(text, names, &prints, known, at) {
-            Next::Skipped(next) => {
-                at = next;
-            }
+        match next_token(text, names, &prints, known, at)? {
+            Next::Skipped(next) => at = next,
             Next::Token(token, next, then) => {
-                if !push_token(tokens, count, token) {
-                    return LexResult::Refused(too_many(token));
-                }
+                push_token(tokens, count, token)?;
                 names::keep_print(text, names, &mut prints, known, then);
                 count += 1;
                 known = then;
                 at = next;
             }
             Next::End(token) => {
-                if !push_token(tokens, count, token) {
-                    return LexResult::Refused(too_many(token));
-                }
-                return LexResult::Done {
+                push_token(tokens, count, token)?;
+                return Ok(Counts {
                     tokens: count as u32 + 1,
                     names: known as u32,
-                };
-            }
-            Next::Refused(refusal) => {
-                return LexResult::Refused(refusal);
+                });
             }
         }
     }
 }
 
-fn too_many(token: Token) -> Refusal
-    ensures { result ≡ Refusal.TooManyTokens (at_token token) }
-{
-    Refusal::TooManyTokens(Cursor {
-        place: token.place,
-        line: token.line.0,
-    })
-}
-
 // 31, then 1, then from left to right.
-pub fn lex_text(text: &[u8], line: u32, tokens: &mut [u32], names: &mut [u32]) -> LexResult
+pub fn lex_text(
+    text: &[u8],
+    line: u32,
+    tokens: &mut [u32],
+    names: &mut [u32],
+) -> Result<Counts, Refusal>
     requires { (line ≤ 2147483648) × (tokens_size ≤ length tokens.old) × (names_size ≤ length names.old) }
     ensures value { result ≡ result_of (lexed_from line text.now) }
     ensures held { Held (lexed_from line text.now)
         tokens.old names.old tokens.new names.new }
 {
     if limits::BYTES < text.len() {
-        return LexResult::Refused(Refusal::TooManyBytes);
+        return Err(Refusal::TooManyBytes);
     }
     if !scan::is_ascii(text) {
-        return LexResult::Refused(Refusal::NotAscii(line));
+        return Err(Refusal::NotAscii(line));
     }
     lex_all(text, line, tokens, names)
 }

@@ -1,5 +1,6 @@
 -- Every piece but the end takes a byte or more and stays in the text: what a turn of the reader's loop needs.
 -- Each scan ends between its start and the text's end, and `piece_at` is cases over the scans.
+use Rattle.std.specs.Prelude.{Option, Some, None, Result, Ok, Err}
 use Prim.Native.Nat.{ℕ, zero, suc, ◌+◌, ◌-◌, ◌*◌, ◌≤◌, ◌<◌}
 use mathlib.Core.Path.{◌≡◌, refl}
 use mathlib.Core.Bool.{Bool, true, false}
@@ -18,17 +19,14 @@ use Rattle.pieces.specs.Pieces.{name_end_at}
 use Rattle.pieces.specs.Pieces.{on_comment, slash_at, digit_at, minus_at, name_at, sigil_at, then_value, word_at}
 use Rattle.pieces.specs.Pieces.{symbol_at, token_from, piece_at, Pieces, on_piece, pieces_from, pieces}
 use Rattle.pieces.specs.declared.Cursor.{Cursor}
-use Rattle.pieces.specs.declared.Comment.{Comment}
-use Rattle.pieces.specs.declared.Comment.TheVariants as C
 use Rattle.pieces.specs.declared.Name.{Name}
 use Rattle.pieces.specs.declared.Number.{Number}
 use Rattle.pieces.specs.declared.Token.{Token}
-use Rattle.pieces.specs.declared.OptionValue.{OptionValue}
-use Rattle.pieces.specs.declared.OptionValue.TheVariants as O
 use Rattle.pieces.specs.declared.Refusal.{Refusal}
 use Rattle.pieces.specs.declared.Refusal.TheVariants as R
 use Rattle.pieces.specs.declared.Lexed.{Lexed}
 use Rattle.pieces.specs.declared.Lexed.TheVariants as L
+use Rattle.pieces.specs.declared.TokenValue.{TokenValue}
 
 -- A choice has a property that both of its sides have, each where the test picks it.
 pub pick_either : {A : Type 0} (P : A → Type 0) (t : Bool) (a b : A)
@@ -63,14 +61,14 @@ line_end-to (b ∷ r) at =
     (λ t. omega arith) (λ t. omega (arith, line_end-to r (at + 1)))
 
 -- where a comment's closing lies
-abbrev pub ClosedIn : ℕ → ℕ → Comment → Type 0
-ClosedIn from to (C.Closed end) = (from < end) × (end ≤ to)
-ClosedIn from to C.Open = Unit
+abbrev pub ClosedIn : ℕ → ℕ → Option ℕ → Type 0
+ClosedIn from to (Some end) = (from < end) × (end ≤ to)
+ClosedIn from to None = Unit
 
-closed_in_later : (from from' to to' : ℕ) (c : Comment)
+closed_in_later : (from from' to to' : ℕ) (c : Option ℕ)
     → from ≤ from' → to' ≤ to → ClosedIn from' to' c → ClosedIn from to c
-closed_in_later from from' to to' (C.Closed end) h k p = omega arith
-closed_in_later from from' to to' C.Open h k p = tt
+closed_in_later from from' to to' (Some end) h k p = omega arith
+closed_in_later from from' to to' None h k p = tt
 
 pub comment_end_in : (star : Bool) (r : List ℕ) (at : ℕ) → ClosedIn at (at + length r) (comment_end star r at)
 unfolding comment_end
@@ -144,9 +142,9 @@ name_end-past s at h d =
 
 -- The words and the tokens of one byte have kinds from 4 to 37: none is a name or the end. --------------------------
 
-abbrev pub Plain : OptionValue → Type 0
-Plain (O.Some v) = (4 ≤ kind_of v) × (kind_of v < 38)
-Plain O.None = Unit
+abbrev pub Plain : Option TokenValue → Type 0
+Plain (Some v) = (4 ≤ kind_of v) × (kind_of v < 38)
+Plain None = Unit
 
 abbrev AllWords : (ℕ → Type 0) → List Word → Type 0
 AllWords P [] = Unit
@@ -224,12 +222,12 @@ pub record RefusedPast (at line : ℕ) (r : Refusal) : Type 0 where
   pub place : (facts_of r).place ≡ at
   pub line_of : (facts_of r).line ≡ line
 
-abbrev pub Past : ℕ → ℕ → ℕ → Lexed → Type 0
-Past n at line (L.Skipped c) = SkippedPast n at line c
-Past n at line (L.Name m c) = NamePast n at line m c
-Past n at line (L.Token t c) = TokenPast n at line t c
-Past n at line (L.End c) = EndPast n at line c
-Past n at line (L.Refused r) = RefusedPast at line r
+abbrev pub Past : ℕ → ℕ → ℕ → Result Lexed Refusal → Type 0
+Past n at line (Ok (L.Skipped c)) = SkippedPast n at line c
+Past n at line (Ok (L.Name m c)) = NamePast n at line m c
+Past n at line (Ok (L.Token t c)) = TokenPast n at line t c
+Past n at line (Ok (L.End c)) = EndPast n at line c
+Past n at line (Err r) = RefusedPast at line r
 
 module _ (s : List ℕ) (at line : ℕ) (h : at < length s) where
   -- a byte that is not 0 stands in the text
@@ -251,10 +249,10 @@ module _ (s : List ℕ) (at line : ℕ) (h : at < length s) where
       (λ e. closed (comment_end false r (at + 2)) (second_in 42 (omega arith) e) (comment_end_in false r (at + 2)))
       (λ _. omega arith))
     where
-      closed : (c : Comment) → at + 2 ≤ length s → ClosedIn (at + 2) (at + 2 + length (drop (at + 2) s)) c
+      closed : (c : Option ℕ) → at + 2 ≤ length s → ClosedIn (at + 2) (at + 2 + length (drop (at + 2) s)) c
           → Past (length s) at line (on_comment at line c)
-      closed (C.Closed end) w p = omega (arith, left-from s (at + 2) w)
-      closed C.Open w p = omega arith
+      closed (Some end) w p = omega (arith, left-from s (at + 2) w)
+      closed None w p = omega arith
 
   digit_past : is_digit (get_or s at 0) ≡ true → Past (length s) at line (digit_at s at line)
   unfolding digit_at
@@ -311,24 +309,24 @@ module _ (s : List ℕ) (at line : ℕ) (h : at < length s) where
       end : ℕ
       end = name_end (drop (at + 1) s) (at + 1)
 
-      worded : (v : OptionValue) → Plain v
+      worded : (v : Option TokenValue) → Plain v
           → Past (length s) at line
-          (then_value v (λ v. L.Token (token v line at) (cursor end line)) (name_at 1 s at line))
-      worded (O.Some v) p =
+          (then_value v (λ v. Ok (L.Token (token v line at) (cursor end line))) (name_at 1 s at line))
+      worded (Some v) p =
           let r = drop (at + 1) s in
           omega (arith, name_end-from r (at + 1), name_end-to r (at + 1), left-from s (at + 1) (omega arith))
-      worded O.None p = name-past 1 (omega arith) (omega arith) (λ k. absurd (omega arith))
+      worded None p = name-past 1 (omega arith) (omega arith) (λ k. absurd (omega arith))
 
   symbol-past : Past (length s) at line (symbol_at s at line)
   unfolding symbol_at then_value
   symbol-past = found (symbol (get_or s at 0)) (symbol-plain (get_or s at 0))
     where
-      found : (v : OptionValue) → Plain v
+      found : (v : Option TokenValue) → Plain v
           → Past (length s) at line
-          (then_value v (λ v. L.Token (token v line at) (cursor (at + 1) line))
-          (L.Refused (R.UnexpectedByte (get_or s at 0) (cursor at line))))
-      found (O.Some v) p = omega arith
-      found O.None p = omega arith
+          (then_value v (λ v. Ok (L.Token (token v line at) (cursor (at + 1) line)))
+          (Err (R.UnexpectedByte (get_or s at 0) (cursor at line))))
+      found (Some v) p = omega arith
+      found None p = omega arith
 
   token-past : Past (length s) at line (token_from s at line)
   unfolding token_from
@@ -372,13 +370,13 @@ pieces_from-end (suc turns) s at line h g =
     on (λ at' line' h' g'. pieces_from-end turns s at' line' h' g') (piece_at s at line) (piece_past s at line h)
   where
     on : ((at' line' : ℕ) → at' ≤ length s → length s < turns + at' → Ended (pieces_from turns s at' line'))
-        → (l : Lexed) → Past (length s) at line l
+        → (l : Result Lexed Refusal) → Past (length s) at line l
         → Ended (on_piece (λ c. pieces_from turns s c.place c.line) l)
-    on later (L.Skipped c) p = later c.place c.line (omega arith) (omega arith)
-    on later (L.Name n c) p = later c.place c.line (omega arith) (omega arith)
-    on later (L.Token t c) p = later c.place c.line (omega arith) (omega arith)
-    on later (L.End c) p = tt
-    on later (L.Refused r) p = tt
+    on later (Ok (L.Skipped c)) p = later c.place c.line (omega arith) (omega arith)
+    on later (Ok (L.Name n c)) p = later c.place c.line (omega arith) (omega arith)
+    on later (Ok (L.Token t c)) p = later c.place c.line (omega arith) (omega arith)
+    on later (Ok (L.End c)) p = tt
+    on later (Err r) p = tt
 
 pub pieces_end : (s : List ℕ) (line : ℕ) → Ended (pieces s line)
 pieces_end s line = pieces_from-end (suc (length s)) s 0 line (omega arith) (omega arith)

@@ -1,14 +1,12 @@
 -- Token values with the Rust's names, the kind that a token's cell holds for each, the 25 words and the eight tokens of
 -- one byte.
-use Rattle.std.specs.Prelude.{ℕ, List, [], ◌∷◌, eqb}
+use Rattle.std.specs.Prelude.{ℕ, List, [], ◌∷◌, eqb, Option, Some, None}
 use Prim.Native.String.{String}
 use Rattle.utils.specs.Bytes.{pick, bytes, same_bytes}
 use Rattle.pieces.specs.declared.TokenValue.{TokenValue}
 use Rattle.pieces.specs.declared.TokenValue.TheVariants as T
 use Rattle.pieces.specs.declared.Kinded.{Kinded}
 use Rattle.pieces.specs.declared.Token.{Token}
-use Rattle.pieces.specs.declared.OptionValue.{OptionValue}
-use Rattle.pieces.specs.declared.OptionValue.TheVariants as O
 
 -- The kind of a value, in the order of the Rust's enum. 0 is no kind: it fills unused room.
 abbrev pub kind_of : TokenValue → ℕ
@@ -179,23 +177,23 @@ words =
     word "bool" T.Bool ∷
     []
 
-unfoldable pub word_in : List Word → List ℕ → OptionValue
-word_in [] s = O.None
-word_in (w ∷ ws) s = let more = word_in ws s in pick (same_bytes w.spelling s) (O.Some w.value) more
+unfoldable pub word_in : List Word → List ℕ → Option TokenValue
+word_in [] s = None
+word_in (w ∷ ws) s = let more = word_in ws s in pick (same_bytes w.spelling s) (Some w.value) more
 
 -- The value of a word of the language, or nothing: then the letters are a local's name.
-abbrev pub keyword : List ℕ → OptionValue
+abbrev pub keyword : List ℕ → Option TokenValue
 keyword s = word_in words s
 
 -- The tokens of one byte.
-unfoldable pub symbol : ℕ → OptionValue
+unfoldable pub symbol : ℕ → Option TokenValue
 symbol b =
-    pick (eqb b 40) (O.Some T.LeftParen)
-    (pick (eqb b 41) (O.Some T.RightParen)
-    (pick (eqb b 123) (O.Some T.LeftBrace)
-    (pick (eqb b 125) (O.Some T.RightBrace)
-    (pick (eqb b 58) (O.Some T.Colon)
-    (pick (eqb b 59) (O.Some T.Semicolon)
-    (pick (eqb b 61) (O.Some T.Define)
-    (pick (eqb b 44) (O.Some T.Comma)
-    O.None)))))))
+    pick (eqb b 40) (Some T.LeftParen)
+    (pick (eqb b 41) (Some T.RightParen)
+    (pick (eqb b 123) (Some T.LeftBrace)
+    (pick (eqb b 125) (Some T.RightBrace)
+    (pick (eqb b 58) (Some T.Colon)
+    (pick (eqb b 59) (Some T.Semicolon)
+    (pick (eqb b 61) (Some T.Define)
+    (pick (eqb b 44) (Some T.Comma)
+    None)))))))

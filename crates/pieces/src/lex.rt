@@ -3,32 +3,29 @@ ghost use Rattle.std.specs.Prelude.{◌≡◌, ◌+◌, ◌-◌, ◌≤◌, ◌<
 ghost use Rattle.pieces.specs.Pieces.{cursor, name, slash_at, digit_at, minus_at, name_at, sigil_at, word_at, symbol_at};
 ghost use Rattle.pieces.specs.Pieces.{token_from};
 
-use crate::{
-    Comment, Cursor, Lexed, Location, Name, OptionValue, Refusal, Token, TokenValue, kinds, scan,
-    tokens,
-};
+use crate::{Cursor, Lexed, Location, Name, Refusal, Token, TokenValue, kinds, scan, tokens};
 
 // At a slash: a comment, or a byte that begins nothing.
-pub(crate) fn lex_slash(text: &[u8], at: usize, line: u32) -> Lexed
+pub(crate) fn lex_slash(text: &[u8], at: usize, line: u32) -> Result<Lexed, Refusal>
     requires { at < length text.now }
     ensures { result ≡ slash_at text.now at line }
 {
     let b = scan::peek(text, at + 1);
     if b == b'/' {
         let place = scan::line_end(text, at + 2);
-        return Lexed::Skipped(Cursor { place, line });
+        return Ok(Lexed::Skipped(Cursor { place, line }));
     }
     if b == b'*' {
         return match scan::comment_end(text, at + 2) {
-            Comment::Closed(place) => Lexed::Skipped(Cursor { place, line }),
-            Comment::Open => Lexed::Refused(Refusal::CommentNotClosed(Cursor { place: at, line })),
+            Some(place) => Ok(Lexed::Skipped(Cursor { place, line })),
+            None => Err(Refusal::CommentNotClosed(Cursor { place: at, line })),
         };
     }
-    Lexed::Refused(Refusal::UnexpectedByte(b'/', Cursor { place: at, line }))
+    Err(Refusal::UnexpectedByte(b'/', Cursor { place: at, line }))
 }
 
 // At a digit. The Rust drops what its parse::<i32>() refuses, and goes on; here it is refused.
-fn lex_digit(text: &[u8], at: usize, line: u32) -> Lexed
+fn lex_digit(text: &[u8], at: usize, line: u32) -> Result<Lexed, Refusal>
     ensures { result ≡ digit_at text.now at line }
 {
     let n = scan::lex_number(text, at);
@@ -39,19 +36,19 @@ fn lex_digit(text: &[u8], at: usize, line: u32) -> Lexed
             line: Location(line),
             place: at,
         };
-        return Lexed::Token(token, Cursor { place: n.end, line });
+        return Ok(Lexed::Token(token, Cursor { place: n.end, line }));
     }
-    Lexed::Refused(Refusal::NumberOutOfRange(Cursor { place: at, line }))
+    Err(Refusal::NumberOutOfRange(Cursor { place: at, line }))
 }
 
 // At a minus.
-fn lex_minus(text: &[u8], at: usize, line: u32) -> Lexed
+fn lex_minus(text: &[u8], at: usize, line: u32) -> Result<Lexed, Refusal>
     requires { at < length text.now }
     ensures { result ≡ minus_at text.now at line }
 {
     let b = scan::peek(text, at + 1);
     if !scan::is_digit(b) {
-        return Lexed::Refused(Refusal::NumberExpected(Cursor { place: at, line }));
+        return Err(Refusal::NumberExpected(Cursor { place: at, line }));
     }
     let n = scan::lex_number(text, at + 1);
     let value = n.value;
@@ -62,15 +59,15 @@ fn lex_minus(text: &[u8], at: usize, line: u32) -> Lexed
             line: Location(line),
             place: at,
         };
-        return Lexed::Token(token, Cursor { place: n.end, line });
+        return Ok(Lexed::Token(token, Cursor { place: n.end, line }));
     }
-    Lexed::Refused(Refusal::NumberExpected(Cursor { place: at, line }))
+    Err(Refusal::NumberExpected(Cursor { place: at, line }))
 }
 
 // A name from its first byte to its end.
-fn name_to(kind: u32, at: usize, end: usize, line: u32) -> Lexed
+fn name_to(kind: u32, at: usize, end: usize, line: u32) -> Result<Lexed, Refusal>
     requires { at ≤ end }
-    ensures { result ≡ Lexed.Name (name kind at (end - at) line) (cursor end line) }
+    ensures { result ≡ Ok (Lexed.Name (name kind at (end - at) line) (cursor end line)) }
 {
     let name = Name {
         kind,
@@ -78,11 +75,11 @@ fn name_to(kind: u32, at: usize, end: usize, line: u32) -> Lexed
         len: end - at,
         line: Location(line),
     };
-    Lexed::Name(name, Cursor { place: end, line })
+    Ok(Lexed::Name(name, Cursor { place: end, line }))
 }
 
 // From a name's first byte, a sigil or a letter, to its end.
-fn lex_name(kind: u32, text: &[u8], at: usize, line: u32) -> Lexed
+fn lex_name(kind: u32, text: &[u8], at: usize, line: u32) -> Result<Lexed, Refusal>
     requires { at < length text.now }
     ensures { result ≡ name_at kind text.now at line }
 {
@@ -91,7 +88,7 @@ fn lex_name(kind: u32, text: &[u8], at: usize, line: u32) -> Lexed
 }
 
 // At `@` or `.`, which a letter must follow.
-fn lex_sigil(kind: u32, text: &[u8], at: usize, line: u32) -> Lexed
+fn lex_sigil(kind: u32, text: &[u8], at: usize, line: u32) -> Result<Lexed, Refusal>
     requires { at < length text.now }
     ensures { result ≡ sigil_at kind text.now at line }
 {
@@ -99,50 +96,50 @@ fn lex_sigil(kind: u32, text: &[u8], at: usize, line: u32) -> Lexed
     if scan::is_letter(b) {
         return lex_name(kind, text, at, line);
     }
-    Lexed::Refused(Refusal::UnexpectedByte(text[at], Cursor { place: at, line }))
+    Err(Refusal::UnexpectedByte(text[at], Cursor { place: at, line }))
 }
 
 // At a letter: a word of the language, or a local.
-fn lex_word(text: &[u8], at: usize, line: u32) -> Lexed
+fn lex_word(text: &[u8], at: usize, line: u32) -> Result<Lexed, Refusal>
     requires { at < length text.now }
     ensures { result ≡ word_at text.now at line }
 {
     let end = scan::name_end(text, at + 1);
     match tokens::get_keyword(&text[at..end]) {
-        OptionValue::Some(value) => {
+        Some(value) => {
             let token = Token {
                 value,
                 line: Location(line),
                 place: at,
             };
-            Lexed::Token(token, Cursor { place: end, line })
+            Ok(Lexed::Token(token, Cursor { place: end, line }))
         }
-        OptionValue::None => name_to(kinds::LOCAL, at, end, line),
+        None => name_to(kinds::LOCAL, at, end, line),
     }
 }
 
 // A token of one byte, or a byte that begins nothing.
-fn lex_symbol(text: &[u8], at: usize, line: u32) -> Lexed
+fn lex_symbol(text: &[u8], at: usize, line: u32) -> Result<Lexed, Refusal>
     requires { at < length text.now }
     ensures { result ≡ symbol_at text.now at line }
 {
     let b = text[at];
     match tokens::from_char(b) {
-        OptionValue::Some(value) => {
+        Some(value) => {
             let token = Token {
                 value,
                 line: Location(line),
                 place: at,
             };
             let place = at + 1;
-            Lexed::Token(token, Cursor { place, line })
+            Ok(Lexed::Token(token, Cursor { place, line }))
         }
-        OptionValue::None => Lexed::Refused(Refusal::UnexpectedByte(b, Cursor { place: at, line })),
+        None => Err(Refusal::UnexpectedByte(b, Cursor { place: at, line })),
     }
 }
 
 // At a byte that is neither blank nor a comment's first.
-pub(crate) fn lex_token(text: &[u8], at: usize, line: u32) -> Lexed
+pub(crate) fn lex_token(text: &[u8], at: usize, line: u32) -> Result<Lexed, Refusal>
     requires { at < length text.now }
     ensures { result ≡ token_from text.now at line }
 {

@@ -70,13 +70,6 @@ pub struct Token {
     pub place: usize,
 }
 
-// A value, or none: the Rust's Option<TokenValue>.
-#[derive(Clone, Copy)]
-pub enum OptionValue {
-    Some(TokenValue),
-    None,
-}
-
 // The lexer's position: the next byte, and the line counted so far, which no newline in a comment adds to.
 #[derive(Clone, Copy)]
 pub struct Cursor {
@@ -123,7 +116,6 @@ pub enum Lexed {
     Name(Name, Cursor),
     Token(Token, Cursor),
     End(Cursor),
-    Refused(Refusal),
 }
 
 // A number's value, which counts no higher than 2147483649, and the place after it.
@@ -133,40 +125,33 @@ pub struct Number {
     pub end: usize,
 }
 
-// The place after a comment's closing, or no closing.
-#[derive(Clone, Copy)]
-pub enum Comment {
-    Closed(usize),
-    Open,
-}
-
 impl Cursor {
     // One piece of the text, and the cursor after it.
-    pub fn lex(self, text: &[u8]) -> Lexed
+    pub fn lex(self, text: &[u8]) -> Result<Lexed, Refusal>
         requires { self.line < 4294967295 }
         ensures { result ≡ piece_at text.now self.place self.line }
     {
         let at = self.place;
         let line = self.line;
         if text.len() <= at {
-            return Lexed::End(self);
+            return Ok(Lexed::End(self));
         }
         let b = text[at];
         if b == b'\n' {
-            return Lexed::Skipped(Cursor {
+            return Ok(Lexed::Skipped(Cursor {
                 place: at + 1,
                 line: line + 1,
-            });
+            }));
         }
         if scan::is_blank(b) {
-            return Lexed::Skipped(Cursor {
+            return Ok(Lexed::Skipped(Cursor {
                 place: at + 1,
                 line,
-            });
+            }));
         }
         if b == b'#' {
             let place = scan::line_end(text, at + 1);
-            return Lexed::Skipped(Cursor { place, line });
+            return Ok(Lexed::Skipped(Cursor { place, line }));
         }
         if b == b'/' {
             return lex::lex_slash(text, at, line);

@@ -5,7 +5,7 @@ ghost use Rattle.pieces.specs.Classes.{is_blank, is_digit, is_letter, is_name_pa
 ghost use Rattle.pieces.specs.Pieces.{line_end, closes, star_after, comment_end, name_end, number_at};
 ghost use Rattle.pieces.specs.Capped.{capped, capped_number};
 
-use crate::{Comment, Number};
+use crate::Number;
 
 pub(crate) fn is_blank(b: u8) -> bool
     ensures { result ≡ is_blank b }
@@ -119,8 +119,8 @@ fn star_after(star: bool, b: u8) -> bool
     b == b'*'
 }
 
-// From after a comment's opening to after its closing.
-pub(crate) fn comment_end(text: &[u8], at: usize) -> Comment
+// From after a comment's opening to after its closing, where it has one.
+pub(crate) fn comment_end(text: &[u8], at: usize) -> Option<usize>
     ensures { result ≡ comment_end false (drop at text.now) at }
 {
     let mut star = false;
@@ -128,12 +128,12 @@ pub(crate) fn comment_end(text: &[u8], at: usize) -> Comment
     while i < text.len() {
         let b = text[i];
         if closes_comment(star, b) {
-            return Comment::Closed(i + 1);
+            return Some(i + 1);
         }
         star = star_after(star, b);
         i += 1;
     }
-    Comment::Open
+    None
 }
 
 // One digit more. Where the number has left the range of 32 bits it stays there, whatever digits follow.

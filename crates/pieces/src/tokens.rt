@@ -5,7 +5,7 @@ ghost use Rattle.utils.specs.Bytes.{same_bytes};
 ghost use Rattle.pieces.specs.Tokens.{kinded_of, value_of};
 ghost use Rattle.pieces.specs.Tokens.{word_in, keyword, symbol};
 
-use crate::{Identifier, Kinded, OptionValue, TokenValue, kinds};
+use crate::{Identifier, Kinded, TokenValue, kinds};
 
 // The kind of a value and what it carries: the first two cells of its record.
 pub fn kinded(value: TokenValue) -> Kinded
@@ -127,24 +127,24 @@ fn is_word(part: &[u8], word: &[u8]) -> bool
 }
 
 // The value of a word's kind, where a part of the text is that word.
-fn only(part: &[u8], word: &[u8], kind: u32) -> OptionValue
+fn only(part: &[u8], word: &[u8], kind: u32) -> Option<TokenValue>
     ensures { result
         ≡ word_in (record { spelling = word.now; value = value_of kind 0 } ∷ []) part.now }
 {
     if is_word(part, word) {
-        return OptionValue::Some(value_of(kind, 0));
+        return Some(value_of(kind, 0));
     }
-    OptionValue::None
+    None
 }
 
 // The same of two words.
-fn either(part: &[u8], word: &[u8], kind: u32, other: &[u8], second: u32) -> OptionValue
+fn either(part: &[u8], word: &[u8], kind: u32, other: &[u8], second: u32) -> Option<TokenValue>
     ensures { result
         ≡ word_in (record { spelling = word.now; value = value_of kind 0 }
         ∷ record { spelling = other.now; value = value_of second 0 } ∷ []) part.now }
 {
     if is_word(part, word) {
-        return OptionValue::Some(value_of(kind, 0));
+        return Some(value_of(kind, 0));
     }
     only(part, other, second)
 }
@@ -155,14 +155,14 @@ const SHORTEST: usize = 2;
 const LONGEST: usize = 5;
 
 // The value of a word of the language, or none. No three words share their first letter.
-pub(crate) fn get_keyword(part: &[u8]) -> OptionValue
+pub(crate) fn get_keyword(part: &[u8]) -> Option<TokenValue>
     ensures { result ≡ keyword part.now }
 {
     if part.len() < SHORTEST {
-        return OptionValue::None;
+        return None;
     }
     if LONGEST < part.len() {
-        return OptionValue::None;
+        return None;
     }
     let first = part[0];
     match first {
@@ -183,22 +183,22 @@ pub(crate) fn get_keyword(part: &[u8]) -> OptionValue
         b'r' => only(part, b"ret", kinds::RET),
         b's' => only(part, b"sub", kinds::SUB),
         b't' => only(part, b"true", kinds::TRUE),
-        _ => OptionValue::None,
+        _ => None,
     }
 }
 
-pub(crate) fn from_char(b: u8) -> OptionValue
+pub(crate) fn from_char(b: u8) -> Option<TokenValue>
     ensures { result ≡ symbol b }
 {
     match b {
-        b'(' => OptionValue::Some(TokenValue::LeftParen),
-        b')' => OptionValue::Some(TokenValue::RightParen),
-        b'{' => OptionValue::Some(TokenValue::LeftBrace),
-        b'}' => OptionValue::Some(TokenValue::RightBrace),
-        b':' => OptionValue::Some(TokenValue::Colon),
-        b';' => OptionValue::Some(TokenValue::Semicolon),
-        b'=' => OptionValue::Some(TokenValue::Define),
-        b',' => OptionValue::Some(TokenValue::Comma),
-        _ => OptionValue::None,
+        b'(' => Some(TokenValue::LeftParen),
+        b')' => Some(TokenValue::RightParen),
+        b'{' => Some(TokenValue::LeftBrace),
+        b'}' => Some(TokenValue::RightBrace),
+        b':' => Some(TokenValue::Colon),
+        b';' => Some(TokenValue::Semicolon),
+        b'=' => Some(TokenValue::Define),
+        b',' => Some(TokenValue::Comma),
+        _ => None,
     }
 }

@@ -10,7 +10,7 @@ ghost use Rattle.lexer.specs.Sizes.{tokens_size, names_size};
 ghost use Rattle.lexer.specs.Read.{read_from, ReadsInto, Finishes, sized, IfSized, Reads};
 
 use lexer::sizes::{NAME_CELLS, TOKEN_CELLS};
-use lexer::{LexResult, ReadAnswer, sizes};
+use lexer::{ReadAnswer, sizes};
 use pieces::Location;
 use utils::{limits, numbers};
 
@@ -45,19 +45,16 @@ pub fn read_into(
         result tokens.new names.new message.new }
 {
     match lexing::lex_text(text, line, tokens, names) {
-        LexResult::Refused(refusal) => {
+        Err(refusal) => {
             report::report(message, refusal);
             report::answer_of(refusal)
         }
-        LexResult::Done {
-            tokens: count,
-            names: known,
-        } => ReadAnswer {
+        Ok(counts) => ReadAnswer {
             number: numbers::ACCEPTED,
             line: 0,
             place: 0,
-            tokens: count,
-            names: known,
+            tokens: counts.tokens,
+            names: counts.names,
         },
     }
 }

@@ -1,5 +1,6 @@
 -- Going on with the reader's step until the end or a refusal gives the pieces of the text: the reader behind a piece
 -- stands where the piece ends.
+use Rattle.std.specs.Prelude.{Result, Ok, Err}
 use Prim.Native.Nat.{ℕ, zero, suc}
 use mathlib.Core.Path.{◌≡◌, refl, ap}
 use mathlib.Core.List.{List}
@@ -12,22 +13,23 @@ use Rattle.pieces.specs.declared.Lexed.TheVariants as L
 use Rattle.reader.specs.Reader.{lexer, behind, stepped_at, step_of, on_step, going_on, reader_pieces}
 use Rattle.reader.specs.declared.Lexer.{Lexer}
 use Rattle.reader.specs.declared.Step.{Step}
+use Rattle.pieces.specs.declared.Refusal.{Refusal}
 
 module _ (source : Bor (List ℕ)) where
   -- what a step holds whose piece is p
-  abbrev with_piece : Cursor → Lexed → Step
+  abbrev with_piece : Cursor → Result Lexed Refusal → Step
   with_piece at p =
       record { source = source; place = (behind at p).place; line = (behind at p).line; piece = p }
 
   on_step_lem : (more : Lexer → Pieces) (more' : Cursor → Pieces)
       → ((c : Cursor) → more (lexer source c.place c.line) ≡ more' c)
-      → (at : Cursor) (p : Lexed) → on_step more (with_piece at p) p ≡ on_piece more' p
+      → (at : Cursor) (p : Result Lexed Refusal) → on_step more (with_piece at p) p ≡ on_piece more' p
   unfolding on_step on_piece behind
-  on_step_lem more more' same at (L.Skipped c) = same c
-  on_step_lem more more' same at (L.Name n c) = ap (Pieces.spelled n) (same c)
-  on_step_lem more more' same at (L.Token t c) = ap (Pieces.plain t) (same c)
-  on_step_lem more more' same at (L.End c) = refl
-  on_step_lem more more' same at (L.Refused r) = refl
+  on_step_lem more more' same at (Ok (L.Skipped c)) = same c
+  on_step_lem more more' same at (Ok (L.Name n c)) = ap (Pieces.spelled n) (same c)
+  on_step_lem more more' same at (Ok (L.Token t c)) = ap (Pieces.plain t) (same c)
+  on_step_lem more more' same at (Ok (L.End c)) = refl
+  on_step_lem more more' same at (Err r) = refl
 
   going_on_lem : (turns place line : ℕ)
       → going_on turns (lexer source place line) ≡ pieces_from turns source.now place line

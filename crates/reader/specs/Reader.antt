@@ -1,6 +1,6 @@
 -- The thin reader (document 01: it "keeps the source slice beside its position, as the Rust does"): its step, and going
 -- on with it.
-use Rattle.std.specs.Prelude.{ℕ, zero, suc, ◌-◌, List, length}
+use Rattle.std.specs.Prelude.{ℕ, zero, suc, ◌-◌, List, length, Result, Ok, Err}
 use Rattle.std.specs.Borrow.{Bor}
 use Rattle.pieces.specs.Pieces.{cursor, piece_at, Pieces}
 use Rattle.pieces.specs.declared.Cursor.{Cursor}
@@ -9,17 +9,18 @@ use Rattle.pieces.specs.declared.Lexed.TheVariants as L
 use Rattle.reader.specs.declared.Lexer.{Lexer}
 use Rattle.reader.specs.declared.Step.{Step}
 use Rattle.reader.specs.declared.Stepped.{Stepped}
+use Rattle.pieces.specs.declared.Refusal.{Refusal}
 
 abbrev pub lexer : Bor (List ℕ) → ℕ → ℕ → Lexer
 lexer source place line = record { source = source; place = place; line = line }
 
 -- where the reader stands behind a piece; at the end and at a refusal it stays
-unfoldable pub behind : Cursor → Lexed → Cursor
-behind at (L.Skipped c) = c
-behind at (L.Name n c) = c
-behind at (L.Token t c) = c
-behind at (L.End c) = c
-behind at (L.Refused r) = at
+unfoldable pub behind : Cursor → Result Lexed Refusal → Cursor
+behind at (Ok (L.Skipped c)) = c
+behind at (Ok (L.Name n c)) = c
+behind at (Ok (L.Token t c)) = c
+behind at (Ok (L.End c)) = c
+behind at (Err r) = at
 
 unfoldable pub stepped_at : List ℕ → ℕ → ℕ → Stepped
 stepped_at s place line =
@@ -41,12 +42,12 @@ abbrev pub left_of : List ℕ → ℕ → ℕ
 left_of s place = length s - place
 
 -- Going on with the step until the end or a refusal.
-unfoldable pub on_step : (Lexer → Pieces) → Step → Lexed → Pieces
-on_step more r (L.Skipped c) = more (reader_behind r)
-on_step more r (L.Name n c) = Pieces.spelled n (more (reader_behind r))
-on_step more r (L.Token t c) = Pieces.plain t (more (reader_behind r))
-on_step more r (L.End c) = Pieces.end (cursor r.place r.line)
-on_step more r (L.Refused e) = Pieces.refused e
+unfoldable pub on_step : (Lexer → Pieces) → Step → Result Lexed Refusal → Pieces
+on_step more r (Ok (L.Skipped c)) = more (reader_behind r)
+on_step more r (Ok (L.Name n c)) = Pieces.spelled n (more (reader_behind r))
+on_step more r (Ok (L.Token t c)) = Pieces.plain t (more (reader_behind r))
+on_step more r (Ok (L.End c)) = Pieces.end (cursor r.place r.line)
+on_step more r (Err e) = Pieces.refused e
 
 unfoldable pub going_on : ℕ → Lexer → Pieces
 going_on zero l = Pieces.cut

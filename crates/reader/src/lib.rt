@@ -6,7 +6,7 @@ ghost use Rattle.std.specs.Prelude.{◌≡◌, ◌<◌, ◌-◌};
 ghost use Rattle.pieces.specs.Pieces.{piece_at};
 ghost use Rattle.reader.specs.Reader.{lexer, behind, stepped_at, step_of, left_of};
 
-use pieces::{Cursor, Lexed};
+use pieces::{Cursor, Lexed, Refusal};
 
 #[derive(Clone, Copy)]
 pub struct Lexer<'src> {
@@ -21,7 +21,7 @@ pub struct Step<'src> {
     pub source: &'src [u8],
     pub place: usize,
     pub line: u32,
-    pub piece: Lexed,
+    pub piece: Result<Lexed, Refusal>,
 }
 
 // A piece, and the position behind it.
@@ -29,20 +29,20 @@ pub struct Step<'src> {
 pub struct Stepped {
     pub place: usize,
     pub line: u32,
-    pub piece: Lexed,
+    pub piece: Result<Lexed, Refusal>,
 }
 
 // Where the reader stands behind a piece. At the end and at a refusal it stays where it is.
 #[tactic(auto, unfolding(crate::specs::Reader::behind))]
-fn behind(at: Cursor, piece: Lexed) -> Cursor
+fn behind(at: Cursor, piece: Result<Lexed, Refusal>) -> Cursor
     ensures { result ≡ behind at piece }
 {
     match piece {
-        Lexed::Skipped(next) => next,
-        Lexed::Name(_, next) => next,
-        Lexed::Token(_, next) => next,
-        Lexed::End(end) => end,
-        Lexed::Refused(_) => at,
+        Ok(Lexed::Skipped(next)) => next,
+        Ok(Lexed::Name(_, next)) => next,
+        Ok(Lexed::Token(_, next)) => next,
+        Ok(Lexed::End(end)) => end,
+        Err(_) => at,
     }
 }
 
@@ -108,7 +108,7 @@ impl<'src> Lexer<'src> {
 
 // The piece at a place of a plain slice, by the reader: who calls this needs no walk.
 #[tactic(auto, unfolding(crate::specs::Reader::step_of, crate::specs::Reader::stepped_at))]
-pub fn lex_at(text: &[u8], place: usize, line: u32) -> Lexed
+pub fn lex_at(text: &[u8], place: usize, line: u32) -> Result<Lexed, Refusal>
     requires { line < 4294967295 }
     ensures { result ≡ piece_at text.now place line }
 {

@@ -8,17 +8,18 @@ use Rattle.read.proofs.read_into.Goals as goal
 
 pub answer_of-requires : goal.answer_of-requires
 answer_of-requires c =
-    let o = result-refused c.args.line c.args.text.now _ (sym c.in-Refused.is ∙ c.lex_text.ensures.value) in
+    let o = result-refused c.args.line c.args.text.now _ (sym c.in-Err.is ∙ c.lex_text.ensures.value) in
     omega (arith, (refused_sound c.args.line c.args.text.now _ o).place_small)
 
-pub returns-in-Refused : goal.returns-in-Refused
-returns-in-Refused c =
-    let o = result-refused c.args.line c.args.text.now _ (sym c.in-Refused.is ∙ c.lex_text.ensures.value) in
+pub returns-in-Err : goal.returns-in-Err
+returns-in-Err c =
+    let o = result-refused c.args.line c.args.text.now _ (sym c.in-Err.is ∙ c.lex_text.ensures.value) in
     rw c.answer_of.ensures
     (into-refused c.args.line c.args.text.now _ o _ _ c.args.message.now _ c.report.ensures)
 
-pub returns-in-Done : goal.returns-in-Done
-returns-in-Done c =
-    let d = result-done c.args.line c.args.text.now _ _ (sym c.in-Done.is ∙ c.lex_text.ensures.value) in
+pub returns-in-Ok : goal.returns-in-Ok
+returns-in-Ok c =
+    let n = c.in-Ok.counts in
+    let d = result-done c.args.line c.args.text.now n.tokens n.names (sym c.in-Ok.is ∙ c.lex_text.ensures.value) in
     into-done d c.args.tokens.now c.args.names.now _ _ c.args.message.now _
     c.lex_text.ensures.held

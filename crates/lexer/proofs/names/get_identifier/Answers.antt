@@ -32,7 +32,7 @@ unfolding identified
 returns-then-count-ge-NAMES c =
     record { value = search (tests, found_as, names_full); names_after = search (tests, found_as, names_full) }
 
-pub returns-in-At : goal.returns-in-At
+pub returns-in-Some : goal.returns-in-Some
 unfolding identified
-returns-in-At c =
+returns-in-Some c =
     record { value = search (tests, found_as); names_after = search (tests, found_as) }

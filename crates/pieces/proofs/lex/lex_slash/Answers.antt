@@ -21,26 +21,26 @@ pub overflow_add-at-then-b-eq42 : goal.overflow_add-at-then-b-eq42
 overflow_add-at-then-b-eq42 c =
     omega (arith, in_text c.args.text.now (c.args.at + 1) (λ z. omega (arith, z, c.peek-b.ensures, c.if-b-eq42.true)))
 
-pub returns-in-Closed : goal.returns-in-Closed
+pub returns-in-Some : goal.returns-in-Some
 unfolding slash_at pick
-returns-in-Closed c =
+returns-in-Some c =
     rw (
       ← c.peek-b.ensures,
       ne_eqb _ _ c.if-b-eq47.false,
       eq-eqb _ _ c.if-b-eq42.true,
       ← c.comment_end.ensures,
-      c.in-Closed.is,
+      c.in-Some.is,
     )
 
-pub returns-in-Open : goal.returns-in-Open
+pub returns-in-None : goal.returns-in-None
 unfolding slash_at pick
-returns-in-Open c =
+returns-in-None c =
     rw (
       ← c.peek-b.ensures,
       ne_eqb _ _ c.if-b-eq47.false,
       eq-eqb _ _ c.if-b-eq42.true,
       ← c.comment_end.ensures,
-      c.in-Open.is,
+      c.in-None.is,
     )
 
 pub returns : goal.returns

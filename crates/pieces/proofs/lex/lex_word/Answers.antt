@@ -1,11 +1,11 @@
 -- The word runs from `at` to its end, which lies in the text.
+use Rattle.std.specs.Prelude.{Some, None}
 use native.Mathlib.Omega.{arith}
 use Prim.Native.Nat.{ℕ, ◌+◌, ◌<◌, ◌≤◌}
 use mathlib.Core.Path.{◌≡◌, sym, ◌∙◌}
 use mathlib.Core.List.{List}
 use lib.ListN.{length, drop}
 use lib.Seq.{slice}
-use Rattle.pieces.specs.declared.OptionValue.TheVariants as O
 use Rattle.pieces.specs.Tokens.{keyword}
 use Rattle.pieces.proofs.Compare.{part-between}
 use Rattle.pieces.proofs.Progress.{left-from, name_end-from, name_end-to}
@@ -41,7 +41,7 @@ returns-in-Some c =
     let a = c.args in
     let within = ended a.text.now a.at _ c.requires c.name_end-end.ensures in
     let part = part-between a.at c.name_end-end.result a.text.now within.0 in
-    let k : keyword (slice a.at c.name_end-end.result a.text.now) ≡ O.Some c.in-Some.value =
+    let k : keyword (slice a.at c.name_end-end.result a.text.now) ≡ Some c.in-Some.value =
     sym (rw part at c.get_keyword.ensures) ∙ c.in-Some.is in
     rw (← c.name_end-end.ensures, k)
 
@@ -51,6 +51,6 @@ returns-in-None c =
     let a = c.args in
     let within = ended a.text.now a.at _ c.requires c.name_end-end.ensures in
     let part = part-between a.at c.name_end-end.result a.text.now within.0 in
-    let k : keyword (slice a.at c.name_end-end.result a.text.now) ≡ O.None =
+    let k : keyword (slice a.at c.name_end-end.result a.text.now) ≡ None =
     sym (rw part at c.get_keyword.ensures) ∙ c.in-None.is in
     rw (← c.name_end-end.ensures, k) c.name_to.ensures
