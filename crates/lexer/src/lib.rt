@@ -73,6 +73,7 @@ fn put_token(cells: &mut [u32], count: usize, token: Token)
 }
 
 // Stores a token behind `count` others, where there is room for it.
+#[tactic(auto, unfolding(crate::specs::Steps::room_for, crate::specs::Steps::pushed, utils::specs::Bytes::pick))]
 pub fn push_token(cells: &mut [u32], count: usize, token: Token) -> Result<(), Refusal>
     requires { (tokens_size ≤ length cells.old) × (token.place < 4294967296) }
     ensures value { result ≡ room_for count token }
@@ -89,37 +90,35 @@ pub fn push_token(cells: &mut [u32], count: usize, token: Token) -> Result<(), R
 }
 
 // The number that a name's token carries in its second cell; 0 where the kind is no name's.
+#[tactic(auto, unfolding(crate::specs::Decoded::name_in, crate::specs::Decoded::is_name, utils::specs::Bytes::pick))]
 fn name_in(kind: u32, carried: u32) -> Identifier
     ensures { result ≡ name_in kind carried }
 {
-    if kind == 0 {
-        return Identifier(0);
+    match kind {
+        kinds::LOCAL..=kinds::LABEL => Identifier(carried),
+        _ => Identifier(0),
     }
-    if kind <= kinds::LABEL {
-        return Identifier(carried);
-    }
-    Identifier(0)
 }
 
 // The bits that an integer's token carries there; 0 where the kind is no integer's.
+#[tactic(auto, unfolding(crate::specs::Decoded::integer_in, utils::specs::Bytes::pick))]
 fn integer_in(kind: u32, carried: u32) -> u32
     ensures { result ≡ integer_in kind carried }
 {
-    if kind == kinds::INTEGER {
-        return carried;
-    }
-    0
+    if kind == kinds::INTEGER { carried } else { 0 }
 }
 
 // The index behind a token: the end token is followed by itself.
+#[tactic(auto, unfolding(utils::specs::Bytes::pick))]
 fn index_behind(kind: u32, at: usize) -> usize
     requires { at < 18446744073709551615 }
     ensures { result ≡ index_behind kind at }
 {
     if kind == kinds::END_OF_FILE {
-        return at;
+        at
+    } else {
+        at + 1
     }
-    at + 1
 }
 
 // The token at an index. Past the slice's last record stands an end token.
@@ -150,6 +149,7 @@ pub fn token_at(tokens: &[u32], at: usize) -> TokenAt
 }
 
 // The part of the text that a name's record names.
+#[tactic(auto, unfolding(crate::specs::Decoded::name_of, utils::specs::Bytes::pick))]
 pub fn get_name<'t, 'n>(text: &'t [u8], names: &'n [u32], id: Identifier) -> &'t [u8]
     ensures { result.now ≡ name_of text.now names.now id.0 }
 {

@@ -19,14 +19,13 @@ const FACTOR: u64 = 129;
 const PRINTS: u64 = 4294967296;
 
 // A number that equal names share: most names are told apart by it, wherever their bytes differ.
+#[tactic(auto, unfolding(crate::specs::Steps::print_from))]
 fn print_of(name: &[u8]) -> u32
     ensures { result ≡ print_of name.now }
 {
     let mut sum: u64 = 0;
-    let mut i: usize = 0;
-    while i < name.len() {
-        sum = (sum * FACTOR + name[i] as u64) % PRINTS;
-        i += 1;
+    for &b in name {
+        sum = (sum * FACTOR + u64::from(b)) % PRINTS;
     }
     sum as u32
 }
@@ -86,17 +85,16 @@ fn lookup(
     ensures { result ≡ index_of (slice place (place + len) text.now)
         (spellings text.now (first_names count names.now)) 0 }
 {
-    let mut k: usize = 0;
-    while k < count {
+    for k in 0..count {
         if is_name(text, names, prints, count, k, place, len, print) {
             return Some(Identifier(k as u32));
         }
-        k += 1;
     }
     None
 }
 
 // A name's number; a new name is stored behind the `count` that there are.
+#[tactic(auto, unfolding(crate::specs::Numbered::identified, utils::specs::Bytes::pick))]
 pub fn get_identifier(
     text: &[u8],
     names: &mut [u32],

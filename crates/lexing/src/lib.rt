@@ -18,11 +18,9 @@ use utils::limits;
 fn named(name: Name, i: Identifier) -> Token
     ensures { result ≡ named name i }
 {
-    let value = tokens::value_of(name.kind, i.0);
-    let line = name.line;
     Token {
-        value,
-        line,
+        value: tokens::value_of(name.kind, i.0),
+        line: name.line,
         place: name.place,
     }
 }
@@ -112,6 +110,7 @@ fn lex_all(text: &[u8], line: u32, tokens: &mut [u32], names: &mut [u32]) -> Res
 }
 
 // 31, then 1, then from left to right.
+#[tactic(auto, unfolding(lexer::specs::Read::lexed_from, utils::specs::Bytes::pick))]
 pub fn lex_text(
     text: &[u8],
     line: u32,

@@ -1,6 +1,6 @@
 -- Counting a number no higher than 2147483649 changes no answer: a digit more keeps a number that is above it there,
 -- and the tests against 2147483647 and 2147483648 come out the same.
-use Prim.Native.Nat.{ℕ, ◌+◌, ◌*◌, ◌≤◌, ◌<◌}
+use Prim.Native.Nat.{ℕ, ◌+◌, ◌*◌, ◌≤◌, ◌<◌, min}
 use mathlib.Core.Path.{◌≡◌, refl, sym, ap, ◌∙◌}
 use mathlib.Core.Bool.{Bool, true, false}
 use mathlib.Core.Logic.{◌⊎◌, inl, inr, ⊎_elim}
@@ -19,6 +19,13 @@ capped-low n h = rw (le-leb _ _ h)
 pub capped_high : (n : ℕ) → 2147483649 < n → capped n ≡ 2147483649
 unfolding capped pick
 capped_high n h = rw (lt-leb _ _ h)
+
+pub capped-min : (n : ℕ) → min n 2147483649 ≡ capped n
+capped-min n = by (leb n 2147483649) refl
+  where
+    by : (t : Bool) → leb n 2147483649 ≡ t → min n 2147483649 ≡ capped n
+    by true e = omega (arith, leb-true _ _ e, capped-low n (leb-true _ _ e))
+    by false e = omega (arith, leb-false _ _ e, capped_high n (leb-false _ _ e))
 
 low_or_high : (n : ℕ) → (n ≤ 2147483649) ⊎ (2147483649 < n)
 low_or_high n = by (leb n 2147483649) refl

@@ -127,35 +127,32 @@ pub struct Number {
 
 impl Cursor {
     // One piece of the text, and the cursor after it.
+    #[tactic(auto, unfolding(crate::specs::Pieces::piece_at, utils::specs::Bytes::pick))]
     pub fn lex(self, text: &[u8]) -> Result<Lexed, Refusal>
         requires { self.line < 4294967295 }
         ensures { result ≡ piece_at text.now self.place self.line }
     {
-        let at = self.place;
-        let line = self.line;
-        if text.len() <= at {
+        if text.len() <= self.place {
             return Ok(Lexed::End(self));
         }
-        let b = text[at];
+        let b = text[self.place];
         if b == b'\n' {
             return Ok(Lexed::Skipped(Cursor {
-                place: at + 1,
-                line: line + 1,
+                place: self.place + 1,
+                line: self.line + 1,
             }));
         }
         if scan::is_blank(b) {
-            return Ok(Lexed::Skipped(Cursor {
-                place: at + 1,
-                line,
-            }));
+            let place = self.place + 1;
+            return Ok(Lexed::Skipped(Cursor { place, ..self }));
         }
         if b == b'#' {
-            let place = scan::line_end(text, at + 1);
-            return Ok(Lexed::Skipped(Cursor { place, line }));
+            let place = scan::line_end(text, self.place + 1);
+            return Ok(Lexed::Skipped(Cursor { place, ..self }));
         }
         if b == b'/' {
-            return lex::lex_slash(text, at, line);
+            return lex::lex_slash(text, self);
         }
-        lex::lex_token(text, at, line)
+        lex::lex_token(text, self)
     }
 }

@@ -54,6 +54,7 @@ pub fn kinded(value: TokenValue) -> Kinded
 }
 
 // The value of a kind; what is no kind is read as the end.
+#[tactic(auto, unfolding(crate::specs::Tokens::value_of, utils::specs::Bytes::pick))]
 pub fn value_of(kind: u32, carried: u32) -> TokenValue
     ensures { result ≡ value_of kind carried }
 {
@@ -104,47 +105,38 @@ pub fn same_bytes(a: &[u8], i: usize, b: &[u8], j: usize, n: usize) -> bool
     requires { (i + n ≤ length a.now) × (j + n ≤ length b.now) }
     ensures { result ≡ same_bytes (slice i (i + n) a.now) (slice j (j + n) b.now) }
 {
-    let mut k = n;
-    while 0 < k {
-        k -= 1;
-        let p = i + k;
-        let q = j + k;
-        if a[p] != b[q] {
+    for k in (0..n).rev() {
+        if a[i + k] != b[j + k] {
             return false;
         }
     }
     true
 }
 
-// Whether a part of the text is a word.
-fn is_word(part: &[u8], word: &[u8]) -> bool
-    ensures { result ≡ same_bytes word.now part.now }
-{
-    if word.len() != part.len() {
-        return false;
-    }
-    same_bytes(word, 0, part, 0, part.len())
-}
-
-// The value of a word's kind, where a part of the text is that word.
-fn only(part: &[u8], word: &[u8], kind: u32) -> Option<TokenValue>
+// The value of a word, where a part of the text is that word.
+#[tactic(auto, using(crate::proofs::Compare::pointwise_same), unfolding(crate::specs::Tokens::word_in, utils::specs::Bytes::pick))]
+fn only(part: &[u8], word: &[u8], value: TokenValue) -> Option<TokenValue>
     ensures { result
-        ≡ word_in (record { spelling = word.now; value = value_of kind 0 } ∷ []) part.now }
+        ≡ word_in (record { spelling = word.now; value = value } ∷ []) part.now }
 {
-    if is_word(part, word) {
-        return Some(value_of(kind, 0));
-    }
-    None
+    (word == part).then_some(value)
 }
 
 // The same of two words.
-fn either(part: &[u8], word: &[u8], kind: u32, other: &[u8], second: u32) -> Option<TokenValue>
+#[tactic(auto, using(crate::proofs::Compare::pointwise_same), unfolding(crate::specs::Tokens::word_in, utils::specs::Bytes::pick))]
+fn either(
+    part: &[u8],
+    word: &[u8],
+    value: TokenValue,
+    other: &[u8],
+    second: TokenValue,
+) -> Option<TokenValue>
     ensures { result
-        ≡ word_in (record { spelling = word.now; value = value_of kind 0 }
-        ∷ record { spelling = other.now; value = value_of second 0 } ∷ []) part.now }
+        ≡ word_in (record { spelling = word.now; value = value }
+        ∷ record { spelling = other.now; value = second } ∷ []) part.now }
 {
-    if is_word(part, word) {
-        return Some(value_of(kind, 0));
+    if word == part {
+        return Some(value);
     }
     only(part, other, second)
 }
@@ -155,38 +147,48 @@ const SHORTEST: usize = 2;
 const LONGEST: usize = 5;
 
 // The value of a word of the language, or none. No three words share their first letter.
+#[tactic(auto, using(crate::proofs::Words::by_letter), unfolding(crate::specs::Tokens::words, crate::specs::Tokens::word_in, utils::specs::Bytes::same_bytes, utils::specs::Bytes::pick))]
 pub(crate) fn get_keyword(part: &[u8]) -> Option<TokenValue>
     ensures { result ≡ keyword part.now }
 {
-    if part.len() < SHORTEST {
+    if part.len() < SHORTEST || LONGEST < part.len() {
         return None;
     }
-    if LONGEST < part.len() {
-        return None;
-    }
-    let first = part[0];
-    match first {
-        b'a' => either(part, b"add", kinds::ADD, b"and", kinds::AND),
-        b'b' => either(part, b"br", kinds::BR, b"bool", kinds::BOOL),
-        b'c' => either(part, b"call", kinds::CALL, b"const", kinds::CONST),
-        b'd' => only(part, b"div", kinds::DIV),
-        b'e' => only(part, b"eq", kinds::EQ),
-        b'f' => only(part, b"false", kinds::FALSE),
-        b'g' => either(part, b"gt", kinds::GT, b"ge", kinds::GE),
-        b'i' => either(part, b"id", kinds::ID, b"int", kinds::INT),
-        b'j' => only(part, b"jmp", kinds::JMP),
-        b'l' => either(part, b"lt", kinds::LT, b"le", kinds::LE),
-        b'm' => either(part, b"mul", kinds::MUL, b"mod", kinds::MOD),
-        b'n' => either(part, b"not", kinds::NOT, b"nop", kinds::NOP),
-        b'o' => only(part, b"or", kinds::OR),
-        b'p' => only(part, b"print", kinds::PRINT),
-        b'r' => only(part, b"ret", kinds::RET),
-        b's' => only(part, b"sub", kinds::SUB),
-        b't' => only(part, b"true", kinds::TRUE),
+    match part[0] {
+        b'a' => either(part, b"add", TokenValue::Add, b"and", TokenValue::And),
+        b'b' => either(part, b"br", TokenValue::Branch, b"bool", TokenValue::Bool),
+        b'c' => either(part, b"call", TokenValue::Call, b"const", TokenValue::Const),
+        b'd' => only(part, b"div", TokenValue::Div),
+        b'e' => only(part, b"eq", TokenValue::Equal),
+        b'f' => only(part, b"false", TokenValue::False),
+        b'g' => either(
+            part,
+            b"gt",
+            TokenValue::GreaterThan,
+            b"ge",
+            TokenValue::GreaterThanOrEq,
+        ),
+        b'i' => either(part, b"id", TokenValue::Identity, b"int", TokenValue::Int),
+        b'j' => only(part, b"jmp", TokenValue::Jump),
+        b'l' => either(
+            part,
+            b"lt",
+            TokenValue::LessThan,
+            b"le",
+            TokenValue::LessThanOrEq,
+        ),
+        b'm' => either(part, b"mul", TokenValue::Mul, b"mod", TokenValue::Mod),
+        b'n' => either(part, b"not", TokenValue::Not, b"nop", TokenValue::Nop),
+        b'o' => only(part, b"or", TokenValue::Or),
+        b'p' => only(part, b"print", TokenValue::Print),
+        b'r' => only(part, b"ret", TokenValue::Return),
+        b's' => only(part, b"sub", TokenValue::Sub),
+        b't' => only(part, b"true", TokenValue::True),
         _ => None,
     }
 }
 
+#[tactic(auto, unfolding(crate::specs::Tokens::symbol, utils::specs::Bytes::pick))]
 pub(crate) fn from_char(b: u8) -> Option<TokenValue>
     ensures { result ≡ symbol b }
 {

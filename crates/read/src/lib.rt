@@ -15,19 +15,11 @@ use pieces::Location;
 use utils::{limits, numbers};
 
 // Whether slices of these lengths have their sizes.
+#[tactic(auto, unfolding(lexer::specs::Read::sized, utils::specs::Bytes::pick))]
 fn fits(tokens: usize, names: usize, message: usize) -> bool
     ensures { (result ≡ sized tokens names message) × (IfSized result tokens names message) }
 {
-    if tokens < sizes::TOKENS {
-        return false;
-    }
-    if names < sizes::NAMES {
-        return false;
-    }
-    if message < limits::MESSAGE {
-        return false;
-    }
-    true
+    tokens >= sizes::TOKENS && names >= sizes::NAMES && message >= limits::MESSAGE
 }
 
 // The reading of a text whose first line has this number, into the front of slices that have their sizes. Nothing is
@@ -60,6 +52,7 @@ pub fn read_into(
 }
 
 // After an acceptance the message is zero; a refusal has written it.
+#[tactic(auto, unfolding(utils::specs::Bytes::pick))]
 pub fn finish_message(number: u32, message: &mut [u8])
     ensures { message.new
         ≡ pick (eqb number 0) (pad_to (length message.old) []) message.old }

@@ -47,6 +47,7 @@ fn behind(at: Cursor, piece: Result<Lexed, Refusal>) -> Cursor
 }
 
 // The work of `next`: a piece of a plain slice, and the position behind it.
+#[tactic(auto, unfolding(crate::specs::Reader::stepped_at))]
 fn step_at(text: &[u8], place: usize, line: u32) -> Stepped
     requires { line < 4294967295 }
     ensures { result ≡ stepped_at text.now place line }
@@ -65,10 +66,7 @@ fn step_at(text: &[u8], place: usize, line: u32) -> Stepped
 fn left_at(text: &[u8], place: usize) -> usize
     ensures { result ≡ left_of text.now place }
 {
-    if text.len() < place {
-        return 0;
-    }
-    text.len() - place
+    text.len().saturating_sub(place)
 }
 
 impl<'src> Lexer<'src> {

@@ -22,17 +22,6 @@ returns-else-count-ge-NAMES c =
       names_after = c.put_cells.ensures;
     }
 
-pub returns-then-len-gt-NAME_BYTES : goal.returns-then-len-gt-NAME_BYTES
+pub returns-then-count-ge-NAMES-clause-value : goal.returns-then-count-ge-NAMES-clause-value
 unfolding identified
-returns-then-len-gt-NAME_BYTES c =
-    record { value = search tests; names_after = search tests }
-
-pub returns-then-count-ge-NAMES : goal.returns-then-count-ge-NAMES
-unfolding identified
-returns-then-count-ge-NAMES c =
-    record { value = search (tests, found_as, names_full); names_after = search (tests, found_as, names_full) }
-
-pub returns-in-Some : goal.returns-in-Some
-unfolding identified
-returns-in-Some c =
-    record { value = search (tests, found_as); names_after = search (tests, found_as) }
+returns-then-count-ge-NAMES-clause-value c = search (tests, found_as, names_full)

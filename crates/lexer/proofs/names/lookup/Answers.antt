@@ -11,20 +11,20 @@ use Rattle.lexer.proofs.names.lookup.Goals as goal
 
 pub loop-k-init : goal.loop-k-init
 loop-k-init c =
-    (omega arith, refl, c.requires.0.within)
+    (refl, c.requires.0.within)
 
 pub is_name-requires : goal.is_name-requires
 is_name-requires c =
     (search rules, c.requires.0, c.requires.1, search name-within, c.requires.2, c.requires.3)
 
 pub loop-k-preserved : goal.loop-k-preserved
-loop-k-preserved c = (omega arith, search name-later, search names-within)
+loop-k-preserved c = (search name-later, search names-within)
 
 pub returns : goal.returns
 unfolding index_of spellings parts_of
 returns c =
     let z : length (take (c.args.count * 2) c.args.names.now) ≤ c.loop-k.k * 2 = rw length-take (omega arith) in
-    rw (← c.loop-k.invariant.1, drop_of_length-le (take (c.args.count * 2) c.args.names.now) z)
+    rw (← c.loop-k.invariant.0, drop_of_length-le (take (c.args.count * 2) c.args.names.now) z)
 
 pub returns-then-is_name : goal.returns-then-is_name
 returns-then-is_name c = search name-here

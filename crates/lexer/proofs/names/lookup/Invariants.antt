@@ -1,5 +1,5 @@
 -- What each turn of a loop keeps.
-use Prim.Native.Nat.{◌+◌, ◌-◌, ◌*◌, ◌≤◌}
+use Prim.Native.Nat.{◌+◌, ◌*◌}
 use mathlib.Core.Path.{◌≡◌}
 use lib.ListN.{length, drop, take}
 use lib.Seq.{slice}
@@ -8,11 +8,8 @@ use Rattle.lexer.specs.Numbered.{index_of, spellings}
 use Rattle.lexer.proofs.names.lookup.Given as goal
 
 abbrev pub invariant-loop-k : goal.invariant-loop-k
-invariant-loop-k l = (l.k ≤ l.count)
-    × (index_of (slice l.place (l.place + l.len) l.text) (spellings l.text (parts_of (drop (l.k * 2) (take (l.count *
+invariant-loop-k l =
+    (index_of (slice l.place (l.place + l.len) l.text) (spellings l.text (parts_of (drop (l.k * 2) (take (l.count *
     2) l.names)))) l.k
     ≡ index_of (slice l.place (l.place + l.len) l.text) (spellings l.text (parts_of (take (l.count * 2) l.names))) 0)
     × Within (length l.text) (parts_of (drop (l.k * 2) (take (l.count * 2) l.names)))
-
-abbrev pub decreases-loop-k : goal.decreases-loop-k
-decreases-loop-k l = l.count - l.k

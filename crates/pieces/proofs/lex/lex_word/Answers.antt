@@ -22,35 +22,35 @@ ended text at e inside is =
     (omega (arith, is), omega (arith, is))
 
 pub slice_bounds-get_keyword-count : goal.slice_bounds-get_keyword-count
-slice_bounds-get_keyword-count c = (ended c.args.text.now c.args.at _ c.requires c.name_end-end.ensures).0
+slice_bounds-get_keyword-count c = (ended c.args.text.now c.args.at.place _ c.requires c.name_end-end.ensures).0
 
 pub slice_bounds-get_keyword-start : goal.slice_bounds-get_keyword-start
 slice_bounds-get_keyword-start c =
-    omega (arith, ended c.args.text.now c.args.at _ c.requires c.name_end-end.ensures)
+    omega (arith, ended c.args.text.now c.args.at.place _ c.requires c.name_end-end.ensures)
 
 pub slice_bounds-get_keyword-end : goal.slice_bounds-get_keyword-end
 slice_bounds-get_keyword-end c =
-    omega (arith, ended c.args.text.now c.args.at _ c.requires c.name_end-end.ensures)
+    omega (arith, ended c.args.text.now c.args.at.place _ c.requires c.name_end-end.ensures)
 
 pub name_to-requires : goal.name_to-requires
-name_to-requires c = (ended c.args.text.now c.args.at _ c.requires c.name_end-end.ensures).0
+name_to-requires c = (ended c.args.text.now c.args.at.place _ c.requires c.name_end-end.ensures).0
 
 pub returns-in-Some : goal.returns-in-Some
 unfolding word_at then_value
 returns-in-Some c =
     let a = c.args in
-    let within = ended a.text.now a.at _ c.requires c.name_end-end.ensures in
-    let part = part-between a.at c.name_end-end.result a.text.now within.0 in
-    let k : keyword (slice a.at c.name_end-end.result a.text.now) ≡ Some c.in-Some.value =
+    let within = ended a.text.now a.at.place _ c.requires c.name_end-end.ensures in
+    let part = part-between a.at.place c.name_end-end.result a.text.now within.0 in
+    let k : keyword (slice a.at.place c.name_end-end.result a.text.now) ≡ Some c.in-Some.value =
     sym (rw part at c.get_keyword.ensures) ∙ c.in-Some.is in
-    rw (← c.name_end-end.ensures, k)
+    rw (← c.name_end-end.ensures, k, c.token_to.ensures)
 
 pub returns-in-None : goal.returns-in-None
 unfolding word_at then_value name_at
 returns-in-None c =
     let a = c.args in
-    let within = ended a.text.now a.at _ c.requires c.name_end-end.ensures in
-    let part = part-between a.at c.name_end-end.result a.text.now within.0 in
-    let k : keyword (slice a.at c.name_end-end.result a.text.now) ≡ None =
+    let within = ended a.text.now a.at.place _ c.requires c.name_end-end.ensures in
+    let part = part-between a.at.place c.name_end-end.result a.text.now within.0 in
+    let k : keyword (slice a.at.place c.name_end-end.result a.text.now) ≡ None =
     sym (rw part at c.get_keyword.ensures) ∙ c.in-None.is in
-    rw (← c.name_end-end.ensures, k) c.name_to.ensures
+    rw (← c.name_end-end.ensures, k, c.name_to.ensures)

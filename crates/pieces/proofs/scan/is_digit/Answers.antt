@@ -1,12 +1,9 @@
--- Each return has made the tests that lead to it in the definition.
+-- std's test is the definition's.
+use mathlib.Core.Path.{◌∙◌}
 use Rattle.pieces.specs.Classes.{is_digit}
-use Rattle.pieces.proofs.Picked.{tests}
+use Rattle.pieces.proofs.Digits.{and_pick}
 use Rattle.pieces.proofs.scan.is_digit.Goals as goal
-
-pub returns-then-b-ge48 : goal.returns-then-b-ge48
-unfolding is_digit
-returns-then-b-ge48 c = search tests
 
 pub returns : goal.returns
 unfolding is_digit
-returns c = search tests
+returns c = c.is_ascii_digit.ensures.value ∙ and_pick _ _
