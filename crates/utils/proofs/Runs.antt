@@ -1,12 +1,14 @@
 -- Runs of stores, one after the other.
 use Prim.Native.Nat.{ℕ, zero, suc, ◌+◌, ◌-◌, ◌≤◌, ◌<◌, ◌/◌, ◌%◌}
-use mathlib.Core.List.{List, [], ◌∷◌, ◌++◌, append-nil}
+use mathlib.Core.List.{List, [], ◌∷◌, ◌++◌, append-nil, append_assoc}
 use mathlib.Core.Path.{◌≡◌, refl, sym, ap, ◌∙◌}
 use native.Mathlib.Omega.{arith}
 use native.Mathlib.Nat.{add-zero, zero-add, add-sub_of_le, sub-zero, zero-sub, suc-sub-suc}
-use native.Mathlib.Numerals.{add-one}
-use lib.ListN.{length, set, get_or, take, drop, length-append, length-take, length-drop, replicate, length-replicate, replicate-append-replicate}
-use lib.Seq.{sets, drop-cons, sets-eq, drop_at, drop-drop, drop-length, take_all, take-append_seam, drop-append-add}
+use lib.ListN.{length, set, take, drop, length-append, length-drop, replicate, length-replicate, replicate-append-replicate}
+use borrow.Rule.Slice.PartMut.{put_mid}
+use Rattle.std.proofs.lemmas.Slice.{put_mid-paste}
+use Rattle.std.proofs.lemmas.List.Edits.{paste_all}
+use lib.Seq.{sets, sets-eq, drop_at, drop-drop, take_all, take-append_seam, drop-append-add}
 use borrow.Author.Tests.{lt-ltb, le-ltb}
 use Rattle.utils.specs.Message.{digits}
 use Rattle.utils.specs.Bytes.{pick, pad_to, over}
@@ -17,12 +19,12 @@ sets_append (x ∷ xs) ys l i =
     let e : i + suc (length xs) ≡ suc i + length xs = omega arith in
     rw e (sets_append xs ys (set l i x) (suc i))
 
--- one more store of a copy
-pub copied : (part buf : List ℕ) (at i : ℕ) → i < length part
-    → sets buf (at + i) (drop i part) ≡ sets (set buf (at + i) (get_or part i 0)) (at + (i + 1)) (drop (i + 1) part)
-copied part buf at i h =
-    let e : at + (i + 1) ≡ suc (at + i) = omega arith in
-    rw (drop-cons part i 0 h, e, add-one)
+-- what a part of a slice now holds was stored there
+pub stored : {X : Type 0} (at k : ℕ) (xs ys zs : List X) → ys ≡ zs → k ≡ length zs → at + k ≤ length xs
+    → put_mid at k xs ys ≡ sets xs at zs
+stored at k xs ys zs e n h =
+    put_mid-paste at k xs ys zs (length zs) e (sym n) refl ∙ paste_all xs at zs (length zs) refl
+    ∙ sym (sets-eq zs xs at (omega arith) ∙ append_assoc (take at xs) zs _)
 
 -- the three ways of put_digits
 pub none : (most n : ℕ) → most ≡ 0 → digits most n ≡ []
@@ -63,9 +65,6 @@ on_zeros n m h =
       drop_at (zeros (length m)) (zeros (n - length m)) (length m) (length-replicate (length m) 0),
     )
 
-pub cleared : (b d : List ℕ) (i : ℕ) → i ≡ length b → d ≡ zeros i ++ drop i b → d ≡ zeros (length b)
-cleared b d i q p = p ∙ rw (q, drop-length b, append-nil)
-
 drop-replicate : (k m : ℕ) → drop k (replicate m 0) ≡ replicate {A = ℕ} (m - k) 0
 drop-replicate zero m = rw sub-zero
 drop-replicate (suc k) zero = rw zero-sub
@@ -99,23 +98,6 @@ sets_over s l vs i e h =
 
 pub length_over : (s l : List ℕ) → length l ≤ length s → length (over s l) ≡ length s
 length_over s l h = simp (length-append, length-drop) (omega arith)
-
--- one more zero
-pub zeroed_more : (cells : List ℕ) (n i : ℕ) → i < n
-    → sets cells i (replicate (n - i) 0) ≡ sets (set cells i 0) (i + 1) (replicate (n - (i + 1)) 0)
-zeroed_more cells n i h =
-    let e : n - i ≡ suc (n - suc i) = omega arith in
-    rw (add-one, e)
-
--- zeros to the end leave what stands before them
-pub zeroed_rest : (s : List ℕ) (i : ℕ) → i ≤ length s
-    → sets s i (replicate (length s - i) 0) ≡ pad_to (length s) (take i s)
-zeroed_rest s i h =
-    let z : List ℕ = replicate (length s - i) 0 in
-    let long : length z ≡ length s - i = length-replicate {A = ℕ} (length s - i) 0 in
-    let end : i + length z ≡ length s = omega (arith, long) in
-    let taken : length (take i s) ≡ i = simp length-take (omega arith) in
-    sets-eq z s i (omega (arith, end)) ∙ rw (end, drop-length s, append-nil, taken)
 
 -- behind the end nothing is zeroed
 pub none-behind : (s : List ℕ) (i : ℕ) → length s ≤ i → s ≡ pad_to (length s) (take i s)

@@ -10,64 +10,50 @@ ghost use Rattle.utils.specs.Bytes.{pad_to};
 ghost use Rattle.utils.specs.Message.{digits, decimal, reported};
 
 // Zero from a place to another.
+#[tactic(auto, using(crate::proofs::Runs::stored))]
 pub fn clear_part(cells: &mut [u32], from: usize, to: usize)
     requires { (from ≤ to) × (to ≤ length cells.old) }
     ensures { cells.new ≡ sets cells.old from (replicate (to - from) 0) }
 {
-    let mut i = from;
-    while i < to {
-        cells[i] = 0;
-        i += 1;
-    }
+    cells[from..to].fill(0);
 }
 
 // Zero from a place on.
 pub fn clear_from(cells: &mut [u32], from: usize)
     ensures { cells.new ≡ pad_to (length cells.old) (take from cells.old) }
 {
-    if from < cells.len() {
-        clear_part(cells, from, cells.len());
-    }
+    let from = from.min(cells.len());
+    cells[from..].fill(0);
 }
 
 // All zero.
 pub fn clear(cells: &mut [u32])
     ensures { cells.new ≡ pad_to (length cells.old) [] }
 {
-    clear_from(cells, 0);
+    cells.fill(0);
 }
 
 // All zero.
 pub fn clear_bytes(buf: &mut [u8])
     ensures { buf.new ≡ pad_to (length buf.old) [] }
 {
-    let mut i = 0;
-    while i < buf.len() {
-        buf[i] = 0;
-        i += 1;
-    }
+    buf.fill(0);
 }
 
 // A cell, or 0 past the end.
 pub fn cell_at(cells: &[u32], at: usize) -> u32
     ensures { result ≡ get_or cells.now at 0 }
 {
-    if at < cells.len() {
-        return cells[at];
-    }
-    0
+    cells.get(at).copied().unwrap_or(0)
 }
 
-// Stores cells one after the other, from a place on.
-pub fn put_cells(cells: &mut [u32], at: usize, part: &[u32])
+// Stores cells or bytes one after the other, from a place on.
+#[tactic(auto, using(crate::proofs::Runs::stored))]
+pub fn put_cells<T: Copy>(cells: &mut [T], at: usize, part: &[T])
     requires { at + length part.now ≤ length cells.old }
     ensures { cells.new ≡ sets cells.old at part.now }
 {
-    let mut i: usize = 0;
-    while i < part.len() {
-        cells[at + i] = part[i];
-        i += 1;
-    }
+    cells[at..at + part.len()].copy_from_slice(part);
 }
 
 // Stores a part from a place on, and hands back the place after it.
@@ -76,18 +62,15 @@ pub fn put(buf: &mut [u8], at: usize, part: &[u8]) -> usize
     ensures { (result ≡ at + length part.now)
         × (buf.new ≡ sets buf.old at part.now) }
 {
-    let mut i: usize = 0;
-    while i < part.len() {
-        buf[at + i] = part[i];
-        i = i + 1;
-    }
-    at + i
+    put_cells(buf, at, part);
+    at + part.len()
 }
 
 // The digit 0.
 const ZERO: u32 = b'0' as u32;
 
 // The highest digits first, so that no digit is stored twice.
+#[tactic(auto, using(crate::proofs::Runs::none, crate::proofs::Runs::one))]
 fn put_digits(buf: &mut [u8], at: usize, n: u32, most: usize) -> usize
     requires { at + most ≤ length buf.old }
     ensures { (result ≡ at + length (digits most n))
@@ -134,13 +117,14 @@ fn put_report(buf: &mut [u8], line: u32, item: &[u8], text: &[u8]) -> usize
 }
 
 // DiagnosticEmitter::report: the message, and zeros after it.
+#[tactic(auto, using(crate::proofs::Runs::on_zeros))]
 pub fn report(buf: &mut [u8], line: u32, item: &[u8], text: &[u8])
     requires { 27 + length item.now + length text.now ≤ length buf.old }
     ensures { buf.new
         ≡ pad_to (length buf.old) (reported line item.now text.now) }
 {
     clear_bytes(buf);
-    let end = put_report(buf, line, item, text);
+    put_report(buf, line, item, text);
 }
 
 // DiagnosticEmitter::error: a message with no ITEM.
