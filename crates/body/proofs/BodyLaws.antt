@@ -73,7 +73,7 @@ module _ (Q : Body → Type 0) where
   named-of : (c : Result (Identifier × ℕ) Refusal) (k : Identifier → ℕ → Body) → ((e : Refusal) → Q (body_stop e))
       → ((l : Identifier) (at : ℕ) → c ≡ Ok (l, at) → Q (k l at)) → Q (then_named body_stop c k)
   unfolding then_named
-  named-of (Ok (l, at)) k f g = g l at refl
+  named-of (Ok p) k f g = g p.0 p.1 refl
   named-of (Err e) k f g = f e
 
   item_of : (r : ItemAt) (k : Item → ℕ → Body) → ((e : Refusal) → Q (body_stop e))
@@ -165,7 +165,7 @@ first-item ts room ls at h e = (rw e at (labels_followed ts room ls after_label 
 
 -- a label is read where there are fewer than 255 before it
 abbrev Roomy : List ℕ → Result (Identifier × ℕ) Refusal → Type 0
-Roomy ls (Ok (l, at)) = length ls < 255
+Roomy ls (Ok p) = length ls < 255
 Roomy ls (Err e) = Unit
 
 labelled_roomy : (ts : List Tok) (ls : List ℕ) (at : ℕ) → Roomy ls (labelled_d ts ls at)
@@ -190,7 +190,7 @@ labelled_roomy ts ls at = read (label_d ts at)
         then_at Err (consume_d ts at1 29) (λ at2.
         pick (leb 255 (length ls)) (Err (refusal 38 at 0))
         (pick (has ls l.0) (Err (refusal 13 at 0)) (Ok (l, at2))))))
-    read (Ok (l, at1)) = coloned l (consume_d ts at1 29)
+    read (Ok p) = coloned p.0 (consume_d ts p.1 29)
     read (Err e) = tt
 
 -- labels so far and labels read

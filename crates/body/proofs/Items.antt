@@ -15,6 +15,7 @@ use Rattle.parser.specs.Step.{refusal, then_at}
 use Rattle.parser.specs.Runs.{Calling, variables_cells, called_of}
 use Rattle.body.specs.Body.{Item, label, plain, call, call_into, operation_token, item_token, arguments_in}
 use Rattle.body.specs.Body.{ItemAt, item, refused, then_item, called_item, item_d, Body, body_stop, behind, labels_of}
+use Rattle.parser.specs.declared.Called.{Called}
 use Rattle.parser.specs.declared.Refusal.{Refusal}
 use Rattle.parser.specs.declared.Operation.{Operation}
 use Rattle.parser.specs.declared.Operation.TheVariants as O
@@ -23,26 +24,28 @@ use Rattle.body.specs.Records.{none, operation_record, record_of, items_cells}
 use Rattle.body.specs.Room.{Within}
 use Rattle.body.specs.Turns.{item_read, Put, ItemHeld, call_record, call_read, CallHeld, late_refusal}
 use Rattle.body.specs.Turns.{behind_kind, closing, before_next, last_next, item_then, ItemTaken}
-use Rattle.body.specs.declared.ItemRecord.{ItemRecord}
+use Rattle.body.specs.declared.ItemRead.{ItemRead}
 use Rattle.body.specs.declared.Going.{Going}
 use Rattle.body.proofs.Progress.{Operates, ItemOn, item_in}
 
 -- Calls. ------------------------------------------------------------------------------------------------------------
 
-ended-done : (e : Result ℕ Refusal) (f : Identifier) (m : ℕ) {g : Identifier} {n i : ℕ}
-    → Ok (record { callee = g; count = n; next = i }) ≡ then_at Err e (λ j. Ok (record { callee = f; count = m; next = j })) → (e ≡ Ok i) × (f ≡ g) × (m ≡ n)
+ended-done : (e : Result ℕ Refusal) (f : Identifier) (m : ℕ) {d : Called}
+    → Ok d ≡ then_at Err e (λ j. Ok (record { callee = f; count = m; next = j }))
+    → (e ≡ Ok d.next) × (f ≡ d.callee) × (m ≡ d.count)
 unfolding then_at
 ended-done (Ok j) f m h = (cc, cc, cc)
 ended-done (Err r) f m h = absurd (let z : ◌≡◌ {A = ℕ} 0 1 = cc in omega arith)
 
 ended-refused : (e : Result ℕ Refusal) (f : Identifier) (m : ℕ) {r : Refusal}
-    → Err r ≡ then_at Err e (λ j. Ok (record { callee = f; count = m; next = j })) → e ≡ Err r
+    → ◌≡◌ {A = Result Called Refusal} (Err r) (then_at Err e (λ j. Ok (record { callee = f; count = m; next = j })))
+    → e ≡ Err r
 unfolding then_at
 ended-refused (Ok j) f m h = absurd (let z : ◌≡◌ {A = ℕ} 0 1 = cc in omega arith)
 ended-refused (Err q) f m h = cc
 
-pub called-done : (c : Calling) {g : Identifier} {n i : ℕ} → Ok (record { callee = g; count = n; next = i }) ≡ called_of c
-    → (c.arguments.end ≡ Ok i) × (c.callee ≡ g) × (length c.arguments.list ≡ n)
+pub called-done : (c : Calling) {d : Called} → Ok d ≡ called_of c
+    → (c.arguments.end ≡ Ok d.next) × (c.callee ≡ d.callee) × (length c.arguments.list ≡ d.count)
 unfolding called_of
 called-done c h = ended-done c.arguments.end c.callee (length c.arguments.list) h
 
@@ -52,7 +55,8 @@ called-refused c h = ended-refused c.arguments.end c.callee (length c.arguments.
 
 called_item_lem : (n used : ℕ) (i : Item) (e : Result ℕ Refusal) (items₀ items arguments₀ arguments : List ℕ)
     → CallHeld n used (record_of used i) (variables_cells (arguments_in i)) items₀ items arguments₀ arguments e
-    → (then_at Err e (λ next. Ok (record { item = (record_of used i); arguments = (used + length (arguments_in i)); next = next }))
+    → (then_at Err e (λ next.
+    Ok (record { item = record_of used i; arguments = used + length (arguments_in i); next = next }))
     ≡ item_read used (then_at refused e (λ at. item i at)))
     × ItemHeld n used items₀ items arguments₀ arguments (then_at refused e (λ at. item i at))
 unfolding then_at item_read
@@ -89,17 +93,17 @@ unfolding item_read
 read-refused used (item i next) h = absurd (let z : ◌≡◌ {A = ℕ} 0 1 = cc in omega arith)
 read-refused used (refused r) h = cc
 
-pub record Read (n used next then : ℕ) (r : ItemRecord) (d : ItemAt)
+pub record Read (n used : ℕ) (r : ItemRead) (d : ItemAt)
     (items₀ items arguments₀ arguments : List ℕ) : Type 0 where
   pub read : Item
-  pub is : d ≡ item read next
-  pub record_is : r ≡ record_of used read
-  pub then_is : then ≡ used + length (arguments_in read)
+  pub is : d ≡ item read r.next
+  pub record_is : r.item ≡ record_of used read
+  pub then_is : r.arguments ≡ used + length (arguments_in read)
   pub put : Put n used (record_of used read) (variables_cells (arguments_in read)) items₀ items arguments₀ arguments
 
-pub read_done : (n used : ℕ) (d : ItemAt) {r : ItemRecord} {then next : ℕ} (items₀ items arguments₀ arguments : List ℕ)
-    → Ok (record { item = r; arguments = then; next = next }) ≡ item_read used d → ItemHeld n used items₀ items arguments₀ arguments d
-    → Read n used next then r d items₀ items arguments₀ arguments
+pub read_done : (n used : ℕ) (d : ItemAt) {r : ItemRead} (items₀ items arguments₀ arguments : List ℕ)
+    → Ok r ≡ item_read used d → ItemHeld n used items₀ items arguments₀ arguments d
+    → Read n used r d items₀ items arguments₀ arguments
 unfolding item_read
 read_done n used (item i at) items₀ items arguments₀ arguments h k = record
     { read = i; is = cc; record_is = cc; then_is = cc; put = k }

@@ -33,7 +33,7 @@ use Rattle.parser.specs.declared.Parsed.TheVariants as P
 -- Where each answer goes on. ----------------------------------------------------------------------------------------
 
 abbrev pub DefinedIn : ℕ → ℕ → Result (Variable × ℕ) Refusal → Type 0
-DefinedIn from last (Ok (v, next)) = (from + 1 ≤ next) × (next ≤ last)
+DefinedIn from last (Ok p) = (from + 1 ≤ p.1) × (p.1 ≤ last)
 DefinedIn from last (Err e) = Unit
 
 abbrev pub ParsedIn : ℕ → ℕ → Result Parsed Refusal → Type 0
@@ -52,7 +52,7 @@ pub record ArgumentsIn (from room last : ℕ) (r : Variables) : Type 0 where
   pub on : RunIn from (length r.list) last r.end
 
 abbrev pub LabelIn : ℕ → ℕ → ℕ → Result (Identifier × ℕ) Refusal → Type 0
-LabelIn from last count (Ok (l, next)) = (from + 2 ≤ next) × (next ≤ last) × (count < 255)
+LabelIn from last count (Ok p) = (from + 2 ≤ p.1) × (p.1 ≤ last) × (count < 255)
 LabelIn from last count (Err e) = Unit
 
 -- an item that is no label
@@ -217,7 +217,7 @@ module _ (ts : List Tok) (last : ℕ) (ends : (token_at ts last).kind ≡ 38) wh
   defined_then : (at : ℕ) (d : Result (Variable × ℕ) Refusal) → DefinedIn at last d
       → ParsedIn at last (then_defined Err d (λ v at1. value_d ts v at1))
   unfolding then_defined
-  defined_then at (Ok (v, next)) h = value_in at next v (omega (arith, h.0)) h.1
+  defined_then at (Ok p) h = value_in at p.1 p.0 (omega (arith, h.0)) h.1
   defined_then at (Err e) h = tt
 
   definition_in : (at : ℕ) → at ≤ last → ParsedIn at last (definition_d ts at)

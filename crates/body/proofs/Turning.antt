@@ -35,10 +35,10 @@ use Rattle.body.proofs.Progress.{LabelIn, label_in, moves}
 
 -- A label. ----------------------------------------------------------------------------------------------------------
 
-pub added-short : (t : Bool) (last : ℕ) → length (added t last) ≤ 1
+pub added_short : (t : Bool) (last : ℕ) → length (added t last) ≤ 1
 unfolding added pick
-added-short true last = omega arith
-added-short false last = omega arith
+added_short true last = omega arith
+added_short false last = omega arith
 
 added_none : (t : Bool) (last : ℕ) → arguments_count (added t last) ≡ 0
 unfolding added pick arguments_count

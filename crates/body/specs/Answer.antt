@@ -1,8 +1,7 @@
 -- A body's answer, and what its cells hold.
-use Rattle.std.specs.Prelude.{Err, Ok, Result}
+use Rattle.std.specs.Prelude.{ℕ, ◌*◌, ◌≤◌, ◌≡◌, List, [], Bool, true, length, Result, Ok, Err}
 use Rattle.body.specs.declared.Closed.{Closed}
 use Rattle.parser.specs.declared.Refusal.{Refusal}
-use Rattle.std.specs.Prelude.{ℕ, ◌*◌, ◌≤◌, ◌≡◌, List, [], Bool, true, length}
 use Rattle.std.proofs.lemmas.List.Edits.{sets}
 use Rattle.lexer.specs.Decoded.{Tok}
 use Rattle.parser.specs.Step.{then_at}

@@ -1,6 +1,5 @@
 -- A function's body (document 01, "Functions, labels, edges"): one list of items in text order.
-use Rattle.std.specs.Prelude.{Err, Ok, Result}
-use Rattle.std.specs.Prelude.{ℕ, zero, suc, List, [], ◌∷◌, ◌++◌, Bool, true, false, eqb}
+use Rattle.std.specs.Prelude.{ℕ, zero, suc, List, [], ◌∷◌, ◌++◌, Bool, true, false, eqb, Result, Ok, Err}
 use Rattle.utils.specs.Bytes.{pick}
 use Rattle.lexer.specs.Decoded.{Tok, token_at}
 use Rattle.pieces.specs.declared.Identifier.{Identifier}

@@ -1,6 +1,5 @@
 -- Two readings of one body: related items (crates/parser/specs/Moved.antt has the relation of tokens and names).
-use Rattle.std.specs.Prelude.{Err, Ok, Result}
-use Rattle.std.specs.Prelude.{ℕ, ◌+◌, ◌≤◌, ◌<◌, List}
+use Rattle.std.specs.Prelude.{ℕ, ◌+◌, ◌≤◌, ◌<◌, List, Result, Ok, Err}
 use Rattle.pieces.specs.declared.Identifier.{Identifier}
 use Rattle.body.specs.Body.{Item, ItemAt, Body}
 use Rattle.body.specs.Shapes.{Shape}

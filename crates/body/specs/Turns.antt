@@ -1,7 +1,7 @@
 -- One turn of the body's loop: an item read and stored, the body closed, or a refusal. `body_d` says the same of a whole
 -- body; that turns add up to it is shown in `proofs/Reading.antt`.
-use Rattle.std.specs.Prelude.{Err, Ok, Result}
 use Rattle.std.specs.Prelude.{ℕ, suc, ◌+◌, ◌*◌, ◌≤◌, ◌≡◌, List, [], ◌∷◌, ◌++◌, Bool, eqb, leb, length, take, set}
+use Rattle.std.specs.Prelude.{Result, Ok, Err}
 use Rattle.std.proofs.lemmas.List.Edits.{sets}
 use Rattle.utils.specs.Bytes.{pick}
 use Rattle.lexer.specs.Decoded.{Tok}
@@ -29,7 +29,8 @@ use Rattle.body.specs.declared.Turn.TheVariants as T
 
 -- its record, how many arguments there are then, and where to go on; or the refusal
 unfoldable pub item_read : ℕ → ItemAt → Result ItemRead Refusal
-item_read used (item i next) = Ok (record { item = (record_of used i); arguments = (used + length (arguments_in i)); next = next })
+item_read used (item i next) =
+    Ok (record { item = record_of used i; arguments = used + length (arguments_in i); next = next })
 item_read used (refused e) = Err e
 
 -- a record stored at index n and a run of arguments from `used` on
@@ -51,7 +52,11 @@ call_record kind word dest dty used c =
 unfoldable pub call_read : ℕ → ℕ → Identifier → ℕ → ℕ → Calling → Result ItemRead Refusal
 call_read kind word dest dty used c =
     then_at Err c.arguments.end (λ next.
-    Ok (record { item = (call_record kind word dest dty used c); arguments = (used + length c.arguments.list); next = next }))
+    Ok (record {
+      item = call_record kind word dest dty used c;
+      arguments = used + length c.arguments.list;
+      next = next;
+    }))
 
 abbrev pub CallHeld : ℕ → ℕ → ItemRecord → List ℕ → List ℕ → List ℕ → List ℕ → List ℕ → Result ℕ Refusal → Type 0
 CallHeld n used r run items₀ items arguments₀ arguments (Ok next) = Put n used r run items₀ items arguments₀ arguments
@@ -200,7 +205,8 @@ pub record Ended (ts : List Tok) (void : Bool) (s : Going) (e : Closed)
   pub arguments_are : arguments ≡ arguments₀
   pub labels_are : labels ≡ labels₀
 
-abbrev pub Turned : List Tok → Bool → Going → List ℕ → List ℕ → List ℕ → List ℕ → List ℕ → List ℕ → Result Turn Refusal → Type 0
+abbrev pub Turned : List Tok → Bool → Going → List ℕ → List ℕ → List ℕ → List ℕ → List ℕ → List ℕ
+    → Result Turn Refusal → Type 0
 Turned ts void s items₀ items arguments₀ arguments labels₀ labels (Ok (T.On s')) =
     Gone ts void s s' items₀ items arguments₀ arguments labels₀ labels
 Turned ts void s items₀ items arguments₀ arguments labels₀ labels (Ok (T.Done e)) =

@@ -11,6 +11,7 @@ use parser::{Called, Parsed, Refusal, VARIABLE_CELLS, runs};
 use pieces::Identifier;
 
 // A call from its word on; `dest` and `dty` are its result and the result's type.
+#[tactic(auto, unfolding(parser::specs::Step::opened, crate::specs::Turns::call_read))]
 fn parse_call_item(
     tokens: &[u32],
     word: usize,
@@ -49,6 +50,7 @@ fn parse_call_item(
 }
 
 // Stores the item at index n, and its arguments from `used` on.
+#[tactic(auto, unfolding(crate::specs::Body::item_d, crate::specs::Body::parsed_item, crate::specs::Turns::item_read, crate::specs::Records::record_of))]
 pub(crate) fn parse_item(
     tokens: &[u32],
     at: usize,

@@ -48,6 +48,7 @@ pub fn put_record(items: &mut [u32], n: usize, r: ItemRecord)
 }
 
 // What two cells hold, by the kind of their record.
+#[tactic(auto, unfolding(crate::specs::Records::last_of, utils::specs::Bytes::pick))]
 fn last_of(kind: u32, first: u32, second: u32) -> Last
     ensures { result ≡ last_of kind first second }
 {
@@ -188,6 +189,7 @@ fn record_by(o: Operation, w: u32) -> ItemRecord
     }
 }
 
+#[tactic(auto, unfolding(crate::specs::Records::operation_record))]
 pub(crate) fn operation_record(o: Operation) -> ItemRecord
     requires { operation_token o ≤ 4095 }
     ensures { result ≡ operation_record o }

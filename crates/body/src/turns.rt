@@ -24,6 +24,7 @@ const OPERATION: u32 = 2;
 const TERMINATOR: u32 = 3;
 
 // Right behind a label an operation has to stand.
+#[tactic(auto, unfolding(crate::specs::Body::closes, utils::specs::Bytes::pick))]
 fn closes_body(before: u32, kind: u32) -> bool
     ensures { result ≡ closes before kind }
 {
@@ -34,6 +35,7 @@ fn closes_body(before: u32, kind: u32) -> bool
 }
 
 // A void function's block gets a `ret` where it has no terminator.
+#[tactic(auto, unfolding(crate::specs::Body::lacks_ret, utils::specs::Bytes::pick))]
 fn lacks_ret(void: bool, before: u32) -> bool
     ensures { result ≡ lacks_ret void before }
 {
@@ -43,6 +45,7 @@ fn lacks_ret(void: bool, before: u32) -> bool
     false
 }
 
+#[tactic(auto, unfolding(crate::specs::Turns::behind_kind, utils::specs::Bytes::pick))]
 fn behind_kind(kind: u32) -> u32
     ensures { result ≡ behind_kind kind }
 {
@@ -53,6 +56,7 @@ fn behind_kind(kind: u32) -> u32
 }
 
 // The next free item behind the `ret` that is lacking, or where none is.
+#[tactic(auto, unfolding(crate::specs::Turns::added, utils::specs::Bytes::pick, crate::specs::Records::items_cells, crate::specs::Records::record_of, crate::specs::Records::operation_record))]
 fn add_ret(items: &mut [u32], n: usize, lacks: bool, last: u32) -> usize
     requires { n * 8 + 8 ≤ length items.old }
     ensures value { result ≡ n + length (added lacks last) }
@@ -115,6 +119,7 @@ fn item_turn(
 }
 
 // A label's record, behind the `ret` that the block before it may lack; the label is stored behind the others.
+#[tactic(auto, using(crate::proofs::Turning::added_short))]
 fn add_label(
     void: bool,
     s: Going,

@@ -12,7 +12,6 @@ use lib.ListN.{length, take, drop}
 use lib.Seq.{sets, length-sets}
 use Rattle.utils.specs.Bytes.{pick}
 use Rattle.graph.specs.Records.{block_record, cells_of}
-use Rattle.graph.specs.declared.BlockId.{BlockId}
 use Rattle.graph.specs.declared.BlockRecord.{BlockRecord}
 use Rattle.parser.specs.Step.{refusal}
 use Rattle.body.specs.Shapes.{Shape, name, operation}
@@ -108,7 +107,7 @@ cut-start items first count before base named cells e few room =
 -- A turn. -----------------------------------------------------------------------------------------------------------
 
 counted-refused : (k : ℕ) (g : Result Goes Refusal) (e : Refusal) → counted_by k g ≡ Err e → g ≡ Err e
-counted-refused k (Ok (record { count = c; to = x; other = y })) e h = let z : ◌≡◌ {A = ℕ} 0 1 = cc in absurd (omega arith)
+counted-refused k (Ok g) e h = let z : ◌≡◌ {A = ℕ} 0 1 = cc in absurd (omega arith)
 counted-refused k (Err e') e h = cc
 
 module _ (items : List ℕ) (all : List Block) (named first end base : ℕ) (cells₀ cells : List ℕ) (from k : ℕ)
@@ -167,25 +166,25 @@ module _ (items : List ℕ) (all : List Block) (named first end base : ℕ) (cel
         subst (λ (x : Result Goes Refusal). Gone all r.token (goes_of r) x) h last_gone in
         resolved ∙ g (resolve_from all named more)
 
-    went : (c : ℕ) (x y : BlockId) → goes_d before names (record_at items (stop - 1)) ≡ Ok (record { count = c; to = x; other = y })
-        → Left all named first base cells₀ (put_goes cells k from (stop - from) (Ok (record { count = c; to = x; other = y }))) (k + 1) more
+    went : (to : Goes) → goes_d before names (record_at items (stop - 1)) ≡ Ok to
+        → Left all named first base cells₀ (put_goes cells k from (stop - from) (Ok to)) (k + 1) more
     unfolding put_closed
-    went c x y h =
+    went to h =
         let r = record_at items (stop - 1) in
-        let g : Gone all r.token (goes_of r) (Ok (record { count = c; to = x; other = y })) =
+        let g : Gone all r.token (goes_of r) (Ok to) =
         subst (λ (x : Result Goes Refusal). Gone all r.token (goes_of r) x) h last_gone in
         let e : from + run here - 1 ≡ stop - 1 = omega arith in
         let l : block.goes ≡ goes_of r = rw e at (shut.last_goes some) in
         let f : first + block.first ≡ from = omega (arith, shut.begins, cut.low) in
         let o : block.operations ≡ stop - from = omega (arith, shut.has_operations, ends) in
         let now-closed : closed_of first block (places all block.goes)
-        ≡ block_record from (stop - from) c x.0 y.0 0 0 0 = rw (l, f, o, g.1, g.2, g.3) in
+        ≡ block_record from (stop - from) to.count to.to.0 to.other.0 0 0 0 = rw (l, f, o, g.1, g.2, g.3) in
         let s : put_closed all first (sets cells (k * 8) (cells_of (closed_of first block (places all block.goes))))
         (k + 1) more ≡ put_closed all first cells₀ base all = left_is.stored in
         record {
           above = omega (arith, left_is.above);
           long =
-              length-sets cells (k * 8) (cells_of (block_record from (stop - from) c x.0 y.0 0 0 0))
+              length-sets cells (k * 8) (cells_of (block_record from (stop - from) to.count to.to.0 to.other.0 0 0 0))
               ∙ left_is.long;
           counts = omega (arith, left_is.counts);
           resolves = sym (resolved ∙ g.0 (resolve_from all named more));
@@ -222,9 +221,9 @@ module _ (items : List ℕ) (all : List Block) (named first end base : ℕ) (cel
   unfolding pick
   done-by m true g q h u = let z : ◌≡◌ {A = ℕ} 0 1 = cc in absurd (omega arith)
   done-by m false (Err e) q h u = let z : ◌≡◌ {A = ℕ} 0 1 = cc in absurd (omega arith)
-  done-by m false (Ok (record { count = c; to = x; other = y })) q h u =
+  done-by m false (Ok to) q h u =
       let n : k + 1 ≡ m = cc in
-      (sym n, above_of (eqb-false stop from q), went (above_of (eqb-false stop from q)) c x y h)
+      (sym n, above_of (eqb-false stop from q), went (above_of (eqb-false stop from q)) to h)
     where
       above_of : (stop ≡ from → ⊥) → from < stop
       above_of h = omega (arith, h, ends)

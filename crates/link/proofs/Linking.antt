@@ -100,7 +100,7 @@ module _ {items : List ℕ} {first count : ℕ} {labels : List ℕ} {labelled : 
     enter-ready long = (rows_enough, fits, omega (arith, long, room), entries_fit, ready.predecessors_there)
 
     pub link_done : (next : ℕ) → next ≡ used + length (entries_from 0 (links_from (recorded cells base) 0 n) n)
-        → Ok (record { blocks = n; predecessors = (next - used) }) ≡ link_d named ps
+        → Ok (record { blocks = n; predecessors = next - used }) ≡ link_d named ps
     unfolding link_d
     link_done next h =
         let m : next - used ≡ length (predecessor_cells 0 links all) = omega (arith, h, ap length entries) in

@@ -20,7 +20,7 @@ use Rattle.body.specs.declared.ItemRecord.{ItemRecord}
 use Rattle.body.specs.declared.Last.{Last}
 use Rattle.body.specs.declared.Last.TheVariants as L
 use Rattle.link.specs.Table.{leading, block_of, label_place}
-use Rattle.link.specs.Steps.{block_id, found_of, then_found, one_d, two_d, leads_by, goes_d}
+use Rattle.link.specs.Steps.{block_id, found_of, then_found, one_d, two_d, leads_nowhere, leads_by, goes_d}
 use Rattle.link.specs.declared.Goes.{Goes}
 
 later-block : (before i k : ℕ) → k + before ≡ i → block_of before i ≡ k + 1
@@ -88,20 +88,24 @@ same_place ps before names e f l = rw (e, f) (place_of-label ps l)
 
 -- what these labels give, resolved among all blocks: the refusal, or their blocks
 abbrev pub Gone : List Block → ℕ → List ℕ → Result Goes Refusal → Type 0
-Gone all token ls (Ok (record { count = n; to = x; other = y })) =
+Gone all token ls (Ok g) =
     ((rest : Resolved) → resolve_labels all token ls rest ≡ rest)
-    × (length (places all ls) ≡ n) × (get_or (places all ls) 0 0 ≡ x.0) × (get_or (places all ls) 1 0 ≡ y.0)
+    × (length (places all ls) ≡ g.count) × (get_or (places all ls) 0 0 ≡ g.to.0)
+    × (get_or (places all ls) 1 0 ≡ g.other.0)
 Gone all token ls (Err e) = (rest : Resolved) → resolve_labels all token ls rest ≡ refused e
 
 gone_one : (all : List Block) (token l : ℕ) (p : Place) → place_of all l 0 ≡ p
-    → Gone all token (l ∷ []) (then_found (found_of p) (λ x. Ok (record { count = 1; to = x; other = (block_id 0) })) (Err (missing token l)))
+    → Gone all token (l ∷ [])
+    (then_found (found_of p) (λ x. Ok (record { count = 1; to = x; other = block_id 0 })) (Err (missing token l)))
 unfolding resolve_labels places then_place then_found
 gone_one all token l (at x) e = (λ rest. rw e, rw e, rw e, rw e)
 gone_one all token l nowhere e = λ rest. rw e
 
 gone_two : (all : List Block) (token l m : ℕ) (p q : Place) → place_of all l 0 ≡ p → place_of all m 0 ≡ q
-    → Gone all token (l ∷ m ∷ []) (then_found (found_of p) (λ x. then_found (found_of q) (λ y. Ok (record { count = 2; to = x; other = y }))
-    (Err (missing token m))) (Err (missing token l)))
+    → Gone all token (l ∷ m ∷ [])
+    (then_found (found_of p) (λ x.
+    then_found (found_of q) (λ y. Ok (record { count = 2; to = x; other = y })) (Err (missing token m)))
+    (Err (missing token l)))
 unfolding resolve_labels places then_place then_found
 gone_two all token l m (at x) (at y) e f = (λ rest. rw (e, f), rw (e, f), rw e, rw (e, f))
 gone_two all token l m (at x) nowhere e f = λ rest. rw (e, f)
@@ -111,7 +115,7 @@ module _ (all : List Block) (before : ℕ) (names : List ℕ)
     (same : (l : ℕ) → place_of all l 0 ≡ label_place before 0 names l) where
   gone_jump : (token l : ℕ) (jumps : Bool)
       → Gone all token (pick jumps (l ∷ []) [])
-      (pick jumps (one_d before names token l) (Ok (record { count = 0; to = (block_id 0); other = (block_id 0) })))
+      (pick jumps (one_d before names token l) (Ok leads_nowhere))
   unfolding pick one_d resolve_labels places
   gone_jump token l true = gone_one all token l (label_place before 0 names l) (same l)
   gone_jump token l false = (λ rest. refl, refl, refl, refl)

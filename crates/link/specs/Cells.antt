@@ -1,9 +1,9 @@
 -- A function's block records, eight cells each (docs/INTERFACE.md): the index of its first operation among all items,
 -- how many operations it has, how many successors and the pair of them, where its predecessors begin, how many they
 -- are, and the dead mark. Blocks are numbered from the function's first.
-use Rattle.std.specs.Prelude.{Err, Ok, Result}
+use Rattle.std.specs.Prelude.{ℕ, ◌+◌, ◌*◌, ◌≡◌, List, [], ◌∷◌, ◌++◌, Bool, true, false, length, get_or, Result, Ok}
+use Rattle.std.specs.Prelude.{Err}
 use Rattle.parser.specs.declared.Refusal.{Refusal}
-use Rattle.std.specs.Prelude.{ℕ, ◌+◌, ◌*◌, ◌≡◌, List, [], ◌∷◌, ◌++◌, Bool, true, false, length, get_or}
 use Rattle.std.proofs.lemmas.List.Edits.{sets}
 use Rattle.graph.specs.Records.{block_record, cells_of}
 use Rattle.graph.specs.declared.BlockRecord.{BlockRecord}
@@ -38,7 +38,11 @@ predecessor_cells j all (b ∷ bs) = predecessors j 0 all ++ predecessor_cells (
 
 -- how many blocks and predecessors there are, or the refusal; `name` is the function's name token
 abbrev pub linked_by : List Block → Resolved → Result Linked Refusal
-linked_by bs fine = Ok (record { blocks = (length bs); predecessors = (length (predecessor_cells 0 (successors bs bs) bs)) })
+linked_by bs fine =
+    Ok (record {
+      blocks = length bs;
+      predecessors = length (predecessor_cells 0 (successors bs bs) bs);
+    })
 linked_by bs (refused e) = Err e
 
 unfoldable pub link_d : ℕ → List Shape → Result Linked Refusal
@@ -52,8 +56,8 @@ pub record Linking (ps : List Shape) (first base used : ℕ) (blocks₀ blocks p
   pub predecessors_are : preds ≡ sets predecessors₀ used
       (predecessor_cells 0 (successors (blocks_of ps) (blocks_of ps)) (blocks_of ps))
 
-abbrev pub LinkHeld : (ps : List Shape) (first base used : ℕ) (blocks₀ blocks predecessors₀ preds : List ℕ) → Result Linked Refusal
-    → Type 0
-LinkHeld ps first base used blocks₀ blocks predecessors₀ preds (Ok (record { blocks = n; predecessors = m })) =
+abbrev pub LinkHeld : (ps : List Shape) (first base used : ℕ) (blocks₀ blocks predecessors₀ preds : List ℕ)
+    → Result Linked Refusal → Type 0
+LinkHeld ps first base used blocks₀ blocks predecessors₀ preds (Ok l) =
     Linking ps first base used blocks₀ blocks predecessors₀ preds
 LinkHeld ps first base used blocks₀ blocks predecessors₀ preds (Err e) = Unit

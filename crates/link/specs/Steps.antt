@@ -1,6 +1,6 @@
 -- What each function of this crate does, in terms of the cells that it reads.
-use Rattle.std.specs.Prelude.{Err, None, Ok, Option, Result, Some}
-use Rattle.std.specs.Prelude.{ℕ, zero, suc, ◌+◌, ◌-◌, ◌*◌, ◌≤◌, ◌≡◌, List, [], ◌∷◌, ◌++◌, Bool, true, false, ltb, eqb, length, get_or, take}
+use Rattle.std.specs.Prelude.{ℕ, zero, suc, ◌+◌, ◌-◌, ◌*◌, ◌≤◌, ◌≡◌, List, [], ◌∷◌, ◌++◌, Bool, true, false, ltb, eqb}
+use Rattle.std.specs.Prelude.{length, get_or, take, Option, Some, None, Result, Ok, Err}
 use Rattle.std.proofs.lemmas.List.Edits.{sets}
 use Rattle.utils.specs.Bytes.{pick}
 use Rattle.graph.specs.Records.{block_record, cells_of, block_at}
@@ -75,21 +75,26 @@ then_found None found none = none
 -- where the label of a `jmp` leads
 unfoldable pub one_d : ℕ → List ℕ → ℕ → ℕ → Result Goes Refusal
 one_d before names token l =
-    then_found (found_of (label_place before 0 names l)) (λ x. Ok (record { count = 1; to = x; other = (block_id 0) })) (Err (missing token l))
+    then_found (found_of (label_place before 0 names l)) (λ x. Ok (record { count = 1; to = x; other = block_id 0 }))
+    (Err (missing token l))
 
 -- where those of a `br` lead, the first of them resolved first
 unfoldable pub two_d : ℕ → List ℕ → ℕ → ℕ → ℕ → Result Goes Refusal
 two_d before names token l m =
     then_found (found_of (label_place before 0 names l)) (λ x.
-    then_found (found_of (label_place before 0 names m)) (λ y. Ok (record { count = 2; to = x; other = y })) (Err (missing token m)))
+    then_found (found_of (label_place before 0 names m)) (λ y. Ok (record { count = 2; to = x; other = y }))
+    (Err (missing token m)))
     (Err (missing token l))
+
+abbrev pub leads_nowhere : Goes
+leads_nowhere = record { count = 0; to = block_id 0; other = block_id 0 }
 
 -- where a block leads whose last operation has this record: by its kind and its last two cells
 unfoldable pub leads_by : ℕ → List ℕ → ℕ → ℕ → Last → Result Goes Refusal
 leads_by before names kind token (L.Name l t) =
-    pick (eqb kind K.jump) (one_d before names token l.0) (Ok (record { count = 0; to = (block_id 0); other = (block_id 0) }))
+    pick (eqb kind K.jump) (one_d before names token l.0) (Ok leads_nowhere)
 leads_by before names kind token (L.Labels l m) = two_d before names token l.0 m.0
-leads_by before names kind token (L.Run first count) = Ok (record { count = 0; to = (block_id 0); other = (block_id 0) })
+leads_by before names kind token (L.Run first count) = Ok leads_nowhere
 
 unfoldable pub goes_d : ℕ → List ℕ → ItemRecord → Result Goes Refusal
 goes_d before names r = leads_by before names r.kind r.token r.last
@@ -104,12 +109,13 @@ run (operation w goes ∷ ps) = run ps + 1
 
 -- record k, once the block's labels are resolved; its predecessors and its dead mark are 0 until all blocks stand
 abbrev pub put_goes : List ℕ → ℕ → ℕ → ℕ → Result Goes Refusal → List ℕ
-put_goes cells k from n (Ok (record { count = c; to = x; other = y })) = sets cells (k * 8) (cells_of (block_record from n c x.0 y.0 0 0 0))
+put_goes cells k from n (Ok g) =
+    sets cells (k * 8) (cells_of (block_record from n g.count g.to.0 g.other.0 0 0 0))
 put_goes cells k from n (Err e) = cells
 
 -- how many blocks there are after one that leads there
 abbrev pub counted_by : ℕ → Result Goes Refusal → Result ℕ Refusal
-counted_by n (Ok (record { count = c; to = x; other = y })) = Ok (n + 1)
+counted_by n (Ok g) = Ok (n + 1)
 counted_by n (Err e) = Err e
 
 -- Record k after the block of the operations from `from` to before `stop`, which stands there then: `empty` where there

@@ -64,6 +64,7 @@ fn close_block(
 
 // The block of the operations from `from` to before `stop` becomes record k. The record after it, or `empty` where
 // there are no operations.
+#[tactic(auto, unfolding(crate::specs::Steps::added_d, crate::specs::Steps::added_cells, utils::specs::Bytes::pick))]
 fn add_block(
     items: &[u32],
     from: usize,

@@ -14,6 +14,7 @@ use graph::successors::load;
 use utils::limits;
 
 // Whether successor i of a block is block j.
+#[tactic(auto, unfolding(crate::specs::Steps::enters_d, utils::specs::Bytes::pick))]
 fn enters(count: u32, i: u32, target: BlockId, j: BlockId) -> bool
     ensures { result ≡ enters_d count i target.0 j.0 }
 {
@@ -24,6 +25,7 @@ fn enters(count: u32, i: u32, target: BlockId, j: BlockId) -> bool
 }
 
 // Block k goes to the place `at`, if it is a source. The place after it.
+#[tactic(auto, unfolding(utils::specs::Bytes::pick))]
 fn put_source(sources: &mut [u32], at: usize, k: BlockId, is: bool) -> usize
     requires { at + pick is 1 0 ≤ length sources.old }
     ensures { (result ≡ at + pick is 1 0)
@@ -99,6 +101,7 @@ fn enter_edges(
 }
 
 // Set where it isn't block 0 and has no predecessor.
+#[tactic(auto, unfolding(utils::specs::Bytes::pick))]
 fn dead_mark(j: BlockId, count: usize) -> u32
     ensures { result ≡ mark_of j.0 count }
 {

@@ -30,6 +30,7 @@ pub fn leading_labels(items: &[u32], first: usize, count: usize) -> usize
 }
 
 // The block that label i opens or names.
+#[tactic(auto, unfolding(crate::specs::Table::block_of, utils::specs::Bytes::pick))]
 fn block_of(leading: usize, i: usize) -> BlockId
     requires { i ≤ most_labels }
     ensures { result ≡ block_id (block_of leading i) }
@@ -72,6 +73,7 @@ fn unknown(token: usize, name: Identifier) -> Refusal
     }
 }
 
+#[tactic(auto, unfolding(crate::specs::Steps::one_d, crate::specs::Steps::then_found))]
 fn resolve_one(
     labels: &[u32],
     counts: LabelCounts,
@@ -89,6 +91,7 @@ fn resolve_one(
     })
 }
 
+#[tactic(auto, unfolding(crate::specs::Steps::two_d, crate::specs::Steps::then_found))]
 fn resolve_two(
     labels: &[u32],
     counts: LabelCounts,
@@ -116,6 +119,7 @@ const NOWHERE: Goes = Goes {
 };
 
 // Where a block leads whose last operation has this record.
+#[tactic(auto, unfolding(crate::specs::Steps::goes_d, crate::specs::Steps::leads_by, utils::specs::Bytes::pick))]
 pub fn resolve(labels: &[u32], counts: LabelCounts, r: ItemRecord) -> Result<Goes, Refusal>
     requires { (counts.all ≤ most_labels) × (counts.all ≤ length labels.now) }
     ensures { result ≡ goes_d counts.leading (take counts.all labels.now) r }

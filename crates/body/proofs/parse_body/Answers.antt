@@ -1,5 +1,6 @@
 -- What is left to read, read from here, gives the whole body (`Reading`); each turn takes tokens.
 use native.Mathlib.Omega.{arith}
+use Rattle.std.proofs.lemmas.Result.{err_from_is_err_and}
 use Rattle.lexer.specs.Decoded.{tokens_of}
 use Rattle.body.specs.Answer.{function_body}
 use Rattle.body.proofs.Reading.{begin, ready, onward, stop, finish, closed-read, refused-read}
@@ -25,18 +26,18 @@ turn-requires c = (
 
 pub loop-next-smaller : goal.loop-next-smaller
 loop-next-smaller c =
-    let g = rw c.in-On.is at c.turn.ensures in
+    let g = rw (c.in_ok-next.was, c.in-On.is) at c.turn.ensures in
     omega (arith, g.passed.two, c.loop-next.invariant.2.within.reached, c.loop-next.invariant.2.within.few)
 
 pub loop-next-preserved : goal.loop-next-preserved
 loop-next-preserved c =
-    let g = rw c.in-On.is at c.turn.ensures in
+    let g = rw (c.in_ok-next.was, c.in-On.is) at c.turn.ensures in
     onward c.requires.first_bound.0 c.requires.first_bound.1 c.loop-next.invariant.0 c.loop-next.invariant.1
     c.loop-next.invariant.2 c.turn.auto.labels g
 
 pub overflow_sub-result : goal.overflow_sub-result
 overflow_sub-result c =
-    let g = rw c.in-Done.is at c.turn.ensures in
+    let g = rw (c.in_ok-next.was, c.in-Done.is) at c.turn.ensures in
     let f =
     finish c.requires.first_bound.0 c.requires.first_bound.1 c.loop-next.invariant.0 c.loop-next.invariant.1
     c.loop-next.invariant.2 g in
@@ -44,7 +45,7 @@ overflow_sub-result c =
 
 pub overflow_sub-result-in-Done : goal.overflow_sub-result-in-Done
 overflow_sub-result-in-Done c =
-    let g = rw c.in-Done.is at c.turn.ensures in
+    let g = rw (c.in_ok-next.was, c.in-Done.is) at c.turn.ensures in
     let f =
     finish c.requires.first_bound.0 c.requires.first_bound.1 c.loop-next.invariant.0 c.loop-next.invariant.1
     c.loop-next.invariant.2 g in
@@ -53,7 +54,7 @@ overflow_sub-result-in-Done c =
 pub returns-in-Done : goal.returns-in-Done
 returns-in-Done c =
     let ts = tokens_of c.args.tokens.now in
-    let g = rw c.in-Done.is at c.turn.ensures in
+    let g = rw (c.in_ok-next.was, c.in-Done.is) at c.turn.ensures in
     let f =
     finish c.requires.first_bound.0 c.requires.first_bound.1 c.loop-next.invariant.0 c.loop-next.invariant.1
     c.loop-next.invariant.2 g in
@@ -62,13 +63,14 @@ returns-in-Done c =
     c.args.labels.now c.turn.new.labels f in
     record { value = w.0; held = w.1 }
 
-pub returns-in-Refused : goal.returns-in-Refused
-returns-in-Refused c =
+pub returns-in_err-next : goal.returns-in_err-next
+returns-in_err-next c =
     let ts = tokens_of c.args.tokens.now in
-    let g = rw c.in-Refused.is at c.turn.ensures in
+    let p = err_from_is_err_and c.from_residual.result c.from_residual.ensures.1 in
+    let g = rw c.in_err-next.was at c.turn.ensures in
     let f = stop c.requires.first_bound.0 c.requires.first_bound.1 c.loop-next.invariant.0 c.loop-next.invariant.1
-    c.in-Refused.e c.loop-next.invariant.2 g in
-    let w = refused-read ts c.args.void c.args.at c.args.first c.args.used (function_body ts c.args.at) c.in-Refused.e
+    c.in_err-next.field-0.0 c.loop-next.invariant.2 g in
+    let w = refused-read ts c.args.void c.args.at c.args.first c.args.used (function_body ts c.args.at) c.in_err-next.field-0.0
     c.args.items.now c.turn.new.items c.args.arguments.now c.turn.new.arguments
     c.args.labels.now c.turn.new.labels f in
-    record { value = w.0; held = w.1 }
+    record { value = rw (p.1, p.2) w.0; held = w.1 }

@@ -1,6 +1,6 @@
 -- The call, then its record; it has sixteen arguments at most, so their count fits its cell.
-use native.Mathlib.Omega.{arith}
-use mathlib.Core.Path.{refl, sym, ◌∙◌}
+use Rattle.std.proofs.Common.{refl, sym, ◌∙◌, arith}
+use Rattle.std.proofs.lemmas.Result.{err_from_is_err_and}
 use Rattle.lexer.specs.Decoded.{tokens_of}
 use Rattle.parser.specs.Step.{then_at}
 use Rattle.parser.specs.Runs.{call_d}
@@ -9,39 +9,30 @@ use Rattle.body.proofs.Progress.{call_in}
 use Rattle.body.proofs.Items.{called-done, called-refused}
 use Rattle.body.proofs.item.parse_call_item.Goals as goal
 
-pub overflow_cast-run-in-Done : goal.overflow_cast-run-in-Done
-overflow_cast-run-in-Done c =
+pub overflow_cast-run-2 : goal.overflow_cast-run-2
+overflow_cast-run-2 c =
     let ts = tokens_of c.args.tokens.now in
-    let d = called-done (call_d ts c.args.word) (sym c.in-Done.is ∙ c.parse_call.ensures.value) in
+    let d = called-done (call_d ts c.args.word) (sym c.in_ok-callee.was ∙ c.parse_call.ensures.value) in
     let few = (call_in ts c.requires.0.last c.requires.0.ends c.args.word c.requires.0.reached).few in
     omega (arith, few, d.2)
 
-pub overflow_add-result : goal.overflow_add-result
-overflow_add-result c =
-    let ts = tokens_of c.args.tokens.now in
-    let d = called-done (call_d ts c.args.word) (sym c.in-Done.is ∙ c.parse_call.ensures.value) in
-    let few = (call_in ts c.requires.0.last c.requires.0.ends c.args.word c.requires.0.reached).few in
-    omega (arith, few, d.2, c.requires.1)
-
-pub returns-in-Refused : goal.returns-in-Refused
+pub returns-in_err-callee : goal.returns-in_err-callee
 unfolding call_read then_at
-returns-in-Refused c =
+returns-in_err-callee c =
     let ts = tokens_of c.args.tokens.now in
-    let end = called-refused (call_d ts c.args.word) (sym c.in-Refused.is ∙ c.parse_call.ensures.value) in
-    record {
-      value = rw end refl;
-      call_held = rw end tt;
-    }
+    let p = err_from_is_err_and c.from_residual.result c.from_residual.ensures.1 in
+    let end = called-refused (call_d ts c.args.word) (sym c.in_err-callee.was ∙ c.parse_call.ensures.value) in
+    record { value = rw (p.1, p.2, end) refl; call_held = rw end tt }
 
-pub returns-in-Done : goal.returns-in-Done
+pub returns : goal.returns
 unfolding call_read then_at
-returns-in-Done c =
+returns c =
     let ts = tokens_of c.args.tokens.now in
-    let d = called-done (call_d ts c.args.word) (sym c.in-Done.is ∙ c.parse_call.ensures.value) in
+    let d = called-done (call_d ts c.args.word) (sym c.in_ok-callee.was ∙ c.parse_call.ensures.value) in
     record {
-      value = rw (d.0, c.record_of-r.ensures, d.1, d.2) refl;
+      value = rw (d.0, c.record_of-item.ensures, d.1, d.2) refl;
       call_held = rw (d.0, d.1, d.2) (record {
-        items_are = rw c.record_of-r.ensures at c.put_record.ensures;
+        items_are = rw c.record_of-item.ensures at c.put_record.ensures;
         arguments_are = c.parse_call.ensures.cells_after;
       });
     }

@@ -1,6 +1,7 @@
 -- Behind a terminator by `item-late`; else by what was read, one item more (`item-taken`).
 use Prim.Native.Nat.{◌+◌}
 use mathlib.Core.Path.{refl, sym, ap, ◌∙◌}
+use Rattle.std.proofs.lemmas.Result.{err_from_is_err_and}
 use Rattle.lexer.specs.Decoded.{tokens_of}
 use Rattle.body.specs.Body.{item_d, body_stop}
 use Rattle.body.specs.Turns.{late_refusal}
@@ -14,30 +15,31 @@ returns-then-s-eq-TERMINATOR c =
     item-late ts c.args.s.before c.args.s.at c.args.s.arguments c.if-s-eq-TERMINATOR.true k
     ∙ ap body_stop (sym (c.refuse.ensures ∙ ap late_refusal c.parse_item-read.ensures.value))
 
-pub returns-in-Refused : goal.returns-in-Refused
-returns-in-Refused c =
+pub returns-in_err-item : goal.returns-in_err-item
+returns-in_err-item c =
     let ts = tokens_of c.args.tokens.now in
-    let q = read-refused c.args.s.arguments (item_d ts c.args.s.at) (sym c.in-Refused.is ∙
+    let p = err_from_is_err_and c.from_residual.result c.from_residual.ensures.1 in
+    let q = read-refused c.args.s.arguments (item_d ts c.args.s.at) (sym c.in_err-item.was ∙
     c.parse_item-read.ensures.value) in
-    item_refused ts c.args.s.before c.args.s.at c.in-Refused.e q
+    rw (p.1, p.2) (item_refused ts c.args.s.before c.args.s.at _ q)
 
-pub returns-in-Done : goal.returns-in-Done
-returns-in-Done c =
+pub returns : goal.returns
+returns c =
     let ts = tokens_of c.args.tokens.now in
     let d =
     read_done c.args.s.items c.args.s.arguments (item_d ts c.args.s.at) c.args.items.now c.parse_item-read.new.items
     c.args.arguments.now
-    c.parse_item-read.new.arguments (sym c.in-Done.is ∙ c.parse_item-read.ensures.value)
+    c.parse_item-read.new.arguments (sym c.in_ok-item.was ∙ c.parse_item-read.ensures.value)
     c.parse_item-read.ensures.item_held in
     λ void.
     item-taken ts void c.args.s
     (record {
-      at = c.in-Done.next;
+      at = c.in_ok-item.field-0.next;
       items = c.args.s.items + 1;
-      arguments = c.in-Done.then;
+      arguments = c.in_ok-item.field-0.arguments;
       labels = c.args.s.labels;
       before = c.behind_kind.result;
-      last = c.in-Done.r.token;
+      last = c.in_ok-item.field-0.item.token;
     }) d.read c.args.items.now c.parse_item-read.new.items c.args.arguments.now c.parse_item-read.new.arguments
     c.requires.0.within d.is c.if-s-eq-TERMINATOR.false refl d.then_is refl (rw (← d.record_is) c.behind_kind.ensures)
     (rw (← d.record_is) refl) d.put
