@@ -1,5 +1,5 @@
 -- The loop over the functions of a text: what is left to read, read from here, gives the whole.
-use Rattle.std.specs.Prelude.{Err, Ok}
+use Rattle.std.specs.Prelude.{Err, Ok, Result}
 use Prim.Native.Nat.{ℕ, zero, suc, ◌+◌, ◌-◌, ◌≤◌, ◌<◌}
 use mathlib.Core.Path.{◌≡◌, refl, sym, ap, ◌∙◌}
 use mathlib.Core.List.{List, [], ◌∷◌, ◌++◌}
@@ -25,7 +25,11 @@ use Rattle.functions.specs.Answer.{stored_from}
 use Rattle.functions.specs.Answer.{Taken, function_read, FunctionHeld, with_count, Held, program_read}
 use Rattle.functions.specs.Laid.{Fits, FitsFrom, AllFit}
 use Rattle.functions.specs.declared.Counts.{Counts}
+use Rattle.functions.specs.declared.FunctionRead.{FunctionRead}
 use Rattle.functions.proofs.Types.{TypesFew, more-types, types_after_up, function-type-few}
+
+same-read : (r q : FunctionRead) → ◌≡◌ {A = Result FunctionRead Refusal} (Ok r) (Ok q) → r ≡ q
+same-read r q e = cc
 
 module _ (ts : List Tok) where
   -- One turn, by what the calls gave; k functions are read.
@@ -196,12 +200,11 @@ module _ (ts : List Tok) (names : List ℕ) (s₀ : Slices) where
 
     pub read-on : {t : TokenAt} → t ≡ token_at ts at → (t.kind ≡ 38 → ⊥) → (x : FunctionAt)
         → function_d ts (leb 64 n.functions) (known_from s.functions 0 n.functions) types at ≡ x
-        → (s' : Slices) → FunctionHeld ts names n s s' x → (next types' : ℕ) (m : Counts)
-        → Ok (record { next = next; types = types'; counts = m }) ≡ function_read types n x
-        → Going next types' m s' × (n.functions < 64) × (m.functions ≡ n.functions + 1)
-    read-on q h (function f) a s' w next types' m e =
-        let p : next ≡ f.next = cc in
-        let r : types' ≡ types_after types f.head.type = cc in
-        let v : m ≡ counts_with n f = cc in
-        (rw (p, r, v) (onward q h a s' w), w.few, ap (λ (k : Counts). k.functions) v)
-    read-on q h (no_function r) a s' w next types' m e = absurd (let z : ◌≡◌ {A = ℕ} 0 1 = cc in omega arith)
+        → (s' : Slices) → FunctionHeld ts names n s s' x → (r : FunctionRead)
+        → Ok r ≡ function_read types n x
+        → Going r.next r.types r.counts s' × (n.functions < 64) × (r.counts.functions ≡ n.functions + 1)
+    read-on q h (function f) a s' w r e =
+        let v : r ≡ record { next = f.next; types = types_after types f.head.type; counts = counts_with n f } =
+        same-read _ _ e in
+        rw v (onward q h a s' w, w.few, refl)
+    read-on q h (no_function e) a s' w r g = absurd (let z : ◌≡◌ {A = ℕ} 0 1 = cc in omega arith)

@@ -23,6 +23,7 @@ use Rattle.body.proofs.Decode.{parts_stored}
 use Rattle.body.proofs.Lay.{arguments_cells-closed, arguments_count-closed}
 use Rattle.body.specs.declared.Closed.{Closed}
 use Rattle.link.specs.Cells.{predecessor_cells, linked_by, link_d, Linking}
+use Rattle.link.specs.declared.Linked.{Linked}
 use Rattle.link.specs.Steps.{Ready}
 use Rattle.link.proofs.Laws.{at_most_256, blocks-counted}
 use Rattle.link.proofs.Edges.{thin_blocks, entries-few}
@@ -36,8 +37,7 @@ done_at : (e : Result ℕ Refusal) (next items arguments labels : ℕ) (c : Clos
     → Ok c ≡ then_at Err e (λ next. Ok (record {
       next = next;
       items = items;
-      arguments =
-          arguments;
+      arguments = arguments;
       labels = labels;
     }))
     → (e ≡ Ok c.next) × (c.items ≡ items) × (c.arguments ≡ arguments) × (c.labels ≡ labels)
@@ -46,13 +46,12 @@ done_at (Ok i) next items arguments labels c h = (cc, cc, cc, cc)
 done_at (Err e) next items arguments labels c h = absurd (let z : ◌≡◌ {A = ℕ} 0 1 = cc in omega arith)
 
 refused_at_lem : (e : Result ℕ Refusal) (items arguments labels : ℕ) (r : Refusal)
-    → Err r ≡ then_at Err e (λ next. Ok (record {
+    → ◌≡◌ {A = Result Closed Refusal} (Err r) (then_at Err e (λ next. Ok (record {
       next = next;
       items = items;
-      arguments =
-          arguments;
+      arguments = arguments;
       labels = labels;
-    }))
+    })))
     → e ≡ Err r
 unfolding then_at
 refused_at_lem (Ok i) items arguments labels r h = absurd (let z : ◌≡◌ {A = ℕ} 0 1 = cc in omega arith)
@@ -62,10 +61,10 @@ linked_refused : (bs : List Block) (x : Resolved) (e : Refusal) → Err e ≡ li
 linked_refused bs fine e h = let z : ◌≡◌ {A = ℕ} 0 1 = cc in absurd (omega arith)
 linked_refused bs (refused e') e h = cc
 
-linked_done : (bs : List Block) (x : Resolved) (n m : ℕ) → Ok (record { blocks = n; predecessors = m }) ≡ linked_by bs x
-    → (x ≡ fine) × (n ≡ length bs) × (m ≡ length (predecessor_cells 0 (successors bs bs) bs))
-linked_done bs fine n m h = (refl, cc, cc)
-linked_done bs (refused e) n m h = let z : ◌≡◌ {A = ℕ} 0 1 = cc in absurd (omega arith)
+linked_done : (bs : List Block) (x : Resolved) (l : Linked) → Ok l ≡ linked_by bs x
+    → (x ≡ fine) × (l.blocks ≡ length bs) × (l.predecessors ≡ length (predecessor_cells 0 (successors bs bs) bs))
+linked_done bs fine l h = (refl, cc, cc)
+linked_done bs (refused e) l h = let z : ◌≡◌ {A = ℕ} 0 1 = cc in absurd (omega arith)
 
 module _ (ts : List Tok) (void : Bool) (named at : ℕ) (n : Counts)
     (items₀ items arguments₀ arguments labels₀ labels : List ℕ) where
@@ -148,13 +147,13 @@ module _ (ts : List Tok) (void : Bool) (named at : ℕ) (n : Counts)
     link_refused e h =
         rw (ended.0, linked_refused bs (resolve_d named bs) e (rw parts at h))
 
-    module _ (k m : ℕ) (linked : Ok (record { blocks = k; predecessors = m }) ≡ link_d named (parts_at items n.items c.items)) (blocks preds : List ℕ)
+    module _ (l : Linked) (linked : Ok l ≡ link_d named (parts_at items n.items c.items)) (blocks preds : List ℕ)
         (kept : Linking (parts_at items n.items c.items) n.items n.blocks n.predecessors blocks₀ blocks
         preds₀ preds)
       where
-        linked_to : (resolve_d named bs ≡ fine) × (k ≡ length bs) × (m ≡ length (predecessors_in is))
+        linked_to : (resolve_d named bs ≡ fine) × (l.blocks ≡ length bs) × (l.predecessors ≡ length (predecessors_in is))
         unfolding link_d
-        linked_to = linked_done bs (resolve_d named bs) k m (rw parts at linked)
+        linked_to = linked_done bs (resolve_d named bs) l (rw parts at linked)
 
         pub is-built : built_d ts void named at ≡ built is c.next
         unfolding built_d then_at
@@ -169,8 +168,8 @@ module _ (ts : List Tok) (void : Bool) (named at : ℕ) (n : Counts)
           next = c.next;
           items = c.items;
           arguments = c.arguments;
-          blocks = k;
-          predecessors = m;
+          blocks = l.blocks;
+          predecessors = l.predecessors;
         })
             ≡ build_read (built_d ts void named at)
         answered =

@@ -1,8 +1,7 @@
 -- What `parse` answers and writes.
-use Rattle.std.specs.Prelude.{Err, Ok, Result}
 use Rattle.functions.specs.declared.Body.{Body}
 use Rattle.parser.specs.declared.Refusal.{Refusal}
-use Rattle.std.specs.Prelude.{ℕ, ◌+◌, ◌*◌, ◌≤◌, ◌<◌, ◌≡◌, List, [], ◌∷◌, ◌++◌, length, set}
+use Rattle.std.specs.Prelude.{ℕ, ◌+◌, ◌*◌, ◌≤◌, ◌<◌, ◌≡◌, List, [], ◌∷◌, ◌++◌, length, set, Err, Ok, Result}
 use Rattle.std.proofs.lemmas.List.Edits.{sets}
 use Rattle.utils.specs.Bytes.{pad_to}
 use Rattle.lexer.specs.Decoded.{Tok}

@@ -1,7 +1,6 @@
 -- Document 01, "Functions, labels, edges": "A text is any number of functions: global; optionally formals in
 -- parentheses; optionally colon and type; `{` body `}`."
-use Rattle.std.specs.Prelude.{Err, Ok, Result}
-use Rattle.std.specs.Prelude.{ℕ, zero, suc, List, [], ◌∷◌, ◌++◌, Bool, true, false, eqb}
+use Rattle.std.specs.Prelude.{ℕ, zero, suc, List, [], ◌∷◌, ◌++◌, Bool, true, false, eqb, Err, Ok, Result}
 use Rattle.utils.specs.Bytes.{pick}
 use Rattle.lexer.specs.Decoded.{Tok, token_at}
 use Rattle.parser.specs.Types as Types
@@ -58,7 +57,7 @@ entered_d ts known types token name signed at =
     (Err (unexpected token name))
 
 unfoldable pub then_entered : {A : Type 0} → (Refusal → A) → Result (ℕ × ℕ) Refusal → (ℕ → ℕ → A) → A
-then_entered fail (Ok (type, next)) k = k type next
+then_entered fail (Ok p) k = k p.0 p.1
 then_entered fail (Err e) k = fail e
 
 -- what stands behind the name

@@ -1,8 +1,7 @@
 -- What the header's functions answer and store.
-use Rattle.std.specs.Prelude.{Err, Ok, Result}
 use Rattle.functions.specs.declared.Head.{Head}
 use Rattle.parser.specs.declared.Refusal.{Refusal}
-use Rattle.std.specs.Prelude.{ℕ, ◌≤◌, ◌<◌, ◌≡◌, List, length}
+use Rattle.std.specs.Prelude.{ℕ, ◌≤◌, ◌<◌, ◌≡◌, List, length, Err, Ok, Result}
 use Rattle.std.proofs.lemmas.List.Edits.{sets}
 use Rattle.parser.specs.Runs.{type_cell, variables_cells}
 use Rattle.utils.specs.Limits.{most_formals, most_functions}

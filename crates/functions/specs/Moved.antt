@@ -1,8 +1,7 @@
 -- Two readings of one function (demand 3), on from the parser's relations: what the functions so far, a header, a body
 -- with its blocks and a function are to those of the other reading. `proofs/SimFunctions.antt` shows that the
 -- definitions give related answers on related tokens.
-use Rattle.std.specs.Prelude.{Err, Ok, Result}
-use Rattle.std.specs.Prelude.{ℕ, ◌+◌, ◌≤◌, ◌<◌, ◌≡◌, List, eqb}
+use Rattle.std.specs.Prelude.{ℕ, ◌+◌, ◌≤◌, ◌<◌, ◌≡◌, List, eqb, Err, Ok, Result}
 use Rattle.body.specs.Body.{Item}
 use Rattle.parser.specs.Moved.{Move, SimName, SimE, SimV, SimClose, Each}
 use Rattle.body.specs.Moved.{SimItem}

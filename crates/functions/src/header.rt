@@ -18,7 +18,13 @@ use pieces::{Identifier, kinds};
 use utils::{limits, numbers};
 
 // Formals in parentheses, or none.
-pub fn parse_optional_formals(tokens: &[u32], at: usize, rows: &mut [u32], used: usize) -> Result<Run, Refusal>
+#[tactic(auto, unfolding(parser::specs::Step::opened, crate::specs::Functions::optional_formals, parser::specs::Runs::run_of, parser::specs::Runs::variables_cells))]
+pub fn parse_optional_formals(
+    tokens: &[u32],
+    at: usize,
+    rows: &mut [u32],
+    used: usize,
+) -> Result<Run, Refusal>
     requires { used + 32 ≤ length rows.old }
     ensures value { result ≡ run_of (optional_formals (tokens_of tokens.now) at) }
     ensures rows_after { rows.new ≡ sets rows.old used
@@ -32,6 +38,7 @@ pub fn parse_optional_formals(tokens: &[u32], at: usize, rows: &mut [u32], used:
 }
 
 // A colon and a type, or void.
+#[tactic(auto, unfolding(parser::specs::Step::opened, crate::specs::Functions::optional_type))]
 pub fn parse_optional_type(tokens: &[u32], at: usize) -> Result<(Ty, usize), Refusal>
     ensures { result ≡ optional_type (tokens_of tokens.now) at }
 {
@@ -43,6 +50,7 @@ pub fn parse_optional_type(tokens: &[u32], at: usize) -> Result<(Ty, usize), Ref
 }
 
 // The brace behind a header; `ty` is the number of its function type.
+#[tactic(auto, unfolding(parser::specs::Step::opened))]
 fn open_body(tokens: &[u32], at: usize, ty: u32) -> Result<(u32, usize), Refusal>
     ensures { result ≡ then_at Err (consume_d (tokens_of tokens.now) at T.left_brace)
         (λ next. Ok (ty, next)) }
@@ -53,6 +61,7 @@ fn open_body(tokens: &[u32], at: usize, ty: u32) -> Result<(u32, usize), Refusal
 
 // The name is entered after the type and before `{`: SymbolTable::insert of ir.rs. Its formals stand in row n. The
 // number of its function type, and the index behind the brace.
+#[tactic(auto, unfolding(parser::specs::Step::opened, crate::specs::Functions::entered_d))]
 fn enter(
     tokens: &[u32],
     rows: &[u32],
@@ -98,14 +107,14 @@ fn parse_signature(
     ensures header_held { HeaderHeld n rows.old rows.new
         (signature_d (tokens_of tokens.now) (known_from rows.old 0 n) types token name at) }
 {
-    let run = parse_optional_formals(tokens, at, rows, columns::FORMALS + n * columns::ROW)?;
-    let (result, at2) = parse_optional_type(tokens, run.next)?;
+    let row = columns::FORMALS + n * columns::ROW;
+    let formals = parse_optional_formals(tokens, at, rows, row)?;
+    let (result, at2) = parse_optional_type(tokens, formals.next)?;
     let ret = parser::runs::type_cell(result);
-    let formals = run.count;
-    let (ty, next) = enter(tokens, rows, n, types, token, name, formals, ret, at2)?;
+    let (ty, next) = enter(tokens, rows, n, types, token, name, formals.count, ret, at2)?;
     Ok(Head {
         name,
-        formals,
+        formals: formals.count,
         ret,
         ty,
         next,
@@ -113,7 +122,14 @@ fn parse_signature(
 }
 
 // 35 comes once the name is read.
-pub fn parse_header(tokens: &[u32], at: usize, n: usize, types: u32, rows: &mut [u32]) -> Result<Head, Refusal>
+#[tactic(auto, unfolding(parser::specs::Step::opened, crate::specs::Functions::header_d))]
+pub fn parse_header(
+    tokens: &[u32],
+    at: usize,
+    n: usize,
+    types: u32,
+    rows: &mut [u32],
+) -> Result<Head, Refusal>
     requires { HasRows rows.old n }
     ensures value { result ≡ header_read (header_d (tokens_of tokens.now) (leb most_functions n)
         (known_from rows.old 0 n) types at) }

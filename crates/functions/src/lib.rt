@@ -62,6 +62,7 @@ pub struct FunctionRead {
 }
 
 // How many function types there are once this number is given.
+#[tactic(auto, unfolding(crate::specs::Known::types_after, utils::specs::Bytes::pick))]
 fn types_after(types: u32, ty: u32) -> u32
     requires { types ≤ most_functions }
     ensures { result ≡ types_after types ty }

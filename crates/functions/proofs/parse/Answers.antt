@@ -2,6 +2,7 @@
 -- Each turn fills one of 64 rows, so the loop ends; a 65th function is refused by its header.
 use Rattle.functions.proofs.Program.{begin, at_end, refused-read, read-on}
 use Rattle.lexer.specs.Decoded.{tokens_of}
+use Rattle.std.proofs.lemmas.Result.{err_from_is_err_and}
 use native.Mathlib.Omega.{arith}
 use mathlib.Core.Path.{refl, sym, ◌∙◌}
 use Rattle.functions.proofs.parse.Goals as goal
@@ -44,25 +45,26 @@ parse_function-requires c = (
   },
 )
 
-pub returns-in-Refused : goal.returns-in-Refused
-returns-in-Refused c =
+pub returns-in_err-read : goal.returns-in_err-read
+returns-in_err-read c =
+    let p = err_from_is_err_and c.from_residual.result c.from_residual.ensures.1 in
     let w = refused-read (tokens_of c.args.tokens.now) c.args.names.now _ c.loop-functions.invariant
     c.token_at-t.ensures c.if-t-eq-END_OF_FILE.false _ refl
-    (sym c.in-Refused.is ∙ c.parse_function.ensures.value) _ in
-    record { value = w.0; held = w.1.0; all_fit = w.1.1 }
+    (sym c.in_err-read.was ∙ c.parse_function.ensures.value) _ in
+    record { value = rw (p.1, p.2) w.0; held = w.1.0; all_fit = w.1.1 }
 
 pub loop-functions-smaller : goal.loop-functions-smaller
 loop-functions-smaller c =
     let on = read-on (tokens_of c.args.tokens.now) c.args.names.now _ c.loop-functions.invariant c.token_at-t.ensures
     c.if-t-eq-END_OF_FILE.false _
-    refl _ c.parse_function.ensures.function_held _ _ _
-    (sym c.in-Done.is ∙ c.parse_function.ensures.value) in
+    refl _ c.parse_function.ensures.function_held _
+    (sym c.in_ok-read.was ∙ c.parse_function.ensures.value) in
     omega (arith, on.1, on.2)
 
 pub loop-functions-preserved : goal.loop-functions-preserved
 loop-functions-preserved c =
     let on = read-on (tokens_of c.args.tokens.now) c.args.names.now _ c.loop-functions.invariant c.token_at-t.ensures
     c.if-t-eq-END_OF_FILE.false _
-    refl _ c.parse_function.ensures.function_held _ _ _
-    (sym c.in-Done.is ∙ c.parse_function.ensures.value) in
+    refl _ c.parse_function.ensures.function_held _
+    (sym c.in_ok-read.was ∙ c.parse_function.ensures.value) in
     on.0

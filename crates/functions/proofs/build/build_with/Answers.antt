@@ -4,9 +4,9 @@ use mathlib.Core.List.{[]}
 use Rattle.functions.proofs.Whole.{body_refused, ready, link_refused, answered, is_held}
 use Rattle.link.specs.Cells.{LinkHeld}
 use Rattle.lexer.specs.Decoded.{tokens_of}
-use mathlib.Core.Path.{subst}
+use Rattle.std.proofs.lemmas.Result.{err_from_is_err_and}
 use native.Mathlib.Omega.{arith}
-use mathlib.Core.Path.{refl, sym, ◌∙◌}
+use mathlib.Core.Path.{refl, sym, subst, ◌∙◌}
 use Rattle.functions.proofs.build.build_with.Goals as goal
 
 pub parse_body-requires : goal.parse_body-requires
@@ -21,57 +21,67 @@ pub link-requires : goal.link-requires
 link-requires c =
     ready (tokens_of c.args.tokens.now) c.args.void c.args.name c.args.at c.args.n c.args.items.now _
     c.args.arguments.now _ _ _
-    c.in-Done.closed (sym c.in-Done.is ∙ c.parse_body.ensures.value) c.parse_body.ensures.held c.requires.0 c.requires.1
+    c.in_ok-closed.closed (sym c.in_ok-closed.was ∙ c.parse_body.ensures.value) c.parse_body.ensures.held c.requires.0 c.requires.1
     c.args.blocks.now c.args.predecessors.now c.requires.3 (omega (arith, c.requires.2, c.parse_body.auto.labels))
 
-pub returns-in-Refused : goal.returns-in-Refused
-returns-in-Refused c =
+pub returns-in_err-closed : goal.returns-in_err-closed
+returns-in_err-closed c =
+    let p = err_from_is_err_and c.from_residual.result c.from_residual.ensures.1 in
     record {
-      value = rw (body_refused (tokens_of c.args.tokens.now) c.args.void c.args.name c.args.at c.args.n [] [] [] [] []
-          []
-          c.in-Refused.e (sym c.in-Refused.is ∙ c.parse_body.ensures.value)) refl;
+      value = rw (
+        p.1,
+        p.2,
+        body_refused (tokens_of c.args.tokens.now) c.args.void c.args.name c.args.at c.args.n [] [] [] [] []
+            []
+            c.in_err-closed.field-0.0 (sym c.in_err-closed.was ∙ c.parse_body.ensures.value),
+      ) refl;
       build_held = rw (body_refused (tokens_of c.args.tokens.now) c.args.void c.args.name c.args.at c.args.n [] [] []
           [] [] []
-          c.in-Refused.e (sym c.in-Refused.is ∙ c.parse_body.ensures.value)) tt;
+          c.in_err-closed.field-0.0 (sym c.in_err-closed.was ∙ c.parse_body.ensures.value)) tt;
     }
 
-pub returns-in-Refused-link : goal.returns-in-Refused-link
-returns-in-Refused-link c =
+pub returns-in_err-linked : goal.returns-in_err-linked
+returns-in_err-linked c =
+    let p = err_from_is_err_and c.from_residual-in_err-linked.result c.from_residual-in_err-linked.ensures.1 in
     record {
-      value = rw (link_refused (tokens_of c.args.tokens.now) c.args.void c.args.name c.args.at c.args.n
-          c.args.items.now _
-          c.args.arguments.now _ _ _
-          c.in-Done.closed (sym c.in-Done.is ∙ c.parse_body.ensures.value) c.parse_body.ensures.held c.requires.0
-          c.requires.1
-          c.args.blocks.now c.args.predecessors.now c.requires.3 (omega (arith, c.requires.2, c.parse_body.auto.labels))
-          c.in-Refused-link.e (sym c.in-Refused-link.is ∙ c.link.ensures.value)) refl;
+      value = rw (
+        p.1,
+        p.2,
+        link_refused (tokens_of c.args.tokens.now) c.args.void c.args.name c.args.at c.args.n
+            c.args.items.now _
+            c.args.arguments.now _ _ _
+            c.in_ok-closed.closed (sym c.in_ok-closed.was ∙ c.parse_body.ensures.value) c.parse_body.ensures.held c.requires.0
+            c.requires.1
+            c.args.blocks.now c.args.predecessors.now c.requires.3 (omega (arith, c.requires.2, c.parse_body.auto.labels))
+            c.in_err-linked.field-0.0 (sym c.in_err-linked.was ∙ c.link.ensures.value),
+      ) refl;
       build_held = rw (link_refused (tokens_of c.args.tokens.now) c.args.void c.args.name c.args.at c.args.n
           c.args.items.now _
           c.args.arguments.now _ _ _
-          c.in-Done.closed (sym c.in-Done.is ∙ c.parse_body.ensures.value) c.parse_body.ensures.held c.requires.0
+          c.in_ok-closed.closed (sym c.in_ok-closed.was ∙ c.parse_body.ensures.value) c.parse_body.ensures.held c.requires.0
           c.requires.1
           c.args.blocks.now c.args.predecessors.now c.requires.3 (omega (arith, c.requires.2, c.parse_body.auto.labels))
-          c.in-Refused-link.e (sym c.in-Refused-link.is ∙ c.link.ensures.value)) tt;
+          c.in_err-linked.field-0.0 (sym c.in_err-linked.was ∙ c.link.ensures.value)) tt;
     }
 
-pub returns-in-Done-link : goal.returns-in-Done-link
-returns-in-Done-link c =
-    let kept = subst (LinkHeld _ _ _ _ _ _ _ _) c.in-Done-link.is c.link.ensures.link_held in
+pub returns : goal.returns
+returns c =
+    let kept = subst (LinkHeld _ _ _ _ _ _ _ _) c.in_ok-linked.was c.link.ensures.link_held in
     record {
       value = answered (tokens_of c.args.tokens.now) c.args.void c.args.name c.args.at c.args.n c.args.items.now _
           c.args.arguments.now
           _ _ _
-          c.in-Done.closed (sym c.in-Done.is ∙ c.parse_body.ensures.value) c.parse_body.ensures.held c.requires.0
+          c.in_ok-closed.closed (sym c.in_ok-closed.was ∙ c.parse_body.ensures.value) c.parse_body.ensures.held c.requires.0
           c.requires.1
           c.args.blocks.now c.args.predecessors.now c.requires.3
           (omega (arith, c.requires.2, c.parse_body.auto.labels))
-          _ _ (sym c.in-Done-link.is ∙ c.link.ensures.value) _ _ kept;
+          _ (sym c.in_ok-linked.was ∙ c.link.ensures.value) _ _ kept;
       build_held = is_held (tokens_of c.args.tokens.now) c.args.void c.args.name c.args.at c.args.n c.args.items.now _
           c.args.arguments.now
           _ _ _
-          c.in-Done.closed (sym c.in-Done.is ∙ c.parse_body.ensures.value) c.parse_body.ensures.held c.requires.0
+          c.in_ok-closed.closed (sym c.in_ok-closed.was ∙ c.parse_body.ensures.value) c.parse_body.ensures.held c.requires.0
           c.requires.1
           c.args.blocks.now c.args.predecessors.now c.requires.3
           (omega (arith, c.requires.2, c.parse_body.auto.labels))
-          _ _ (sym c.in-Done-link.is ∙ c.link.ensures.value) _ _ kept;
+          _ (sym c.in_ok-linked.was ∙ c.link.ensures.value) _ _ kept;
     }
