@@ -1,5 +1,5 @@
--- One turn of each loop: what is left is the first of it and the rest, or nothing.
-use Prim.Native.Nat.{ℕ, zero, suc, ◌+◌, ◌*◌, ◌-◌, ◌<◌}
+-- One turn of each loop over the places up to `end`: what is left is the first of it and the rest, or nothing.
+use Prim.Native.Nat.{ℕ, suc, ◌+◌, ◌*◌, ◌-◌, ◌<◌, ◌≤◌}
 use mathlib.Core.Path.{◌≡◌}
 use mathlib.Core.List.{List}
 use native.Mathlib.Omega.{arith}
@@ -9,38 +9,37 @@ use Rattle.body.specs.Records.{record_at, record_cells}
 use Rattle.elaborate.specs.Types.{type_of, typed_record, typed_run, typed_arguments, typed_items}
 use Rattle.elaborate.specs.Types.{typed_calls}
 
-pub run_more : (table cells : List ℕ) (at n : ℕ) → 0 < n
-    → typed_run table cells at n
-    ≡ typed_run table (set cells (at * 2 + 1) (type_of table (get_or cells (at * 2) 0))) (at + 1) (n - 1)
+less : (i end : ℕ) → i < end → end - i ≡ suc (end - (i + 1))
+less i end h = omega arith
+
+pub run_turn : (table cells : List ℕ) (i end : ℕ) → i < end
+    → typed_run table cells i (end - i)
+    ≡ typed_run table (set cells (i * 2 + 1) (type_of table (get_or cells (i * 2) 0))) (i + 1) (end - (i + 1))
 unfolding typed_run
-run_more table cells at zero h = absurd (omega arith)
-run_more table cells at (suc n) h = let m : suc n - 1 ≡ n = omega arith in rw m
+run_turn table cells i end h = rw (less i end h)
 
-pub run_none : (table cells : List ℕ) (at n : ℕ) → n ≡ 0 → typed_run table cells at n ≡ cells
+pub run_end : (table cells : List ℕ) (i end : ℕ) → end ≤ i → typed_run table cells i (end - i) ≡ cells
 unfolding typed_run
-run_none table cells at n h = rw h
+run_end table cells i end h = let e : end - i ≡ 0 = omega arith in rw e
 
-pub items_more : (table : List ℕ) (callees : ℕ → ℕ) (cells : List ℕ) (first count : ℕ) → 0 < count
-    → typed_items table callees cells first count
-    ≡ typed_items table callees (sets cells (first * 8) (record_cells (typed_record table callees (record_at cells first))))
-    (first + 1) (count - 1)
+pub items_turn : (table : List ℕ) (callees : ℕ → ℕ) (cells : List ℕ) (i end : ℕ) → i < end
+    → typed_items table callees cells i (end - i)
+    ≡ typed_items table callees (sets cells (i * 8) (record_cells (typed_record table callees (record_at cells i))))
+    (i + 1) (end - (i + 1))
 unfolding typed_items
-items_more table callees cells first zero h = absurd (omega arith)
-items_more table callees cells first (suc count) h = let m : suc count - 1 ≡ count = omega arith in rw m
+items_turn table callees cells i end h = rw (less i end h)
 
-pub items-none : (table : List ℕ) (callees : ℕ → ℕ) (cells : List ℕ) (first count : ℕ) → count ≡ 0
-    → typed_items table callees cells first count ≡ cells
+pub items_end : (table : List ℕ) (callees : ℕ → ℕ) (cells : List ℕ) (i end : ℕ) → end ≤ i
+    → typed_items table callees cells i (end - i) ≡ cells
 unfolding typed_items
-items-none table callees cells first count h = rw h
+items_end table callees cells i end h = let e : end - i ≡ 0 = omega arith in rw e
 
-pub calls_more : (table items cells : List ℕ) (first count : ℕ) → 0 < count
-    → typed_calls table items cells first count
-    ≡ typed_calls table items (typed_arguments table cells (record_at items first)) (first + 1) (count - 1)
+pub calls_turn : (table items cells : List ℕ) (i end : ℕ) → i < end
+    → typed_calls table items cells i (end - i)
+    ≡ typed_calls table items (typed_arguments table cells (record_at items i)) (i + 1) (end - (i + 1))
 unfolding typed_calls
-calls_more table items cells first zero h = absurd (omega arith)
-calls_more table items cells first (suc count) h = let m : suc count - 1 ≡ count = omega arith in rw m
+calls_turn table items cells i end h = rw (less i end h)
 
-pub calls_none : (table items cells : List ℕ) (first count : ℕ) → count ≡ 0 → typed_calls table items cells first count
-    ≡ cells
+pub calls_end : (table items cells : List ℕ) (i end : ℕ) → end ≤ i → typed_calls table items cells i (end - i) ≡ cells
 unfolding typed_calls
-calls_none table items cells first count h = rw h
+calls_end table items cells i end h = let e : end - i ≡ 0 = omega arith in rw e

@@ -2,10 +2,9 @@
 #![tactic(auto)]
 
 ghost use Rattle.std.specs.Prelude.{◌≡◌, ℕ, ◌+◌, ◌*◌, ◌≤◌, ◌<◌, length, get_or, set};
-ghost use Rattle.body.specs.Records.{item_record};
 ghost use Rattle.functions.specs.Columns.{type_at, table_size};
 ghost use Rattle.utils.specs.Limits.{most_functions};
-ghost use Rattle.elaborate.specs.Types.{callee_of, is_call, typed_last, typed_record, typed_run, typed_arguments};
+ghost use Rattle.elaborate.specs.Types.{callee_of, typed_last, typed_record, typed_run, typed_arguments};
 ghost use Rattle.elaborate.specs.Types.{typed_items, typed_calls, Elaborated};
 
 use body::{ItemRecord, Last, kinds, records};
@@ -26,33 +25,8 @@ fn callee_type(rows: &[u32], n: usize, name: Identifier) -> u32
     }
 }
 
-fn is_call(kind: u32) -> bool
-    ensures { result ≡ is_call kind }
-{
-    if kind == kinds::CALL {
-        return true;
-    }
-    kind == kinds::CALL_INTO
-}
-
-// An item with another type of its left operand, and other last cells.
-fn with_types(r: ItemRecord, lty: u32, last: Last) -> ItemRecord
-    ensures { result ≡ item_record r.kind r.token r.dest r.dty r.left lty last }
-{
-    let dest = r.dest;
-    let left = r.left;
-    ItemRecord {
-        kind: r.kind,
-        token: r.token,
-        dest,
-        dty: r.dty,
-        left,
-        lty,
-        last,
-    }
-}
-
 // A right operand with its type.
+#[tactic(auto, unfolding(crate::specs::Types::typed_last))]
 fn typed_last(table: &[u32], last: Last) -> Last
     ensures { result ≡ typed_last table.now last }
 {
@@ -64,39 +38,40 @@ fn typed_last(table: &[u32], last: Last) -> Last
 }
 
 // An item with the types of its operands.
+#[tactic(auto, unfolding(crate::specs::Types::typed_record, crate::specs::Types::is_call, utils::specs::Bytes::pick))]
 fn typed_record(r: ItemRecord, table: &[u32], rows: &[u32], n: usize) -> ItemRecord
     requires { (n ≤ most_functions) × (table_size ≤ length rows.now)
         × ((i : ℕ) → i < n → get_or rows.now (type_at i) 0 ≤ most_functions) }
     ensures { result ≡ typed_record table.now (callee_of rows.now n) r }
 {
-    let kind = r.kind;
     let left = r.left;
-    let last = r.last;
-    if kind == kinds::BINARY {
-        let lty = cell_at(table, left.0 as usize);
-        return with_types(r, lty, typed_last(table, last));
+    match r.kind {
+        kinds::BINARY => ItemRecord {
+            lty: cell_at(table, left.0 as usize),
+            last: typed_last(table, r.last),
+            ..r
+        },
+        kinds::UNARY => ItemRecord {
+            lty: cell_at(table, left.0 as usize),
+            ..r
+        },
+        kinds::CALL | kinds::CALL_INTO => ItemRecord {
+            lty: callee_type(rows, n, left),
+            ..r
+        },
+        _ => r,
     }
-    if kind == kinds::UNARY {
-        return with_types(r, cell_at(table, left.0 as usize), last);
-    }
-    if is_call(kind) {
-        return with_types(r, callee_type(rows, n, left), last);
-    }
-    r
 }
 
 // The arguments of a call, from `first` on.
 fn type_run(table: &[u32], arguments: &mut [u32], first: u32, count: u32)
     ensures { arguments.new ≡ typed_run table.now arguments.old first count }
 {
-    let mut at = first as usize;
-    let mut left = count;
-    while 0 < left {
-        let i = at * VARIABLE_CELLS;
-        let ty = cell_at(table, cell_at(arguments, i) as usize);
-        put_cell(arguments, i + 1, ty);
-        at += 1;
-        left -= 1;
+    let start = first as usize;
+    for i in start..start + count as usize {
+        let at = i * VARIABLE_CELLS;
+        let ty = cell_at(table, cell_at(arguments, at) as usize);
+        put_cell(arguments, at + 1, ty);
     }
 }
 
@@ -115,13 +90,8 @@ fn elaborate_calls(table: &[u32], items: &[u32], first: usize, count: usize, arg
     ensures { arguments.new
         ≡ typed_calls table.now items.now arguments.old first count }
 {
-    let mut at = first;
-    let mut left = count;
-    while 0 < left {
-        let r = records::record_at(items, at);
-        type_call(table, r, arguments);
-        at += 1;
-        left -= 1;
+    for i in first..first + count {
+        type_call(table, records::record_at(items, i), arguments);
     }
 }
 
@@ -151,13 +121,9 @@ fn elaborate_items(
     ensures { items.new
         ≡ typed_items table.now (callee_of rows.now n) items.old first count }
 {
-    let mut at = first;
-    let mut left = count;
-    while 0 < left {
-        let r = records::record_at(items, at);
-        records::put_record(items, at, typed_record(r, table, rows, n));
-        at += 1;
-        left -= 1;
+    for i in first..first + count {
+        let r = records::record_at(items, i);
+        records::put_record(items, i, typed_record(r, table, rows, n));
     }
 }
 

@@ -1,6 +1,6 @@
 -- One turn of each loop that threads the table: what is left, typed from the table as it is, gives the whole answer.
 use Rattle.std.specs.Prelude.{Err, Ok, Result}
-use Prim.Native.Nat.{ℕ, zero, suc, ◌+◌, ◌-◌, ◌≤◌, ◌<◌}
+use Prim.Native.Nat.{ℕ, zero, suc, ◌+◌, ◌*◌, ◌-◌, ◌≤◌, ◌<◌}
 use mathlib.Core.Path.{◌≡◌, refl, sym, ap, ◌∙◌}
 use mathlib.Core.List.{List, ◌∷◌}
 use native.Mathlib.Omega.{arith}
@@ -32,35 +32,47 @@ unfolding items_at
 items_more items args at zero h = absurd (omega arith)
 items_more items args at (suc n) h = let m : suc n - 1 ≡ n = omega arith in rw m
 
--- the items of a block
+items_turn : (items args : List ℕ) (first i n : ℕ) → i < n
+    → items_at items args (first + i) (n - i)
+    ≡ item_at items args (first + i) ∷ items_at items args (first + (i + 1)) (n - (i + 1))
+items_turn items args first i n h =
+    let a : first + (i + 1) ≡ first + i + 1 = omega arith in
+    let b : n - (i + 1) ≡ n - i - 1 = omega arith in
+    rw (a, b) (items_more items args (first + i) (n - i) (omega arith))
+
+-- the items of a block, in turn i of n
 module _ (ts : List Tok) (globals : ℕ → Global) (ret : ℕ) (t₀ : List ℕ) (is₀ : List Item) (t items args : List ℕ)
-    (at left : ℕ) (same : type_items_d ts globals ret t (items_at items args at left) ≡ type_items_d ts globals ret t₀ is₀)
+    (first i n : ℕ)
+    (same : type_items_d ts globals ret t (items_at items args (first + i) (n - i)) ≡ type_items_d ts globals ret t₀ is₀)
   where
-    module _ (h : 0 < left) {t₁ : List ℕ} {r : Result Unit Refusal} (op : typed t₁ r ≡ type_item_d ts globals ret t
-        (item_at items args at))
+    module _ (h : i < n) {t₁ : List ℕ} {r : Result Unit Refusal} (op : typed t₁ r ≡ type_item_d ts globals ret t
+        (item_at items args (first + i)))
       where
         unfoldable more : List ℕ → Typed
-        more t = type_items_d ts globals ret t (items_at items args (at + 1) (left - 1))
+        more t = type_items_d ts globals ret t (items_at items args (first + (i + 1)) (n - (i + 1)))
 
-        step : then_typed (type_item_d ts globals ret t (item_at items args at)) more ≡ type_items_d ts globals ret t₀ is₀
+        step : then_typed (type_item_d ts globals ret t (item_at items args (first + i))) more
+            ≡ type_items_d ts globals ret t₀ is₀
         unfolding type_items_d more
-        step = sym (ap (type_items_d ts globals ret t) (items_more items args at left h)) ∙ same
+        step = sym (ap (type_items_d ts globals ret t) (items_turn items args first i n h)) ∙ same
 
         pub items_refused : {e : Refusal} → r ≡ Err e → typed t₁ (Err e) ≡ type_block_d ts globals ret t₀ is₀
         unfolding type_block_d
         items_refused {e} g =
             typed-refused t₁ (type_items_d ts globals ret t₀ is₀) (λ t. type_end_d t is₀)
-            (typed-refused t₁ (type_item_d ts globals ret t (item_at items args at)) more op g ∙ step) refl
+            (typed-refused t₁ (type_item_d ts globals ret t (item_at items args (first + i))) more op g ∙ step) refl
 
-        pub items-fine : r ≡ (Ok tt)
-            → type_items_d ts globals ret t₁ (items_at items args (at + 1) (left - 1)) ≡ type_items_d ts globals ret t₀ is₀
+        pub items-fine : r ≡ Ok tt
+            → type_items_d ts globals ret t₁ (items_at items args (first + (i + 1)) (n - (i + 1)))
+            ≡ type_items_d ts globals ret t₀ is₀
         unfolding more
-        items-fine g = typed-fine t₁ (type_item_d ts globals ret t (item_at items args at)) more op g ∙ step
+        items-fine g = typed-fine t₁ (type_item_d ts globals ret t (item_at items args (first + i))) more op g ∙ step
 
-    pub items-ended : left ≡ 0 → type_end_d t is₀ ≡ type_block_d ts globals ret t₀ is₀
+    pub items-ended : n ≤ i → type_end_d t is₀ ≡ type_block_d ts globals ret t₀ is₀
     unfolding type_items_d type_block_d items_at
     items-ended h =
-        let q : on t ≡ type_items_d ts globals ret t₀ is₀ = rw (← same, h) in
+        let e : n - i ≡ 0 = omega arith in
+        let q : on t ≡ type_items_d ts globals ret t₀ is₀ = rw (← same, e) in
         typed-fine t (type_items_d ts globals ret t₀ is₀) (λ t. type_end_d t is₀) q refl
 
 -- the formals
@@ -71,35 +83,44 @@ unfolding formals_from
 formals-more rows at zero h = absurd (omega arith)
 formals-more rows at (suc n) h = let m : suc n - 1 ≡ n = omega arith in rw m
 
-module _ (token : ℕ) (t₀ : List ℕ) (vs₀ : List Variable) (t rows : List ℕ) (at left : ℕ)
-    (same : enter_formals_d t token (formals_from rows at left) ≡ enter_formals_d t₀ token vs₀) where
-  module _ (h : 0 < left) {t₁ : List ℕ} {r : Result Unit Refusal}
-      (op : typed t₁ r ≡ enter_d t token (named (get_or rows at 0)) (get_or rows (at + 1) 0)) where
-    unfoldable more-formals : List ℕ → Typed
-    more-formals t = enter_formals_d t token (formals_from rows (at + 2) (left - 1))
+formals_turn : (rows : List ℕ) (first i n : ℕ) → i < n
+    → formals_from rows (first + i * 2) (n - i)
+    ≡ variable (named (get_or rows (first + i * 2) 0)) (get_or rows (first + i * 2 + 1) 0)
+    ∷ formals_from rows (first + (i + 1) * 2) (n - (i + 1))
+formals_turn rows first i n h =
+    let a : first + (i + 1) * 2 ≡ first + i * 2 + 2 = omega arith in
+    let b : n - (i + 1) ≡ n - i - 1 = omega arith in
+    rw (a, b) (formals-more rows (first + i * 2) (n - i) (omega arith))
 
-    formals_step : then_typed (enter_d t token (named (get_or rows at 0)) (get_or rows (at + 1) 0)) more-formals
-        ≡ enter_formals_d t₀ token vs₀
-    unfolding enter_formals_d more-formals
-    formals_step =
-        ap (λ (n : ℕ). then_typed (enter_d t token (named (get_or rows at 0)) n) more-formals)
-        (sym (cell_of (get_or rows (at + 1) 0)))
-        ∙ sym (ap (enter_formals_d t token) (formals-more rows at left h)) ∙ same
+module _ (token : ℕ) (t₀ : List ℕ) (vs₀ : List Variable) (t rows : List ℕ) (first i n : ℕ)
+    (same : enter_formals_d t token (formals_from rows (first + i * 2) (n - i)) ≡ enter_formals_d t₀ token vs₀) where
+  module _ (h : i < n) {t₁ : List ℕ} {r : Result Unit Refusal}
+      (op : typed t₁ r ≡ enter_d t token (named (get_or rows (first + i * 2) 0)) (get_or rows (first + i * 2 + 1) 0))
+    where
+      unfoldable more-formals : List ℕ → Typed
+      more-formals t = enter_formals_d t token (formals_from rows (first + (i + 1) * 2) (n - (i + 1)))
 
-    pub formals-refused : {e : Refusal} → r ≡ Err e → typed t₁ (Err e) ≡ enter_formals_d t₀ token vs₀
-    formals-refused g =
-        typed-refused t₁ (enter_d t token (named (get_or rows at 0)) (get_or rows (at + 1) 0)) more-formals op g
-        ∙ formals_step
+      formals_step : then_typed
+          (enter_d t token (named (get_or rows (first + i * 2) 0)) (get_or rows (first + i * 2 + 1) 0)) more-formals
+          ≡ enter_formals_d t₀ token vs₀
+      unfolding enter_formals_d more-formals
+      formals_step =
+          ap (λ (n : ℕ). then_typed (enter_d t token (named (get_or rows (first + i * 2) 0)) n) more-formals)
+          (sym (cell_of (get_or rows (first + i * 2 + 1) 0)))
+          ∙ sym (ap (enter_formals_d t token) (formals_turn rows first i n h)) ∙ same
 
-    pub formals-fine : r ≡ (Ok tt) → enter_formals_d t₁ token (formals_from rows (at + 2) (left - 1)) ≡ enter_formals_d t₀
-        token vs₀
-    unfolding more-formals
-    formals-fine g =
-        typed-fine t₁ (enter_d t token (named (get_or rows at 0)) (get_or rows (at + 1) 0)) more-formals op g ∙ formals_step
+      pub formals-refused : {e : Refusal} → r ≡ Err e → typed t₁ (Err e) ≡ enter_formals_d t₀ token vs₀
+      formals-refused g = typed-refused t₁ _ more-formals op g ∙ formals_step
 
-  pub formals-ended : left ≡ 0 → on t ≡ enter_formals_d t₀ token vs₀
+      pub formals-fine : r ≡ Ok tt
+          → enter_formals_d t₁ token (formals_from rows (first + (i + 1) * 2) (n - (i + 1)))
+          ≡ enter_formals_d t₀ token vs₀
+      unfolding more-formals
+      formals-fine g = typed-fine t₁ _ more-formals op g ∙ formals_step
+
+  pub formals-ended : n ≤ i → on t ≡ enter_formals_d t₀ token vs₀
   unfolding enter_formals_d formals_from
-  formals-ended h = rw (← same, h)
+  formals-ended h = let e : n - i ≡ 0 = omega arith in rw (← same, e)
 
 -- the blocks that a worklist still has
 module _ (ts : List Tok) (globals : ℕ → Global) (ret : ℕ) (t₀ : List ℕ) (bs₀ : List (List Item))
@@ -136,7 +157,7 @@ module _ (ts : List Tok) (globals : ℕ → Global) (ret : ℕ) (t₀ : List ℕ
             typed-refused t₁ (type_block_d ts globals ret t (block_items items args blocks (first + b.0))) more-blocks
             op g ∙ blocks_step
 
-        pub blocks-fine : r ≡ (Ok tt)
+        pub blocks-fine : r ≡ Ok tt
             → type_blocks_d ts globals ret t₁ (blocks_at items args blocks first (remaining order rest)) ≡ type_blocks_d ts
             globals ret t₀ bs₀
         unfolding more-blocks

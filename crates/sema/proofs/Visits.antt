@@ -235,42 +235,42 @@ module _ (ts : List Tok) (globals : ℕ → Global) (ret : ℕ) where
 
 -- What a fine end says. ---------------------------------------------------------------------------------------------
 
-refused-fine : {e : Refusal} → Err e ≡ (Ok tt) → ⊥
+refused-fine : {e : Refusal} → ◌≡◌ {A = Result Unit Refusal} (Err e) (Ok tt) → ⊥
 refused-fine h = let z : ◌≡◌ {A = ℕ} 0 1 = cc in omega arith
 
-end_of : (u v : Typed) → u ≡ v → u.end ≡ (Ok tt) → v.end ≡ (Ok tt)
+end_of : (u v : Typed) → u ≡ v → u.end ≡ Ok tt → v.end ≡ Ok tt
 end_of u v e h = ap (λ (x : Typed). x.end) (sym e) ∙ h
 
-fine_then : (this : Typed) (k : List ℕ → Typed) → (then_typed this k).end ≡ (Ok tt)
-    → (this.end ≡ (Ok tt) × (then_typed this k ≡ k this.table)
+fine_then : (this : Typed) (k : List ℕ → Typed) → (then_typed this k).end ≡ Ok tt
+    → (this.end ≡ Ok tt) × (then_typed this k ≡ k this.table)
 unfolding then_typed then_end
 fine_then this k h = by this.end refl h
   where
-    by : (e : Result Unit Refusal) → this.end ≡ e → (then_end e (k this.table) this).end ≡ (Ok tt)
-        → (this.end ≡ (Ok tt) × (then_end e (k this.table) this ≡ k this.table)
+    by : (e : Result Unit Refusal) → this.end ≡ e → (then_end e (k this.table) this).end ≡ Ok tt
+        → (this.end ≡ Ok tt) × (then_end e (k this.table) this ≡ k this.table)
     by (Ok tt) q g = (q, refl)
     by (Err e) q g = absurd (refused-fine (sym q ∙ g))
 
-fine-first : (b : Bool) (u : Typed) (t : List ℕ) (e : Refusal) → (pick b u (stop t e)).end ≡ (Ok tt)
+fine-first : (b : Bool) (u : Typed) (t : List ℕ) (e : Refusal) → (pick b u (stop t e)).end ≡ Ok tt
     → pick b u (stop t e) ≡ u
 unfolding pick
 fine-first true u t e h = refl
 fine-first false u t e h = absurd (refused-fine h)
 
-fine_second : (b : Bool) (u : Typed) (t : List ℕ) (e : Refusal) → (pick b (stop t e) u).end ≡ (Ok tt)
+fine_second : (b : Bool) (u : Typed) (t : List ℕ) (e : Refusal) → (pick b (stop t e) u).end ≡ Ok tt
     → (b ≡ false) × (pick b (stop t e) u ≡ u)
 unfolding pick
 fine_second true u t e h = absurd (refused-fine h)
 fine_second false u t e h = (refl, refl)
 
-fine-same : (t : List ℕ) (token found wanted : ℕ) (next : Typed) → (then_same t token found wanted next).end ≡ (Ok tt)
+fine-same : (t : List ℕ) (token found wanted : ℕ) (next : Typed) → (then_same t token found wanted next).end ≡ Ok tt
     → then_same t token found wanted next ≡ next
 unfolding then_same
 fine-same t token found wanted next h =
     fine-first (eqb found wanted) next t (facts 17 token wanted found no_name) h
 
-fine-look : (t : List ℕ) (token : ℕ) (x : Identifier) (k : ℕ → Typed) → (then_look t token x k).end ≡ (Ok tt)
-    → (get_or t x.0 0 ≡ 0 → ⊥) × ((k (get_or t x.0 0)).end ≡ (Ok tt)
+fine-look : (t : List ℕ) (token : ℕ) (x : Identifier) (k : ℕ → Typed) → (then_look t token x k).end ≡ Ok tt
+    → (get_or t x.0 0 ≡ 0 → ⊥) × ((k (get_or t x.0 0)).end ≡ Ok tt)
 unfolding then_look
 fine-look t token x k h =
     let known : ℕ = get_or t x.0 0 in
@@ -279,7 +279,7 @@ fine-look t token x k h =
 
 -- Operands that are looked up have a type at their visit. ------------------------------------------------------------
 
-present_found : (t : List ℕ) (token : ℕ) (xs : List Variable) → (present_d t token xs).end ≡ (Ok tt)
+present_found : (t : List ℕ) (token : ℕ) (xs : List Variable) → (present_d t token xs).end ≡ Ok tt
     → AllFound (looks_of t xs)
 unfolding present_d looks_of
 present_found t token [] h = tt
@@ -288,7 +288,7 @@ present_found t token (x ∷ xs) h =
     (p.0, present_found t token xs p.1)
 
 arguments-found : (t : List ℕ) (token : ℕ) (formals : List ℕ) (xs : List Variable)
-    → (type_arguments_d t token formals xs).end ≡ (Ok tt) → AllFound (looks_of t xs)
+    → (type_arguments_d t token formals xs).end ≡ Ok tt → AllFound (looks_of t xs)
 unfolding type_arguments_d
 arguments-found t token formals xs h =
     let u : Typed = then_typed (present_d t token xs) (λ t₁. same_all t₁ token (types_of t₁ xs) formals) in
@@ -298,7 +298,7 @@ arguments-found t token formals xs h =
     present_found t token xs
     (fine_then (present_d t token xs) (λ t₁. same_all t₁ token (types_of t₁ xs) formals) p).0
 
-plain-found : (ts : List Tok) (ret : ℕ) (t : List ℕ) (o : Operation) → (type_plain_d ts ret t o).end ≡ (Ok tt)
+plain-found : (ts : List Tok) (ret : ℕ) (t : List ℕ) (o : Operation) → (type_plain_d ts ret t o).end ≡ Ok tt
     → AllFound (operation_looks t o)
 unfolding type_plain_d type_binary_d type_unary_d type_ret_value_d
 plain-found ts ret t (O.BinaryOp w v x y) h =
@@ -315,7 +315,7 @@ plain-found ts ret t (O.Print w x) h = tt
 plain-found ts ret t (O.Nop w) h = tt
 
 call-found : (t : List ℕ) (g : Global) (token : ℕ) (callee : Identifier) (xs : List Variable)
-    → (type_call_d t g token callee xs).end ≡ (Ok tt) → AllFound (looks_of t xs)
+    → (type_call_d t g token callee xs).end ≡ Ok tt → AllFound (looks_of t xs)
 unfolding type_call_d then_global
 call-found t absent token callee xs h = absurd (refused-fine h)
 call-found t (global ret formals) token callee xs h =
@@ -326,7 +326,7 @@ call-found t (global ret formals) token callee xs h =
 
 -- a call with a result: arguments in the table with the result
 call_into-found : (t : List ℕ) (g : Global) (token : ℕ) (result : Identifier) (type : ℕ) (callee : Identifier)
-    (xs : List Variable) → (type_call_into_d t g token result type callee xs).end ≡ (Ok tt)
+    (xs : List Variable) → (type_call_into_d t g token result type callee xs).end ≡ Ok tt
     → AllFound (looks_of (enter_d t token result type).table xs)
     × Keeps (enter_d t token result type).table (type_call_into_d t g token result type callee xs).table
 unfolding type_call_into_d then_global
@@ -377,7 +377,7 @@ looks-same t t' (call_into w v g xs) k h = looks_of-same t t' xs k h
 
 module _ (ts : List Tok) (globals : ℕ → Global) (ret : ℕ) where
   -- one item, at its visit
-  pub analyze_found : (t : List ℕ) (i : Item) → (type_item_d ts globals ret t i).end ≡ (Ok tt)
+  pub analyze_found : (t : List ℕ) (i : Item) → (type_item_d ts globals ret t i).end ≡ Ok tt
       → AllFound (visit t i) × Keeps (looked_in t i) (type_item_d ts globals ret t i).table
   unfolding type_item_d looks looked_in
   analyze_found t (label w l) h = (tt, keeps_same t)
@@ -386,7 +386,7 @@ module _ (ts : List Tok) (globals : ℕ → Global) (ret : ℕ) where
   analyze_found t (call_into w v g xs) h =
       call_into-found t (globals g.0) w v.id (type_cell v.ty) g xs h
 
-  items_final : (is : List Item) (t last : List ℕ) → (type_items_d ts globals ret t is).end ≡ (Ok tt)
+  items_final : (is : List Item) (t last : List ℕ) → (type_items_d ts globals ret t is).end ≡ Ok tt
       → Keeps (type_items_d ts globals ret t is).table last
       → (items_visits ts globals ret t is ≡ items_looks last is) × ItemsFound (items_visits ts globals ret t is)
   unfolding type_items_d items_visits items_looks
@@ -404,7 +404,7 @@ module _ (ts : List Tok) (globals : ℕ → Global) (ret : ℕ) where
       keeps_on (looked_in t i) t₁ last a.1 (keeps_on t₁ rest.table last (items_keep ts globals ret is t₁) k₁) in
       (rw (looks-same (looked_in t i) last i far a.0, more.0), (a.0, more.1))
 
-  blocks_final : (bs : List (List Item)) (t last : List ℕ) → (type_blocks_d ts globals ret t bs).end ≡ (Ok tt)
+  blocks_final : (bs : List (List Item)) (t last : List ℕ) → (type_blocks_d ts globals ret t bs).end ≡ Ok tt
       → Keeps (type_blocks_d ts globals ret t bs).table last
       → (blocks_visits ts globals ret t bs ≡ blocks_looks last bs) × BlocksFound (blocks_visits ts globals ret t bs)
   unfolding type_block_d type_blocks_d blocks_visits blocks_looks
@@ -429,7 +429,7 @@ module _ (ts : List Tok) (globals : ℕ → Global) (ret : ℕ) where
 
   -- THE LAST TABLE gives each operand the type that was found at its visit, and at its visit it had one
   pub final_types : (token : ℕ) (formals : List Variable) (blocks : List (List Item)) (t : List ℕ)
-      → (type_function_d ts globals ret token formals blocks t).end ≡ (Ok tt)
+      → (type_function_d ts globals ret token formals blocks t).end ≡ Ok tt
       → (function_visits ts globals ret token formals blocks t
       ≡ blocks_looks (type_function_d ts globals ret token formals blocks t).table blocks)
       × BlocksFound (function_visits ts globals ret token formals blocks t)
@@ -446,7 +446,7 @@ module _ (ts : List Tok) (globals : ℕ → Global) (ret : ℕ) where
 -- All functions. ----------------------------------------------------------------------------------------------------
 
 function_final : (ts : List Tok) (all : List Function) (blank : List ℕ) (f : Function)
-    → (typed_function ts all blank f).end ≡ (Ok tt) → Final ts all blank f
+    → (typed_function ts all blank f).end ≡ Ok tt → Final ts all blank f
 function_final ts all blank f h =
     let p =
     final_types ts (globals_of all) (type_cell f.head.ret) f.token f.head.formals (ordered_blocks f.items)
@@ -455,7 +455,7 @@ function_final ts all blank f h =
 
 -- each function of a text whose functions are typed
 pub program_final : (ts : List Tok) (all fs : List Function) (blank : List ℕ) → (type_program_d ts all fs blank).end
-    ≡ (Ok tt)
+    ≡ Ok tt
     → EachFinal ts all blank fs
 unfolding type_program_d
 program_final ts all [] blank h = tt
@@ -463,5 +463,5 @@ program_final ts all (f ∷ fs) blank h =
     let this : Typed = typed_function ts all blank f in
     let rest : Typed = type_program_d ts all fs blank in
     let p = fine_then this (λ t. type_program_d ts all fs blank) h in
-    let next : rest.end ≡ (Ok tt) = end_of (then_typed this (λ t. type_program_d ts all fs blank)) rest p.1 h in
+    let next : rest.end ≡ Ok tt = end_of (then_typed this (λ t. type_program_d ts all fs blank)) rest p.1 h in
     (function_final ts all blank f p.0, program_final ts all fs blank next)

@@ -1,6 +1,5 @@
 -- The functions by name, as the header table's rows have them: the first of that name.
-use Rattle.std.specs.Prelude.{None, Option, Some}
-use Rattle.std.specs.Prelude.{ℕ, List, get_or}
+use Rattle.std.specs.Prelude.{ℕ, List, get_or, None, Option, Some}
 use Rattle.functions.specs.Columns.{ret_at, count_at, formals_at}
 use Rattle.functions.specs.Rows.{at_most16, types_at, row_from}
 use Rattle.sema.specs.Typing.{Global, absent, global}

@@ -55,5 +55,14 @@ then_look t token name k =
     pick (eqb known 0) (stop t (facts 16 token 0 0 name)) (k known)
 
 -- 'e' type expected; 'f' found (17).
+unfoldable pub same_d : ℕ → ℕ → ℕ → Result Unit Refusal
+same_d token found wanted = pick (eqb found wanted) (Ok tt) (Err (facts 17 token wanted found no_name))
+
+-- what follows where the types are the same (17 otherwise)
 unfoldable pub then_same : List ℕ → ℕ → ℕ → ℕ → Typed → Typed
 then_same t token found wanted next = pick (eqb found wanted) next (stop t (facts 17 token wanted found no_name))
+
+-- to unfold this is to unfold what follows each step
+unfoldable pub opened : ℕ
+unfolding pick then_end then_typed looked_d then_look same_d then_same
+opened = 0

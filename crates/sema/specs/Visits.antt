@@ -1,7 +1,6 @@
 -- What typing looks up at its visit of each item, and the types that it finds there. "One table of names per function",
 -- threaded through the visits: the types found are those of the table as it is at the visit.
-use Rattle.std.specs.Prelude.{Err, Ok}
-use Rattle.std.specs.Prelude.{ℕ, ◌≡◌, List, [], ◌∷◌, get_or}
+use Rattle.std.specs.Prelude.{ℕ, ◌≡◌, List, [], ◌∷◌, get_or, Err, Ok}
 use Rattle.lexer.specs.Decoded.{Tok}
 use Rattle.pieces.specs.declared.Identifier.{Identifier}
 use Rattle.parser.specs.Runs.{type_cell}
@@ -111,7 +110,7 @@ visits_of ts all blank f =
 
 -- It is typed, every operand that was looked up had a type at its visit, and the last table has that type for it.
 pub record Final (ts : List Tok) (all : List Function) (blank : List ℕ) (f : Function) : Type 0 where
-  pub fine : (typed_function ts all blank f).end ≡ (Ok tt)
+  pub fine : (typed_function ts all blank f).end ≡ Ok tt
   pub found : BlocksFound (visits_of ts all blank f)
   pub same : visits_of ts all blank f ≡ blocks_looks (typed_function ts all blank f).table (ordered_blocks f.items)
 

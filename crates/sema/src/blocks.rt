@@ -109,10 +109,10 @@ fn expect_terminator(items: &[u32], first: u32, count: u32) -> Result<(), Refusa
     }
     let i = first as usize + count as usize - 1;
     let last = record_at(items, i);
-    if (kinds::JUMP..=kinds::RET_VALUE).contains(&last.kind) {
-        return Ok(());
+    match last.kind {
+        kinds::JUMP..=kinds::RET_VALUE => Ok(()),
+        _ => Err(parser::refuse(numbers::NO_TERMINATOR, last.token as usize)),
     }
-    Err(parser::refuse(numbers::NO_TERMINATOR, last.token as usize))
 }
 
 pub fn analyze_block(
@@ -131,12 +131,9 @@ pub fn analyze_block(
         ≡ type_block_d (tokens_of tokens.now) (globals_in rows.now n) ret table.old
         (items_at items.now arguments.now first count) }
 {
-    let mut at = first as usize;
-    let mut left = count;
-    while 0 < left {
+    for i in 0..count {
+        let at = first as usize + i as usize;
         analyze_op(tokens, rows, n, ret, table, items, arguments, at)?;
-        at += 1;
-        left -= 1;
     }
     expect_terminator(items, first, count)
 }

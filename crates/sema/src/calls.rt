@@ -24,16 +24,18 @@ fn argument_at(arguments: &[u32], at: usize) -> Identifier
 }
 
 // 16 for the first argument that has no type.
-fn look_arguments(table: &[u32], token: usize, arguments: &[u32], run: Arguments) -> Result<(), Refusal>
+fn look_arguments(
+    table: &[u32],
+    token: usize,
+    arguments: &[u32],
+    run: Arguments,
+) -> Result<(), Refusal>
     ensures { typed table.now result
         ≡ present_d table.now token (variables_at arguments.now run.first run.count) }
 {
-    let mut at = run.first as usize;
-    let mut left = run.count;
-    while 0 < left {
+    for i in 0..run.count {
+        let at = run.first as usize + i as usize;
         symbols::look(table, token, argument_at(arguments, at))?;
-        at += 1;
-        left -= 1;
     }
     Ok(())
 }
@@ -54,30 +56,25 @@ fn compare_arguments(
         (types_of table.now (variables_at arguments.now run.first run.count))
         (types_at rows.now formal run.count) }
 {
-    let mut at = run.first as usize;
-    let mut wanted = formal;
-    let mut left = run.count;
-    while 0 < left {
+    for i in 0..run.count {
+        let at = run.first as usize + i as usize;
+        let wanted = rows[formal + i as usize * VARIABLE_CELLS + 1];
         let found = symbols::get(table, argument_at(arguments, at));
-        symbols::expect_type(token, found, rows[wanted + 1])?;
-        at += 1;
-        wanted += VARIABLE_CELLS;
-        left -= 1;
+        symbols::expect_type(token, found, wanted)?;
     }
     Ok(())
 }
 
 // A row has room for 16 formals.
+#[tactic(auto, unfolding(utils::specs::Bytes::pick))]
 pub(crate) fn at_most_16(n: u32) -> u32
     ensures { (result ≡ at_most16 n) × (result ≤ most_formals) }
 {
-    if n <= limits::MOST_FORMALS {
-        return n;
-    }
-    limits::MOST_FORMALS
+    n.min(limits::MOST_FORMALS)
 }
 
 // The arguments of a call of the function in row i.
+#[tactic(auto, using(crate::proofs::Turns::length_types, crate::proofs::Turns::length_variables), unfolding(crate::specs::Symbols::opened, crate::specs::Typing::type_arguments_d))]
 fn analyze_arguments(
     table: &[u32],
     token: usize,
@@ -113,7 +110,7 @@ pub(crate) fn result_type(rows: &[u32], i: usize) -> u32
 // The row of the callee; 16 where no function has its name.
 fn find_callee(rows: &[u32], n: usize, token: usize, callee: Identifier) -> Result<usize, Refusal>
     requires { HasRows rows.now n }
-    ensures value { result ≡ ok_or (facts 16 token 0 0 callee) (row_from rows.now 0 n callee.0) }
+    ensures value { result ≡ ok_or (row_from rows.now 0 n callee.0) (facts 16 token 0 0 callee) }
     ensures row { IfOk result (IsRow rows.now) }
 {
     let undefined = symbols::refusal(numbers::UNDEFINED, token, 0, 0, callee);
@@ -121,6 +118,7 @@ fn find_callee(rows: &[u32], n: usize, token: usize, callee: Identifier) -> Resu
 }
 
 // A call whose result nobody takes.
+#[tactic(auto, unfolding(crate::specs::Symbols::opened, crate::specs::Typing::type_call_d, crate::specs::Typing::then_global))]
 pub fn analyze_call(
     table: &[u32],
     token: usize,
@@ -143,6 +141,7 @@ pub fn analyze_call(
 }
 
 // The result is entered before the arguments are looked up.
+#[tactic(auto, unfolding(crate::specs::Symbols::opened))]
 fn enter_result(
     table: &mut [u32],
     token: usize,
@@ -163,6 +162,7 @@ fn enter_result(
     analyze_arguments(table, token, rows, i, arguments, run)
 }
 
+#[tactic(auto, unfolding(crate::specs::Symbols::opened, crate::specs::Typing::type_call_into_d, crate::specs::Typing::then_global))]
 pub fn analyze_call_into(
     table: &mut [u32],
     token: usize,

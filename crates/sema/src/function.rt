@@ -18,18 +18,21 @@ use pieces::Identifier;
 use utils::limits;
 
 // Enters the formals from the cell `first` on.
-fn enter_formals(table: &mut [u32], token: u32, rows: &[u32], first: usize, count: u32) -> Result<(), Refusal>
+fn enter_formals(
+    table: &mut [u32],
+    token: u32,
+    rows: &[u32],
+    first: usize,
+    count: u32,
+) -> Result<(), Refusal>
     requires { first + count * 2 ≤ length rows.now }
     ensures { typed table.new result
         ≡ enter_formals_d table.old token (formals_from rows.now first count) }
 {
     let w = token as usize;
-    let mut at = first;
-    let mut left = count;
-    while 0 < left {
+    for i in 0..count {
+        let at = first + i as usize * VARIABLE_CELLS;
         symbols::insert(table, w, Identifier(rows[at]), rows[at + 1])?;
-        at += VARIABLE_CELLS;
-        left -= 1;
     }
     Ok(())
 }
@@ -142,6 +145,7 @@ fn analyze_blocks(
 }
 
 // One table of names per function.
+#[tactic(auto, unfolding(crate::specs::Symbols::opened, crate::specs::Blocks::type_function_d))]
 pub fn analyze(
     tokens: &[u32],
     rows: &[u32],

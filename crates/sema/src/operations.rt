@@ -11,6 +11,7 @@ use pieces::{Identifier, kinds};
 use utils::numbers;
 
 // One type, then another.
+#[tactic(auto, unfolding(crate::specs::Symbols::opened))]
 fn expect_both(
     token: usize,
     found: u32,
@@ -26,6 +27,7 @@ fn expect_both(
 }
 
 // The result's type, then the left and the right operand's.
+#[tactic(auto, unfolding(crate::specs::Symbols::opened, crate::specs::Typing::then_three))]
 fn expect_three(
     token: usize,
     res: u32,
@@ -41,6 +43,7 @@ fn expect_three(
 }
 
 // The other comparisons, of integers, and `and` and `or`.
+#[tactic(auto, unfolding(utils::specs::Bytes::pick))]
 fn expect_bool(kind: u32, token: usize, res: u32, left: u32, right: u32) -> Result<(), Refusal>
     ensures { (t : List ℕ) → typed t result ≡ pick (leb kind 16) (then_three t token res left right 2 1)
         (then_three t token res left right 2 2) }
@@ -51,13 +54,8 @@ fn expect_bool(kind: u32, token: usize, res: u32, left: u32, right: u32) -> Resu
     expect_three(token, res, left, right, types::BOOL, types::BOOL)
 }
 
-fn expect_operands(
-    kind: u32,
-    token: usize,
-    res: u32,
-    left: u32,
-    right: u32,
-) -> Result<(), Refusal>
+#[tactic(auto, unfolding(utils::specs::Bytes::pick, crate::specs::Typing::operands_d))]
+fn expect_operands(kind: u32, token: usize, res: u32, left: u32, right: u32) -> Result<(), Refusal>
     ensures { (t : List ℕ) → typed t result ≡ operands_d t kind token res left right }
 {
     if kind <= kinds::MOD {
@@ -70,6 +68,7 @@ fn expect_operands(
 }
 
 // Operands are looked up before the result is entered.
+#[tactic(auto, unfolding(crate::specs::Symbols::opened, crate::specs::Typing::type_binary_d))]
 pub fn analyze_bin_op(
     table: &mut [u32],
     kind: u32,
@@ -88,6 +87,7 @@ pub fn analyze_bin_op(
 }
 
 // `id` holds the operand against the result, `not` both against bool.
+#[tactic(auto, unfolding(crate::specs::Symbols::opened, crate::specs::Typing::operand_d))]
 fn expect_operand(kind: u32, token: usize, res: u32, operand: u32) -> Result<(), Refusal>
     ensures { (t : List ℕ) → typed t result ≡ operand_d t kind token res operand }
 {
@@ -97,6 +97,7 @@ fn expect_operand(kind: u32, token: usize, res: u32, operand: u32) -> Result<(),
     expect_both(token, res, types::BOOL, operand, types::BOOL)
 }
 
+#[tactic(auto, unfolding(crate::specs::Symbols::opened, crate::specs::Typing::type_unary_d))]
 pub fn analyze_unary_op(
     table: &mut [u32],
     kind: u32,
@@ -112,6 +113,7 @@ pub fn analyze_unary_op(
     expect_operand(kind, token, ty, found)
 }
 
+#[tactic(auto, unfolding(utils::specs::Bytes::pick))]
 fn constant_type(kind: u32) -> u32
     ensures { result ≡ pick (eqb kind 4) 1 2 }
 {
@@ -122,6 +124,7 @@ fn constant_type(kind: u32) -> u32
 }
 
 // Compared before it is entered.
+#[tactic(auto, unfolding(crate::specs::Symbols::opened, crate::specs::Typing::type_const_d))]
 pub fn analyze_const(
     table: &mut [u32],
     kind: u32,
@@ -135,6 +138,7 @@ pub fn analyze_const(
     symbols::insert(table, token, res, ty)
 }
 
+#[tactic(auto, unfolding(utils::specs::Bytes::pick, crate::specs::Typing::type_ret_d))]
 pub fn analyze_ret(ret: u32, token: usize) -> Result<(), Refusal>
     ensures { (t : List ℕ) → typed t result ≡ type_ret_d t ret token }
 {
@@ -144,6 +148,7 @@ pub fn analyze_ret(ret: u32, token: usize) -> Result<(), Refusal>
     Err(parser::refuse(numbers::NO_VALUE, token))
 }
 
+#[tactic(auto, unfolding(crate::specs::Symbols::opened, crate::specs::Typing::type_ret_value_d))]
 pub fn analyze_ret_value(
     table: &[u32],
     ret: u32,

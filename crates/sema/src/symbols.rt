@@ -1,6 +1,6 @@
 // One table of names per function: SymbolTable of ir.rs as type cells by name number, 0 where a name is absent.
-ghost use Rattle.std.specs.Prelude.{◌≡◌, ℕ, List, get_or};
-ghost use Rattle.sema.specs.Symbols.{typed, on, facts, enter_d, looked_d, then_same};
+ghost use Rattle.std.specs.Prelude.{◌≡◌, get_or};
+ghost use Rattle.sema.specs.Symbols.{typed, facts, enter_d, looked_d, same_d};
 
 use parser::Refusal;
 use pieces::Identifier;
@@ -39,12 +39,8 @@ pub fn refusal(number: u32, token: usize, wanted: u32, found: u32, name: Identif
 }
 
 // 15 where the name has another type.
-pub fn insert(
-    table: &mut [u32],
-    token: usize,
-    name: Identifier,
-    ty: u32,
-) -> Result<(), Refusal>
+#[tactic(auto, unfolding(crate::specs::Symbols::enter_d, utils::specs::Bytes::pick))]
+pub fn insert(table: &mut [u32], token: usize, name: Identifier, ty: u32) -> Result<(), Refusal>
     ensures { typed table.new result ≡ enter_d table.old token name ty }
 {
     let i = name.0 as usize;
@@ -63,8 +59,9 @@ pub fn insert(
 }
 
 // 17 where the types differ.
+#[tactic(auto, unfolding(crate::specs::Symbols::opened))]
 pub fn expect_type(token: usize, found: u32, wanted: u32) -> Result<(), Refusal>
-    ensures { (t : List ℕ) → typed t result ≡ then_same t token found wanted (on t) }
+    ensures { result ≡ same_d token found wanted }
 {
     if found == wanted {
         return Ok(());

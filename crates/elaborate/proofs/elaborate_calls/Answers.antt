@@ -1,24 +1,21 @@
 -- The items are only read, so each record is the one at entry; typing the calls that are left in the arguments as they
--- are gives what typing all of them gives (`calls_more`).
-use Rattle.elaborate.proofs.Turns.{calls_more, calls_none}
+-- are gives what typing all of them gives (`calls_turn`).
 use native.Mathlib.Omega.{arith}
-use mathlib.Core.Path.{refl, sym, ◌∙◌}
+use Prim.Native.Nat.{◌+◌, ◌-◌}
+use mathlib.Core.Path.{◌≡◌, sym, ◌∙◌}
+use Rattle.elaborate.proofs.Turns.{calls_turn, calls_end}
 use Rattle.elaborate.proofs.elaborate_calls.Goals as goal
 
-pub loop-left-preserved : goal.loop-left-preserved
-loop-left-preserved c =
-    let m = calls_more c.args.table.now c.args.items.now c.loop-left.arguments c.loop-left.at c.loop-left.left
-    c.loop-left-test.true in (
-      omega arith,
-      c.type_call.auto.arguments ∙ c.loop-left.invariant.1,
-      rw (c.type_call.ensures, c.record_at-r.ensures) (sym m ∙ c.loop-left.invariant.2),
-    )
+pub loop-i-init : goal.loop-i-init
+loop-i-init c = let e : c.args.first + c.args.count - c.args.first ≡ c.args.count = omega arith in rw e
+
+pub loop-i-preserved : goal.loop-i-preserved
+loop-i-preserved c =
+    let m = calls_turn c.args.table.now c.args.items.now c.loop-i.arguments c.loop-i.i (c.args.first + c.args.count)
+    (omega arith) in
+    rw (c.type_call.ensures, c.record_at.ensures) (sym m ∙ c.loop-i.invariant)
 
 pub returns : goal.returns
 returns c =
-    sym (calls_none c.args.table.now c.args.items.now c.loop-left.arguments c.loop-left.at c.loop-left.left (omega
-    arith))
-    ∙ c.loop-left.invariant.2
-
-pub loop-left-init : goal.loop-left-init
-loop-left-init c = (refl, refl, refl)
+    sym (calls_end c.args.table.now c.args.items.now c.loop-i.arguments c.loop-i.i (c.args.first + c.args.count)
+    (omega arith)) ∙ c.loop-i.invariant

@@ -1,30 +1,26 @@
 -- A turn stores the record it read, with its types, at its own place, as `typed_items` does: so the items that are left,
--- typed in the cells as they are, give the whole (`items_more`).
-use Rattle.elaborate.proofs.Turns.{items_more, items-none}
-use Rattle.elaborate.specs.Types.{callee_of}
+-- typed in the cells as they are, give the whole (`items_turn`).
 use native.Mathlib.Omega.{arith}
-use mathlib.Core.Path.{refl, sym, ◌∙◌}
+use Prim.Native.Nat.{◌+◌, ◌-◌}
+use mathlib.Core.Path.{◌≡◌, refl, sym, ◌∙◌}
+use Rattle.elaborate.specs.Types.{callee_of}
+use Rattle.elaborate.proofs.Turns.{items_turn, items_end}
 use Rattle.elaborate.proofs.elaborate_items.Goals as goal
 
-pub overflow_add-at : goal.overflow_add-at
-overflow_add-at c =
-    omega (arith, c.loop-left.invariant.0, c.loop-left.invariant.1, c.loop-left-test.true, c.requires.3)
+pub loop-i-init : goal.loop-i-init
+loop-i-init c =
+    let e : c.args.first + c.args.count - c.args.first ≡ c.args.count = omega arith in
+    (refl, rw e)
 
-pub loop-left-preserved : goal.loop-left-preserved
-loop-left-preserved c =
-    let m = items_more c.args.table.now (callee_of c.args.rows.now c.args.n) c.loop-left.items c.loop-left.at
-    c.loop-left.left
-    c.loop-left-test.true in (
-      omega arith,
-      c.put_record.auto.items ∙ c.loop-left.invariant.1,
-      rw (c.put_record.ensures, c.typed_record.ensures, c.record_at-r.ensures) (sym m ∙ c.loop-left.invariant.2),
+pub loop-i-preserved : goal.loop-i-preserved
+loop-i-preserved c =
+    let m = items_turn c.args.table.now (callee_of c.args.rows.now c.args.n) c.loop-i.items c.loop-i.i
+    (c.args.first + c.args.count) (omega arith) in (
+      c.put_record.auto.items ∙ c.loop-i.invariant.0,
+      rw (c.put_record.ensures, c.typed_record.ensures, c.record_at-r.ensures) (sym m ∙ c.loop-i.invariant.1),
     )
 
 pub returns : goal.returns
 returns c =
-    sym (items-none c.args.table.now (callee_of c.args.rows.now c.args.n) c.loop-left.items c.loop-left.at
-    c.loop-left.left
-    (omega arith)) ∙ c.loop-left.invariant.2
-
-pub loop-left-init : goal.loop-left-init
-loop-left-init c = (refl, refl, refl)
+    sym (items_end c.args.table.now (callee_of c.args.rows.now c.args.n) c.loop-i.items c.loop-i.i
+    (c.args.first + c.args.count) (omega arith)) ∙ c.loop-i.invariant.1

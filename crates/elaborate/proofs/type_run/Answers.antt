@@ -1,22 +1,20 @@
 -- Typing the arguments that are left in the cells as they are gives what typing the whole run in the cells at entry
--- gives (`run_more`); cells past the end read as 0 and take no store, as in `typed_run`.
-use Rattle.elaborate.proofs.Turns.{run_more, run_none}
+-- gives (`run_turn`); cells past the end read as 0 and take no store, as in `typed_run`.
 use native.Mathlib.Omega.{arith}
-use mathlib.Core.Path.{refl, sym, ◌∙◌}
+use Prim.Native.Nat.{◌+◌, ◌-◌}
+use mathlib.Core.Path.{◌≡◌, sym, ◌∙◌}
+use Rattle.elaborate.proofs.Turns.{run_turn, run_end}
 use Rattle.elaborate.proofs.type_run.Goals as goal
 
-pub loop-left-preserved : goal.loop-left-preserved
-loop-left-preserved c =
-    let m = run_more c.args.table.now c.loop-left.arguments c.loop-left.at c.loop-left.left c.loop-left-test.true in (
-      omega arith,
-      c.put_cell.auto.cells ∙ c.loop-left.invariant.1,
-      rw (c.put_cell.ensures, c.cell_at-ty.ensures, c.cell_at.ensures) (sym m ∙ c.loop-left.invariant.2),
-    )
+pub loop-i-init : goal.loop-i-init
+loop-i-init c = let e : c.args.first + c.args.count - c.args.first ≡ c.args.count = omega arith in rw e
+
+pub loop-i-preserved : goal.loop-i-preserved
+loop-i-preserved c =
+    let m = run_turn c.args.table.now c.loop-i.arguments c.loop-i.i (c.args.first + c.args.count) (omega arith) in
+    rw (c.put_cell.ensures, c.cell_at-ty.ensures, c.cell_at.ensures) (sym m ∙ c.loop-i.invariant)
 
 pub returns : goal.returns
 returns c =
-    sym (run_none c.args.table.now c.loop-left.arguments c.loop-left.at c.loop-left.left (omega arith)) ∙
-    c.loop-left.invariant.2
-
-pub loop-left-init : goal.loop-left-init
-loop-left-init c = (refl, refl, refl)
+    sym (run_end c.args.table.now c.loop-i.arguments c.loop-i.i (c.args.first + c.args.count) (omega arith))
+    ∙ c.loop-i.invariant

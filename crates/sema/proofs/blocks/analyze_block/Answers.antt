@@ -1,37 +1,43 @@
 -- The items that are left, typed from the table as it is, give what all of them give from the table at entry
 -- (`items-fine`). Only a block all of whose items are fine is asked for its terminator (`items-ended`).
+use Rattle.std.proofs.lemmas.Result.{err_from_is_err_and}
+use native.Mathlib.Omega.{arith}
+use native.Mathlib.Nat.{add-zero, sub-zero}
+use mathlib.Core.Path.{refl, ◌∙◌}
 use Rattle.lexer.specs.Decoded.{tokens_of}
 use Rattle.sema.specs.Globals.{globals_in}
 use Rattle.sema.specs.Blocks.{items_at}
 use Rattle.sema.proofs.Threads.{items_refused, items-fine, items-ended}
-use native.Mathlib.Omega.{arith}
-use mathlib.Core.Path.{refl, ◌∙◌}
 use Rattle.sema.proofs.blocks.analyze_block.Goals as goal
 
-pub returns-in-Refused : goal.returns-in-Refused
-returns-in-Refused c =
-    items_refused (tokens_of c.args.tokens.now) (globals_in c.args.rows.now c.args.n) c.args.ret c.args.table.now
-    (items_at c.args.items.now c.args.arguments.now c.args.first c.args.count) c.loop-left.table c.args.items.now
-    c.args.arguments.now
-    c.loop-left.at c.loop-left.left c.loop-left.invariant.2 c.loop-left-test.true c.analyze_op.ensures c.in-Refused.is
+pub loop-i-init : goal.loop-i-init
+loop-i-init c = (refl, rw (add-zero, sub-zero) refl)
 
-pub loop-left-preserved : goal.loop-left-preserved
-loop-left-preserved c = (
-  omega arith,
-  c.analyze_op.auto.table ∙ c.loop-left.invariant.1,
-  items-fine (tokens_of c.args.tokens.now) (globals_in c.args.rows.now c.args.n) c.args.ret c.args.table.now
-      (items_at c.args.items.now c.args.arguments.now c.args.first c.args.count) c.loop-left.table c.args.items.now
-      c.args.arguments.now
-      c.loop-left.at c.loop-left.left c.loop-left.invariant.2 c.loop-left-test.true c.analyze_op.ensures c.in-Fine.is,
-)
+pub returns-in_err-analyze_op : goal.returns-in_err-analyze_op
+returns-in_err-analyze_op c =
+    let a = c.args in
+    let l = c.loop-i in
+    let p = err_from_is_err_and c.from_residual.result c.from_residual.ensures.1 in
+    rw (p.1, p.2)
+    (items_refused (tokens_of a.tokens.now) (globals_in a.rows.now a.n) a.ret a.table.now
+    (items_at a.items.now a.arguments.now a.first a.count) l.table a.items.now a.arguments.now a.first l.i a.count
+    l.invariant.1 (omega arith) c.analyze_op.ensures c.in_err-analyze_op.was)
+
+pub loop-i-preserved : goal.loop-i-preserved
+loop-i-preserved c =
+    let a = c.args in
+    let l = c.loop-i in (
+      c.analyze_op.auto.table ∙ l.invariant.0,
+      items-fine (tokens_of a.tokens.now) (globals_in a.rows.now a.n) a.ret a.table.now
+          (items_at a.items.now a.arguments.now a.first a.count) l.table a.items.now a.arguments.now a.first l.i a.count
+          l.invariant.1 (omega arith) c.analyze_op.ensures c.in_ok-analyze_op.was,
+    )
 
 pub returns : goal.returns
 returns c =
-    c.expect_terminator.ensures c.loop-left.table c.args.arguments.now ∙ items-ended (tokens_of c.args.tokens.now)
-    (globals_in c.args.rows.now c.args.n) c.args.ret c.args.table.now
-    (items_at c.args.items.now c.args.arguments.now c.args.first c.args.count) c.loop-left.table c.args.items.now
-    c.args.arguments.now
-    c.loop-left.at c.loop-left.left c.loop-left.invariant.2 (omega arith)
-
-pub loop-left-init : goal.loop-left-init
-loop-left-init c = (refl, refl, refl)
+    let a = c.args in
+    let l = c.loop-i in
+    c.expect_terminator.ensures l.table a.arguments.now
+    ∙ items-ended (tokens_of a.tokens.now) (globals_in a.rows.now a.n) a.ret a.table.now
+    (items_at a.items.now a.arguments.now a.first a.count) l.table a.items.now a.arguments.now a.first l.i a.count
+    l.invariant.1 (omega arith)

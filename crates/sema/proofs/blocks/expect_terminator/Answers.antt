@@ -1,46 +1,39 @@
 -- None where there is no item; else by the last one's kind.
-use Prim.Native.Nat.{◌+◌, ◌-◌}
+use Prim.Native.Nat.{ℕ, ◌+◌, ◌-◌, ◌≤◌}
+use mathlib.Core.Path.{◌≡◌}
 use native.Mathlib.Omega.{arith}
 use Rattle.sema.proofs.Records.{from-cells, last-other, last-ends, end_none, end-last}
+use Rattle.sema.proofs.blocks.expect_terminator.Goals.{in_default-via-then-last-lt9}
+use Rattle.sema.proofs.blocks.expect_terminator.Goals.{in_default-via-else-last-lt9+else-last-lt13}
 use Rattle.sema.proofs.blocks.expect_terminator.Goals as goal
 
 pub returns-then-count-eq0 : goal.returns-then-count-eq0
 returns-then-count-eq0 c =
     λ t args. end_none t c.args.items.now args c.args.first c.args.count c.if-count-eq0.true
 
-pub returns-then-kind-lt-JUMP : goal.returns-then-kind-lt-JUMP
-returns-then-kind-lt-JUMP c =
-    let from = from-cells c.record_at-last.result c.args.items.now (c.args.first + c.args.count - 1)
-    c.record_at-last.ensures in
+pub returns-in_default : goal.returns-in_default
+returns-in_default c =
+    let r = c.record_at-last.result in
+    let from = from-cells r c.args.items.now (c.args.first + c.args.count - 1) c.record_at-last.ensures in
+    let outside : (k : ℕ) → 9 ≤ k → k ≤ 12 → r.kind ≡ k → ⊥ =
+    λ k low high e. elim c.in_default.branch [
+      | in_default-via-then-last-lt9 w ↦ omega (arith, low, high, e)
+      | in_default-via-else-last-lt9+else-last-lt13 w ↦ omega (arith, low, high, e)
+    ] in
     λ t args. rw (
       ← end-last t c.args.items.now args c.args.count c.args.first c.if-count-eq0.false,
       ← c.record_at-last.ensures,
       c.refuse.ensures,
     )
-    (last-other t c.record_at-last.result args from (λ e. omega (arith, e, c.if-kind-lt-JUMP.true)) (λ e. omega
-    (arith, e, c.if-kind-lt-JUMP.true))
-    (λ e. omega (arith, e, c.if-kind-lt-JUMP.true)) (λ e. omega (arith, e, c.if-kind-lt-JUMP.true)))
+    (last-other t r args from (outside 9 (omega arith) (omega arith)) (outside 10 (omega arith) (omega arith))
+    (outside 11 (omega arith) (omega arith)) (outside 12 (omega arith) (omega arith)))
 
-pub returns-then-kind-gt-RET_VALUE : goal.returns-then-kind-gt-RET_VALUE
-returns-then-kind-gt-RET_VALUE c =
-    let from = from-cells c.record_at-last.result c.args.items.now (c.args.first + c.args.count - 1)
-    c.record_at-last.ensures in
+pub returns-in-9-to-12 : goal.returns-in-9-to-12
+returns-in-9-to-12 c =
+    let r = c.record_at-last.result in
+    let from = from-cells r c.args.items.now (c.args.first + c.args.count - 1) c.record_at-last.ensures in
     λ t args. rw (
       ← end-last t c.args.items.now args c.args.count c.args.first c.if-count-eq0.false,
       ← c.record_at-last.ensures,
-      c.refuse-then-kind-gt-RET_VALUE.ensures,
     )
-    (last-other t c.record_at-last.result args from (λ e. omega (arith, e, c.if-kind-gt-RET_VALUE.true)) (λ e. omega
-    (arith, e, c.if-kind-gt-RET_VALUE.true))
-    (λ e. omega (arith, e, c.if-kind-gt-RET_VALUE.true)) (λ e. omega (arith, e, c.if-kind-gt-RET_VALUE.true)))
-
-pub returns : goal.returns
-returns c =
-    let from = from-cells c.record_at-last.result c.args.items.now (c.args.first + c.args.count - 1)
-    c.record_at-last.ensures in
-    λ t args. rw (
-      ← end-last t c.args.items.now args c.args.count c.args.first c.if-count-eq0.false,
-      ←
-          c.record_at-last.ensures,
-    )
-    (last-ends t c.record_at-last.result args from c.if-kind-lt-JUMP.false c.if-kind-gt-RET_VALUE.false)
+    (last-ends t r args from (omega arith) (omega arith))

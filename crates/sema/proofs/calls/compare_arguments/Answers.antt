@@ -1,39 +1,43 @@
 -- The pairs passed by were of equal types, so those that are left compare as all of them do (`same-fine`). A turn takes
 -- one argument and the two cells of its formal, so both runs stay in step.
-use Rattle.sema.proofs.Steps.{same-refused, same-fine}
-use Rattle.sema.proofs.Turns.{variables_more, variables_none, found_at, types_more}
-use Rattle.sema.specs.Typing.{types_of, same_all}
+use Rattle.std.proofs.lemmas.Result.{err_from_is_err_and}
 use native.Mathlib.Omega.{arith}
-use mathlib.Core.Path.{refl, ◌∙◌}
+use Prim.Native.Nat.{◌+◌, ◌-◌}
+use native.Mathlib.Nat.{add-zero, sub-zero}
+use mathlib.Core.Path.{◌≡◌, refl, sym, ◌∙◌}
+use Rattle.sema.specs.Typing.{types_of, same_all}
+use Rattle.sema.proofs.Steps.{same-refused, same-fine}
+use Rattle.sema.proofs.Turns.{variables_turn, variables_none, found_at, types_turn}
 use Rattle.sema.proofs.calls.compare_arguments.Goals as goal
+
+pub loop-i-init : goal.loop-i-init
+loop-i-init c = rw (add-zero, add-zero, sub-zero) refl
+
+pub returns-in_err-expect_type : goal.returns-in_err-expect_type
+unfolding types_of same_all
+returns-in_err-expect_type c =
+    let a = c.args in
+    let i = c.loop-i.i in
+    let m = variables_turn a.arguments.now a.run.first i a.run.count (omega arith) in
+    let y = types_turn a.rows.now a.formal i a.run.count (omega arith) in
+    let found = found_at a.table.now a.arguments.now (a.run.first + i) c.argument_at.ensures c.get-found.ensures in
+    let p = err_from_is_err_and c.from_residual.result c.from_residual.ensures.1 in
+    rw (p.1, p.2, ← c.loop-i.invariant, m, y, found)
+    (same-refused _ _ _ _ _ (sym c.expect_type.ensures ∙ c.in_err-expect_type.was))
+
+pub loop-i-preserved : goal.loop-i-preserved
+unfolding types_of same_all
+loop-i-preserved c =
+    let a = c.args in
+    let i = c.loop-i.i in
+    let m = variables_turn a.arguments.now a.run.first i a.run.count (omega arith) in
+    let y = types_turn a.rows.now a.formal i a.run.count (omega arith) in
+    let found = found_at a.table.now a.arguments.now (a.run.first + i) c.argument_at.ensures c.get-found.ensures in
+    same-fine a.table.now _ _ _ _ (sym c.expect_type.ensures ∙ c.in_ok-expect_type.was)
+    ∙ rw (← c.loop-i.invariant, m, y, found)
 
 pub returns : goal.returns
 unfolding types_of same_all
 returns c =
-    rw (← c.loop-left.invariant.2, variables_none c.args.arguments.now c.loop-left.at c.loop-left.left (omega arith))
-
-pub loop-left-init : goal.loop-left-init
-loop-left-init c = (refl, refl, refl)
-
-pub returns-in-Refused : goal.returns-in-Refused
-unfolding types_of same_all
-returns-in-Refused c =
-    let a = c.args in
-    let l = c.loop-left in
-    let h = c.loop-left-test.true in
-    let found = found_at a.table.now a.arguments.now l.at c.argument_at.ensures c.get-found.ensures in
-    rw (← l.invariant.2, variables_more _ _ _ h, types_more _ _ _ h, found)
-    (same-refused _ _ _ _ _ c.expect_type.ensures c.in-Refused.is)
-
-pub loop-left-preserved : goal.loop-left-preserved
-unfolding types_of same_all
-loop-left-preserved c =
-    let a = c.args in
-    let l = c.loop-left in
-    let m = variables_more a.arguments.now l.at l.left c.loop-left-test.true in
-    let y = types_more a.rows.now l.wanted l.left c.loop-left-test.true in
-    let found = found_at a.table.now a.arguments.now l.at c.argument_at.ensures c.get-found.ensures in (
-      omega arith,
-      omega arith,
-      same-fine a.table.now _ _ _ _ c.expect_type.ensures c.in-Fine.is ∙ rw (← l.invariant.2, m, y, found),
-    )
+    let left : c.args.run.count - c.loop-i.i ≡ 0 = omega arith in
+    rw (← c.loop-i.invariant, variables_none c.args.arguments.now (c.args.run.first + c.loop-i.i) _ left)

@@ -1,39 +1,35 @@
 -- Every argument passed by has a type, and `present_d` goes on behind such a one: so those that are left answer as all
--- of them do (`variables_more`).
-use Rattle.sema.proofs.Turns.{variables_more, variables_none, found_at}
-use Rattle.sema.specs.Typing.{present_d}
-use Rattle.sema.specs.Symbols.{then_look}
-use Rattle.utils.specs.Bytes.{pick}
-use borrow.Author.Tests.{eq-eqb, ne_eqb}
+-- of them do (`variables_turn`).
+use Rattle.std.proofs.lemmas.Result.{err_from_is_err_and}
 use native.Mathlib.Omega.{arith}
-use mathlib.Core.Path.{refl, ◌∙◌}
+use Prim.Native.Nat.{◌+◌, ◌-◌}
+use native.Mathlib.Nat.{add-zero, sub-zero}
+use mathlib.Core.Path.{◌≡◌, refl, sym, ◌∙◌}
+use Rattle.sema.specs.Typing.{present_d}
+use Rattle.sema.proofs.Steps.{look-refused, look-fine}
+use Rattle.sema.proofs.Turns.{variables_turn, variables_none}
 use Rattle.sema.proofs.calls.look_arguments.Goals as goal
 
-pub returns-then-get-eq0 : goal.returns-then-get-eq0
-unfolding present_d then_look pick
-returns-then-get-eq0 c =
-    let v = found_at c.args.table.now c.args.arguments.now c.loop-left.at c.argument_at-name.ensures
-    c.get.ensures in
-    rw (
-      ← c.loop-left.invariant.1,
-      variables_more _ _ _ c.loop-left-test.true,
-      eq-eqb _ _ (v ∙ c.if-get-eq0.true),
-      c.refuse.ensures,
-      c.argument_at-name.ensures,
-    )
+pub loop-i-init : goal.loop-i-init
+loop-i-init c = rw (add-zero, sub-zero) refl
 
-pub loop-left-preserved : goal.loop-left-preserved
-unfolding present_d then_look pick
-loop-left-preserved c =
-    let v = found_at c.args.table.now c.args.arguments.now c.loop-left.at c.argument_at-name.ensures
-    c.get.ensures in
-    let m = variables_more c.args.arguments.now c.loop-left.at c.loop-left.left c.loop-left-test.true in
-    (omega arith, rw (← c.loop-left.invariant.1, m, v, ne_eqb _ _ c.if-get-eq0.false))
+pub returns-in_err-look : goal.returns-in_err-look
+unfolding present_d
+returns-in_err-look c =
+    let m = variables_turn c.args.arguments.now c.args.run.first c.loop-i.i c.args.run.count (omega arith) in
+    let p = err_from_is_err_and c.from_residual.result c.from_residual.ensures.1 in
+    rw (p.1, p.2, ← c.loop-i.invariant, m, ← c.argument_at.ensures)
+    (look-refused _ _ _ _ (sym c.look.ensures ∙ c.in_err-look.was))
+
+pub loop-i-preserved : goal.loop-i-preserved
+unfolding present_d
+loop-i-preserved c =
+    let m = variables_turn c.args.arguments.now c.args.run.first c.loop-i.i c.args.run.count (omega arith) in
+    rw (← c.loop-i.invariant, m, ← c.argument_at.ensures)
+    (look-fine _ _ _ _ (sym c.look.ensures ∙ c.in_ok-look.was))
 
 pub returns : goal.returns
 unfolding present_d
 returns c =
-    rw (← c.loop-left.invariant.1, variables_none c.args.arguments.now c.loop-left.at c.loop-left.left (omega arith))
-
-pub loop-left-init : goal.loop-left-init
-loop-left-init c = (refl, refl)
+    let left : c.args.run.count - c.loop-i.i ≡ 0 = omega arith in
+    rw (← c.loop-i.invariant, variables_none c.args.arguments.now (c.args.run.first + c.loop-i.i) _ left)

@@ -1,5 +1,6 @@
 -- Typing what the worklist still has, from the table as it is, gives what typing all of it gave from the table at
 -- entry: a pop takes the first block and leaves the rest (`blocks-fine`), which is fewer (`fewer`).
+use Rattle.std.proofs.lemmas.Result.{err_from_is_err_and}
 use Rattle.lexer.specs.Decoded.{tokens_of}
 use Rattle.graph.specs.Worklist.{remaining}
 use Rattle.sema.specs.Globals.{globals_in}
@@ -17,14 +18,15 @@ returns-in-Empty c =
     c.loop-b.table c.args.items.now c.args.arguments.now c.args.blocks.now c.args.first c.args.order.now c.loop-b.left
     c.loop-b.invariant.0 c.requires.2 c.loop-b.invariant.2 (sym c.pop.ensures ∙ c.in-Empty.is)
 
-pub returns-in-Refused : goal.returns-in-Refused
-returns-in-Refused c =
-    blocks-refused (tokens_of c.args.tokens.now) (globals_in c.args.rows.now c.args.n) c.args.ret c.args.table.now
+pub returns-in_err-analyze_recorded-in-Block : goal.returns-in_err-analyze_recorded-in-Block
+returns-in_err-analyze_recorded-in-Block c =
+    let p = err_from_is_err_and c.from_residual.result c.from_residual.ensures.1 in
+    rw (p.1, p.2) (blocks-refused (tokens_of c.args.tokens.now) (globals_in c.args.rows.now c.args.n) c.args.ret c.args.table.now
     (blocks_at c.args.items.now c.args.arguments.now c.args.blocks.now c.args.first (remaining c.args.order.now
     c.args.work))
     c.loop-b.table c.args.items.now c.args.arguments.now c.args.blocks.now c.args.first c.args.order.now c.loop-b.left
     c.loop-b.invariant.0 c.requires.2 c.loop-b.invariant.2 (sym c.pop.ensures ∙ c.in-Block.is)
-    c.analyze_recorded.ensures c.in-Refused.is
+    c.analyze_recorded.ensures c.in_err-analyze_recorded-in-Block.was)
 
 pub loop-b-smaller : goal.loop-b-smaller
 loop-b-smaller c =
@@ -50,5 +52,5 @@ loop-b-preserved c =
           c.args.work))
           c.loop-b.table c.args.items.now c.args.arguments.now c.args.blocks.now c.args.first c.args.order.now
           c.loop-b.left
-          c.loop-b.invariant.0 c.requires.2 c.loop-b.invariant.2 popped-is c.analyze_recorded.ensures c.in-Fine.is,
+          c.loop-b.invariant.0 c.requires.2 c.loop-b.invariant.2 popped-is c.analyze_recorded.ensures c.in_ok-analyze_recorded-in-Block.was,
     )

@@ -1,10 +1,9 @@
--- The tests are those of `enter_d` in its order. A name past the table's end reads as absent, and entering it changes
+-- A name past the table's end reads as absent, and entering it changes
 -- nothing (`set_out`), so there it is right to leave the table alone.
 use lib.Seq.{set_out}
 use lib.ListN.{get_or-eq_default}
 use Rattle.sema.specs.Symbols.{enter_d}
 use Rattle.utils.specs.Bytes.{pick}
-use borrow.Author.Tests.{eq-eqb, ne_eqb}
 use Rattle.sema.proofs.symbols.insert.Goals as goal
 
 pub returns-then-table-i : goal.returns-then-table-i
@@ -15,15 +14,3 @@ returns-then-table-i c =
       set_out c.args.table.now
           c.args.name.0 c.args.ty c.if-table-i.true,
     )
-
-pub returns-then-known-eq0 : goal.returns-then-known-eq0
-unfolding enter_d pick
-returns-then-known-eq0 c = rw (eq-eqb _ _ c.if-known-eq0.true)
-
-pub returns-then-known-ty : goal.returns-then-known-ty
-unfolding enter_d pick
-returns-then-known-ty c = rw (ne_eqb _ _ c.if-known-eq0.false, eq-eqb _ _ c.if-known-ty.true)
-
-pub returns : goal.returns
-unfolding enter_d pick
-returns c = rw (ne_eqb _ _ c.if-known-eq0.false, ne_eqb _ _ c.if-known-ty.false, c.refuse.ensures)
