@@ -1,36 +1,30 @@
 -- A number, digit by digit: the digits from a place on, behind a value that is known to 32 bits, give the whole number.
-use Rattle.std.proofs.Common.{◌≡◌, ℕ, suc, ◌+◌, ◌-◌, ◌*◌, ◌/◌, ◌%◌, ◌<◌, ◌≤◌, Bool, true, false, not, ◌&&◌, leb, List, [], ◌∷◌, length, get_or, drop, sym, refl, ap, ◌∙◌, add-zero, mod-lt, mod-eq_of_lt, add-one, arith, length-drop, drop_of_length-le, drop-cons, eq-eqb, ne_eqb, leb-true}
+use Rattle.std.proofs.Common.{◌≡◌, ℕ, suc, ◌+◌, ◌-◌, ◌*◌, ◌/◌, ◌%◌, ◌<◌, ◌≤◌, Bool, true, false, not, ◌&&◌, cond, ◌⊎◌, ⊎_elim, List, [], ◌∷◌, length, get_or, drop, sym, refl, ap, ◌∙◌, add-zero, mod-lt, mod-eq_of_lt, add-one, arith, length-drop, drop_of_length-le, drop-cons, eq-eqb, ne_eqb}
+use Rattle.std.specs.Char.{is_ascii_digit}
 use native.Mathlib.Nat.{mod-mod, add-mul-mod_self_left, mod-add-div}
 use lib.Seq.{drop-length}
-use Rattle.utils.specs.Bytes.{pick}
-use Rattle.replay.specs.Numbers.{number, is_digit, in_comment, to_digit, digits_of, decimal, number_at}
+use Rattle.replay.specs.Numbers.{number, in_comment, to_digit, digits_of, decimal, number_at}
 
-both_true : (t u : Bool) → t && u ≡ true → (t ≡ true) × (u ≡ true)
-both_true true u e = (refl, e)
-both_true false u e = absurd (let z : ◌≡◌ {A = ℕ} 0 1 = cc in omega arith)
-
-pub digit_low : (b : ℕ) → is_digit b ≡ true → 48 ≤ b
-digit_low b e = leb-true 48 b (both_true (leb 48 b) (leb b 57) e).0
-
-pub digit_high : (b : ℕ) → is_digit b ≡ true → b ≤ 57
-digit_high b e = leb-true b 57 (both_true (leb 48 b) (leb b 57) e).1
+no_digit : (digit comment : Bool) → ((digit ≡ true) × (comment ≡ true)) ⊎ (digit ≡ false) → digit && not comment ≡ false
+no_digit true true e = refl
+no_digit true false e = ⊎_elim (λ p. cc) (λ p. cc) e
+no_digit false comment e = refl
 
 -- one byte of what is left, before the next digit
 module _ (s : List ℕ) (from at : ℕ) (before : Bool)
     (known : to_digit before (drop at s) ≡ to_digit false (drop from s)) where
   module _ (comment digit : Bool) (h : at < length s) (in-comment : comment ≡ in_comment before (get_or s at 0))
-      (digit_is : digit ≡ is_digit (get_or s at 0)) where
-    one_byte : to_digit before (drop at s) ≡ pick (digit && not comment) (drop at s) (to_digit comment (drop (at + 1) s))
+      (digit_is : digit ≡ is_ascii_digit (get_or s at 0)) where
+    one_byte : cond (digit && not comment) (drop at s) (to_digit comment (drop (at + 1) s)) ≡ to_digit false (drop from s)
     unfolding to_digit
-    one_byte = rw (drop-cons s at 0 h, in-comment, digit_is, add-one at)
+    one_byte = rw (← known, drop-cons s at 0 h, in-comment, digit_is, add-one at)
 
-    pub digit_here : digit && not comment ≡ true → drop at s ≡ to_digit false (drop from s)
-    unfolding pick
-    digit_here e = (rw e at (sym one_byte)) ∙ known
+    pub digit_here : digit ≡ true → comment ≡ false → drop at s ≡ to_digit false (drop from s)
+    digit_here p q = rw (p, q) at one_byte
 
-    pub digit_later : digit && not comment ≡ false → to_digit comment (drop (at + 1) s) ≡ to_digit false (drop from s)
-    unfolding pick
-    digit_later e = (rw e at (sym one_byte)) ∙ known
+    pub digit_later : ((digit ≡ true) × (comment ≡ true)) ⊎ (digit ≡ false)
+        → to_digit comment (drop (at + 1) s) ≡ to_digit false (drop from s)
+    digit_later e = rw (no_digit digit comment e) at one_byte
 
   pub digit_nowhere : length s ≤ at → drop (length s) s ≡ to_digit false (drop from s)
   unfolding to_digit
@@ -71,17 +65,17 @@ start s from p h e =
     }
 
 module _ (s : List ℕ) (from at value : ℕ) (known : Reading s from at value) where
-  none_left : at < length s → is_digit (get_or s at 0) ≡ false → digits_of (drop at s) ≡ []
-  unfolding digits_of pick
+  none_left : at < length s → is_ascii_digit (get_or s at 0) ≡ false → digits_of (drop at s) ≡ []
+  unfolding digits_of
   none_left h e = rw (drop-cons s at 0 h, e)
 
-  one_left : at < length s → is_digit (get_or s at 0) ≡ true
+  one_left : at < length s → is_ascii_digit (get_or s at 0) ≡ true
       → digits_of (drop at s) ≡ get_or s at 0 ∷ digits_of (drop (at + 1) s)
-  unfolding digits_of pick
+  unfolding digits_of
   one_left h e = rw (drop-cons s at 0 h, e, add-one at)
 
-  pub stops : at < length s → is_digit (get_or s at 0) ≡ false → number value at ≡ number_at s from
-  unfolding number_at decimal pick
+  pub stops : at < length s → is_ascii_digit (get_or s at 0) ≡ false → number value at ≡ number_at s from
+  unfolding number_at decimal
   stops h e =
       let none = none_left h e in
       let left = to_digit false (drop from s) in
@@ -91,7 +85,7 @@ module _ (s : List ℕ) (from at value : ℕ) (known : Reading s from at value) 
       rw (p, ne_eqb at (length s) (λ q. omega arith), ← v)
 
   pub ends : length s ≤ at → number 0 (length s) ≡ number_at s from
-  unfolding number_at digits_of pick
+  unfolding number_at digits_of
   ends h =
       let left = to_digit false (drop from s) in
       let none : drop at s ≡ [] = drop_of_length-le s {i = at} h in
@@ -100,7 +94,7 @@ module _ (s : List ℕ) (from at value : ℕ) (known : Reading s from at value) 
       sym (rw (none, add-zero at) at known.place) ∙ q in
       rw (p, eq-eqb (length s) (length s) refl)
 
-  pub turn : (v : ℕ) → at < length s → is_digit (get_or s at 0) ≡ true
+  pub turn : (v : ℕ) → at < length s → is_ascii_digit (get_or s at 0) ≡ true
       → v ≡ (value * 10 + (get_or s at 0 - 48)) % 4294967296
       → Reading s from (at + 1) v
   unfolding decimal

@@ -1,6 +1,5 @@
 -- The file has lists of cases, each behind its count, and ends with the count of all of them.
-use Rattle.std.specs.Prelude.{ℕ, ◌+◌, ◌-◌, ◌%◌, Bool, not, ◌&&◌, List, length, ◌==◌, nat_lt}
-use Rattle.utils.specs.Bytes.{pick}
+use Rattle.std.specs.Prelude.{ℕ, ◌+◌, ◌-◌, ◌%◌, Bool, not, ◌&&◌, List, length, is_none, ◌==◌, nat_lt, if◌then◌else◌}
 use Rattle.replay.specs.Numbers.{number_at}
 use Rattle.replay.specs.declared.Tally.{Tally}
 use Rattle.replay.specs.declared.Outcome.{Outcome}
@@ -16,8 +15,8 @@ abbrev pub one_more : List ℕ → Tally → Outcome → Tally
 one_more s list case =
     record {
       count = list.count;
-      right = (list.right + pick (case.part == 0) 1 0) % 4294967296;
-      left = pick (nat_lt case.next (length s)) (list.left - 1) 0;
+      right = (list.right + (if is_none case.part then 1 else 0)) % 4294967296;
+      left = (if nat_lt case.next (length s) then list.left - 1 else 0);
       index = (list.index + 1) % 18446744073709551616;
       next = case.next;
     }

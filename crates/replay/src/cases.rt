@@ -2,7 +2,7 @@
 ghost use Rattle.std.specs.Prelude.{◌≡◌, ◌<◌, ◌==◌, IfOk};
 ghost use Rattle.replay.specs.Cases.{begun, one_more, whole_with};
 
-use crate::{Outcome, Tally, number_at, parts, pick};
+use crate::{Outcome, Tally, number_at};
 use std::io;
 
 // The list at a place, behind so many cases.
@@ -20,13 +20,11 @@ pub fn begin(data: &[u8], from: usize, index: u64) -> Tally
 }
 
 // Tells of a case that came out otherwise than expected, in a file that does not end in it.
-fn tell(rt: &impl Print, index: u64, part: u32, inside: bool) -> io::Result<()> {
-    if (part == parts::NOTHING) | !inside {
-        return Ok(());
+fn tell(rt: &impl Print, data: &[u8], index: u64, case: Outcome) -> io::Result<()> {
+    match case.part {
+        Some(part) if case.next < data.len() => println!(rt; "case {index}: {part}"),
+        _ => Ok(()),
     }
-    print!(rt; "case {index}: ")?;
-    parts::print(rt, part)?;
-    println!(rt; "")
 }
 
 // The list with one case more. None is left where the file is malformed.
@@ -35,13 +33,17 @@ pub fn step(data: &[u8], list: Tally, case: Outcome) -> Tally
     ensures value { result ≡ one_more «data».now list case }
     ensures left_lt_left { result.left < list.left }
 {
-    let right = pick(case.part == parts::NOTHING, 1, 0);
-    let left = pick(case.next < data.len(), list.left - 1, 0);
+    let right = if case.part.is_none() { 1 } else { 0 };
+    let left = if case.next < data.len() {
+        list.left - 1
+    } else {
+        0
+    };
     Tally {
         count: list.count,
-        right: std::num::wrapping_add_u32(list.right, right),
+        right: list.right.wrapping_add(right),
         left,
-        index: std::num::wrapping_add_u64(list.index, 1),
+        index: list.index.wrapping_add(1),
         next: case.next,
     }
 }
@@ -52,8 +54,26 @@ pub fn report_step(rt: &impl Print, data: &[u8], list: Tally, case: Outcome) -> 
     ensures value { IfOk result (λ next. next ≡ one_more «data».now list case) }
     ensures left_lt_left { IfOk result (λ next. next.left < list.left) }
 {
-    tell(rt, list.index, case.part, case.next < data.len())?;
+    tell(rt, data, list.index, case)?;
     Ok(step(data, list, case))
+}
+
+// A list of cases, each replayed by `run` from its place in the file, to the last or to where the file is malformed.
+pub fn replay<F: Fn(&[u8], usize) -> Outcome>(
+    rt: &impl Print,
+    data: &[u8],
+    from: usize,
+    index: u64,
+    run: F,
+) -> io::Result<Tally>
+    requires { F.IsAlwaysCallable run }
+    ensures { IfOk result (λ list. list.left ≡ 0) }
+{
+    let mut list = begin(data, from, index);
+    while 0 < list.left {
+        list = report_step(rt, data, list, run(data, list.next))?;
+    }
+    Ok(list)
 }
 
 // Whether the mark at the file's end, behind the last list, is the count of all cases.
@@ -61,7 +81,7 @@ pub fn is_whole(data: &[u8], last: Tally) -> bool
     ensures { result ≡ whole_with «data».now last }
 {
     let end = number_at(data, last.next);
-    (end.next != data.len()) & (end.value as u64 == last.index)
+    end.next != data.len() && u64::from(end.value) == last.index
 }
 
 // The same, told of where it is not.

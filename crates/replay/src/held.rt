@@ -1,11 +1,12 @@
 // Whether an answer's numbers and the lent slices are what the file says.
-ghost use Rattle.std.specs.Prelude.{◌≡◌, true, false, ◌++◌, length, ◌==◌, slice_index, slice_index_or};
-ghost use Rattle.utils.specs.Bytes.{same_bytes};
+ghost use Rattle.std.specs.Prelude.{◌≡◌, ℕ, length, map};
+ghost use Rattle.std.specs.Str.{bytes_eq};
 ghost use Rattle.replay.specs.Lists.{room, list_at};
-ghost use Rattle.replay.specs.Held.{old_cell, old_byte, filled, rest_of};
-ghost use Rattle.replay.specs.Held.{keeping, answer_held, holding};
+ghost use Rattle.replay.specs.Held.{filled, rest_of, keeping, answer_held, holding};
 
-use crate::{Outcome, lists, number_at, parts, pick};
+use crate::lists::Kind;
+use crate::parts::Part;
+use crate::{Outcome, lists, number_at};
 use utils::numbers;
 
 // What every lent cell and byte holds before a call, which must write over all of them, or leave all alone.
@@ -16,135 +17,130 @@ pub const OLD_BYTE: u8 = 170;
 // How much longer than its size a slice is that is lent whole.
 pub const SPARE: usize = 16;
 
-fn wide(b: u8) -> u32
-    ensures { result ≡ b }
-{
-    b as u32
+// What a slice that is lent has: cells, or bytes.
+pub trait Lent: Copy {
+    ghost use Rattle.replay.specs.declared.lists.Kind.{Kind};
+
+    ghost KIND: { Kind };
+
+    ghost OLD: { Self };
+
+    ghost value: { Self → ℕ };
+
+    // What the file's list of it has.
+    const KIND: Kind;
+
+    const OLD: Self;
+
+    fn value(self) -> u32
+        ensures { result ≡ value self };
 }
 
-// Whether a cell is what stands at an index of a list, or `rest` behind the list.
-fn is_at(cell: u32, list: &[u32], at: usize, rest: u32) -> bool
-    ensures { result ≡ (cell == (slice_index_or list.now at rest)) }
-{
-    if at < list.len() {
-        return cell == list[at];
+impl Lent for u32 {
+    ghost use Rattle.replay.specs.declared.lists.Kind.TheVariants.{Numbers};
+    ghost use Rattle.replay.specs.Held.{old_cell};
+
+    ghost KIND = { Numbers };
+
+    ghost OLD = { old_cell };
+
+    ghost value = { λ cell. cell };
+
+    const KIND: Kind = Kind::Numbers;
+
+    const OLD: u32 = OLD_CELL;
+
+    fn value(self) -> u32 {
+        self
     }
-    cell == rest
 }
 
-// What stands at an index of cells and of bytes behind them, or 0 behind both.
-fn either(cells: &[u32], bytes: &[u8], at: usize) -> u32
-    ensures { result ≡ slice_index (cells.now ++ bytes.now) at }
-{
-    if at < cells.len() {
-        return cells[at];
+impl Lent for u8 {
+    ghost use Rattle.replay.specs.declared.lists.Kind.TheVariants.{Bytes};
+    ghost use Rattle.replay.specs.Held.{old_byte};
+
+    ghost KIND = { Bytes };
+
+    ghost OLD = { old_byte };
+
+    ghost value = { λ byte. byte };
+
+    const KIND: Kind = Kind::Bytes;
+
+    const OLD: u8 = OLD_BYTE;
+
+    fn value(self) -> u32 {
+        u32::from(self)
     }
-    let behind = at - cells.len();
-    if behind < bytes.len() {
-        return wide(bytes[behind]);
-    }
-    0
 }
 
-// Whether cells, and bytes behind them, are a list and behind it `rest` alone. A slice is one or the other.
-fn same(cells: &[u32], bytes: &[u8], list: &[u32], rest: u32) -> bool
-    ensures { result ≡ same_bytes (cells.now ++ bytes.now)
-        (filled rest (length (cells.now ++ bytes.now)) list.now) }
+// Whether a slice is a list and behind it `rest` alone.
+fn same<T: Lent>(got: &[T], list: &[u32], rest: u32) -> bool
+    ensures { result ≡ bytes_eq (map T.value got.now) (filled rest (length got.now) list.now) }
 {
-    let end = cells.len() + bytes.len();
-    let mut i: usize = 0;
-    while i < end {
-        if !is_at(either(cells, bytes, i), list, i, rest) {
-            return false;
-        }
-        i += 1;
+    if got.len() < list.len() {
+        return false;
     }
-    list.len() <= end
+    let (front, behind) = got.split_at(list.len());
+    front
+        .iter()
+        .zip(list)
+        .all(|(x, wanted)| x.value() == *wanted)
+        && behind.iter().all(|x| x.value() == rest)
 }
 
 // What stands behind a list: zeros, but what stood there before where a slice was too short.
 fn rest_of(number: u32, old: u32) -> u32
     ensures { result ≡ rest_of number old }
 {
-    pick(number == numbers::SHORT_BUFFER, old, 0)
+    if number == numbers::SHORT_BUFFER {
+        old
+    } else {
+        0
+    }
 }
 
 // One thing more, and the place after it: the first part that differs stays.
-fn kept(seen: Outcome, part: u32, same: bool, next: usize) -> Outcome
+fn kept(seen: Outcome, part: Part, same: bool, next: usize) -> Outcome
     ensures { result ≡ keeping seen part same next }
 {
     Outcome {
-        part: pick((seen.part == parts::NOTHING) & !same, part, seen.part),
+        part: seen.part.or((!same).then_some(part)),
         number: seen.number,
         next,
     }
 }
 
-// An answer's numbers, held to those that stand in the file from a place on.
-pub fn holds_numbers(data: &[u8], from: usize, got: &[u32]) -> Outcome
+// The numbers of an answer, each with its part, held to those that stand in the file from a place on.
+pub fn holds_numbers(data: &[u8], from: usize, got: &[(Part, u32)]) -> Outcome
     ensures { result ≡ answer_held «data».now from got.now }
 {
-    let first = number_at(data, from);
-    let mut seen = Outcome {
-        part: parts::NOTHING,
-        number: first.value,
+    let unseen = Outcome {
+        part: None,
+        number: number_at(data, from).value,
         next: from,
     };
-    let mut part = parts::NUMBER;
-    let mut i: usize = 0;
-    while i < got.len() {
+    got.iter().fold(unseen, |seen, (part, number)| {
         let wanted = number_at(data, seen.next);
-        seen = kept(seen, part, got[i] == wanted.value, wanted.next);
-        part = std::num::wrapping_add_u32(part, 1);
-        i += 1;
-    }
-    seen
+        kept(seen, *part, *number == wanted.value, wanted.next)
+    })
 }
 
-// A slice of cells or of bytes, held to the file's next list by way of `room`. `old` is what it held before.
-fn held_by(
-    data: &[u8],
-    seen: Outcome,
-    part: u32,
-    quoted: bool,
-    old: u32,
-    room: &mut [u32],
-    cells: &[u32],
-    bytes: &[u8],
-) -> Outcome
-    ensures { result ≡ holding seen part (cells.now ++ bytes.now)
-        (list_at quoted «data».now (length room.old) seen.next) old }
+// A slice, held to the file's next list by way of `room`.
+fn held_by<T: Lent>(data: &[u8], seen: Outcome, part: Part, room: &mut [u32], got: &[T]) -> Outcome
+    ensures { result ≡ holding seen part (map T.value got.now)
+        (list_at T.KIND «data».now (length room.old) seen.next) (T.value T.OLD) }
 {
-    let list = lists::load(data, seen.next, quoted, room);
-    let n = list.count;
-    let rest = rest_of(seen.number, old);
-    kept(seen, part, same(cells, bytes, &room[..n], rest), list.next)
+    let list = lists::load(data, seen.next, T::KIND, room);
+    let rest = rest_of(seen.number, T::OLD.value());
+    kept(seen, part, same(got, &room[..list.count], rest), list.next)
 }
 
-// A slice of cells, held to the file's next list, and behind it to what it must hold after the answer's number.
-pub fn holds_cells(data: &[u8], seen: Outcome, part: u32, got: &[u32]) -> Outcome
-    ensures { result ≡ holding seen part got.now
-        (list_at false «data».now room seen.next) old_cell }
+// A slice, held to the file's next list, and behind it to what it must hold after the answer's number.
+pub fn holds<T: Lent>(data: &[u8], seen: Outcome, part: Part, got: &[T]) -> Outcome
+    ensures { result ≡ holding seen part (map T.value got.now)
+        (list_at T.KIND «data».now room seen.next) (T.value T.OLD) }
 {
     let mut room = [0u32; lists::ROOM];
-    held_by(data, seen, part, false, OLD_CELL, &mut room, got, b"")
-}
-
-// The same of a slice of bytes.
-pub fn holds_bytes(data: &[u8], seen: Outcome, part: u32, got: &[u8]) -> Outcome
-    ensures { result ≡ holding seen part got.now
-        (list_at true «data».now room seen.next) old_byte }
-{
-    let mut room = [0u32; lists::ROOM];
-    let none = [0u32; 0];
-    held_by(
-        data,
-        seen,
-        part,
-        true,
-        wide(OLD_BYTE),
-        &mut room,
-        &none,
-        got,
-    )
+    held_by(data, seen, part, &mut room, got)
 }

@@ -11,7 +11,8 @@ pub fn read_full<R: Read>(reader: &mut R, room: &mut [u8]) -> io::Result<usize>
     ensures bytes { IfOk result (λ n. Consumes (R.remaining reader.old) (R.remaining reader.new) (take n room.new)) }
     ensures end { IfOk result (λ n. n < length room.new → IsAtEnd (R.remaining reader.new)) }
 {
-    let mut count: usize = 0;
+    // A loop: std reads to the end into a `Vec`, or fails where the room isn't filled.
+    let mut count = 0;
     while count < room.len() {
         let got = reader.read(&mut room[count..])?;
         if got == 0 {

@@ -3,15 +3,16 @@
 // malformed; each function here passes it on, and the caller looks once.
 #![tactic(auto)]
 
-ghost use Rattle.std.specs.Prelude.{◌≡◌, ◌+◌, ◌-◌, ◌*◌, ◌%◌, ◌<◌, ◌≤◌, false, length, drop};
-ghost use Rattle.utils.specs.Bytes.{pick};
-ghost use Rattle.replay.specs.Numbers.{is_digit, in_comment, to_digit, number_at};
+ghost use Rattle.std.specs.Prelude.{◌≡◌, ◌+◌, ◌-◌, ◌*◌, ◌%◌, ◌≤◌, false, length, drop};
+ghost use Rattle.replay.specs.Numbers.{in_comment, to_digit, number_at};
 
 pub mod cases;
 pub mod held;
 pub mod input;
 pub mod lists;
 pub mod parts;
+
+use parts::Part;
 
 #[derive(Clone, Copy)]
 pub struct Number {
@@ -26,11 +27,11 @@ pub struct Loaded {
     pub next: usize,
 }
 
-// What a case showed: the first part that differs, the number that the answer must have, and the place in the file
-// after what was held to it.
+// What a case showed: the first part that differs, if one does, the number that the answer must have, and the place in
+// the file after what was held to it.
 #[derive(Clone, Copy)]
 pub struct Outcome {
-    pub part: u32,
+    pub part: Option<Part>,
     pub number: u32,
     pub next: usize,
 }
@@ -46,27 +47,11 @@ pub struct Tally {
     pub next: usize,
 }
 
-// One of two, by a test.
-pub(crate) fn pick(test: bool, a: u32, b: u32) -> u32
-    ensures { result ≡ pick test a b }
-{
-    if test {
-        return a;
-    }
-    b
-}
-
-pub(crate) fn is_digit(b: u8) -> bool
-    ensures { result ≡ is_digit b }
-{
-    (b'0' <= b) & (b <= b'9')
-}
-
 // Whether a byte stands in a comment, by whether the byte before it did.
 fn in_comment(before: bool, b: u8) -> bool
     ensures { result ≡ in_comment before b }
 {
-    (b != b'\n') & ((b == b'#') | before)
+    b != b'\n' && (b == b'#' || before)
 }
 
 // The place of the next digit that stands in no comment.
@@ -74,15 +59,13 @@ fn digit_from(data: &[u8], from: usize) -> usize
     ensures { (result ≤ length «data».now)
         × (drop result «data».now ≡ to_digit false (drop from «data».now)) }
 {
-    let mut at = from;
     let mut comment = false;
-    while at < data.len() {
+    for at in from..data.len() {
         let b = data[at];
         comment = in_comment(comment, b);
-        if is_digit(b) & !comment {
+        if b.is_ascii_digit() && !comment {
             return at;
         }
-        at += 1;
     }
     data.len()
 }
@@ -92,21 +75,19 @@ fn with_digit(value: u32, b: u8) -> u32
     requires { 48 ≤ b }
     ensures { result ≡ (value * 10 + (b - 48)) % 4294967296 }
 {
-    ((value as u64 * 10 + (b - b'0') as u64) % 4294967296) as u32
+    value.wrapping_mul(10).wrapping_add(u32::from(b - b'0'))
 }
 
 pub fn number_at(data: &[u8], from: usize) -> Number
     ensures { result ≡ number_at «data».now from }
 {
-    let mut at = digit_from(data, from);
-    let mut value: u32 = 0;
-    while at < data.len() {
+    let mut value = 0;
+    for at in digit_from(data, from)..data.len() {
         let b = data[at];
-        if !is_digit(b) {
+        if !b.is_ascii_digit() {
             return Number { value, next: at };
         }
         value = with_digit(value, b);
-        at += 1;
     }
     Number {
         value: 0,

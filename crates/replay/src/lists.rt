@@ -1,30 +1,36 @@
 // The lists of a file.
-ghost use Rattle.std.specs.Prelude.{◌≡◌, ◌+◌, ◌-◌, ◌*◌, ◌%◌, ◌<◌, ◌≤◌, min, true, false, length, ◌==◌, nat_le, nat_lt};
+ghost use Rattle.std.specs.Prelude.{◌≡◌, ◌+◌, ◌-◌, ◌*◌, ◌≤◌, ◌<◌, ◌==◌, false, length, min, nat_le, nat_lt, if◌then◌else◌, take};
 ghost use Rattle.std.proofs.lemmas.List.Edits.{sets};
 ghost use Rattle.std.proofs.Math.Seq.{slice};
-ghost use Rattle.utils.specs.Bytes.{pick};
 ghost use Rattle.replay.specs.Lists.{hex_of, escaped_at, byte_at, value_at, values_at, stepped, repeated};
 ghost use Rattle.replay.specs.Lists.{behind_quote, run_at, fitting, room, list_at, Stored, low_bytes, text_at};
 
-use crate::{Loaded, Number, number_at, pick};
+use crate::{Loaded, Number, number_at};
 
 // As many cells as the longest slice that is lent: no list of a file has more.
 pub const ROOM: usize = 24592;
 
-// The digit 0.
-const ZERO: u32 = b'0' as u32;
+// What the values of a list are. Bytes are quoted.
+#[derive(Clone, Copy)]
+pub enum Kind {
+    Numbers,
+    Bytes,
+}
 
 // The value of a hexadecimal digit.
+#[tactic(auto, unfolding(crate::specs::Lists::hex_of))]
 fn hex(b: u8) -> u32
     ensures value { result ≡ hex_of b }
     ensures upper_bound { result ≤ 15 }
 {
-    if crate::is_digit(b) {
-        return b as u32 - ZERO;
+    if b.is_ascii_digit() {
+        u32::from(b - b'0')
+    } else {
+        (u32::from(b) + 9) % 16
     }
-    (b as u32 + 9) % 16
 }
 
+#[tactic(auto, unfolding(crate::specs::Lists::escaped_at))]
 fn escaped_at(data: &[u8], at: usize) -> Number
     requires { at < length «data».now }
     ensures { result ≡ escaped_at «data».now at }
@@ -45,6 +51,7 @@ fn escaped_at(data: &[u8], at: usize) -> Number
 }
 
 // A byte of a quoted text: itself, or a backslash and two digits.
+#[tactic(auto, unfolding(crate::specs::Lists::byte_at))]
 fn byte_at(data: &[u8], at: usize) -> Number
     ensures { result ≡ byte_at «data».now at }
 {
@@ -60,196 +67,154 @@ fn byte_at(data: &[u8], at: usize) -> Number
         return escaped_at(data, at);
     }
     Number {
-        value: b as u32,
+        value: u32::from(b),
         next: at + 1,
     }
 }
 
-fn value_at(data: &[u8], at: usize, quoted: bool) -> Number
-    ensures { result ≡ value_at quoted «data».now at }
+fn value_at(data: &[u8], at: usize, kind: Kind) -> Number
+    ensures { result ≡ value_at kind «data».now at }
 {
-    if quoted {
-        return byte_at(data, at);
+    match kind {
+        Kind::Numbers => number_at(data, at),
+        Kind::Bytes => byte_at(data, at),
     }
-    number_at(data, at)
 }
 
 // Where a run's values begin, after its width: a quoted text after a blank and the quote.
-fn behind_quote(data: &[u8], at: usize, quoted: bool) -> usize
-    ensures { result ≡ behind_quote quoted «data».now at }
+fn behind_quote(data: &[u8], at: usize, kind: Kind) -> usize
+    ensures { result ≡ behind_quote kind «data».now at }
 {
-    if !quoted {
-        return at;
+    match kind {
+        Kind::Numbers => at,
+        Kind::Bytes => at.saturating_add(2).min(data.len()),
     }
-    at_most(at_most(at, data.len()) + 2, data.len())
 }
 
-// Stores `width` values of the file behind `start` cells, and answers the place after them.
-fn load_values(
-    data: &[u8],
-    from: usize,
-    quoted: bool,
-    cells: &mut [u32],
-    start: usize,
-    width: u32,
-) -> usize
-    requires { start + width ≤ length cells.old }
-    ensures { (result ≡ (values_at quoted «data».now width from).next)
-        × (cells.new ≡ sets cells.old start
-        (values_at quoted «data».now width from).cells) }
+// The file's next values, as many as there are cells for them. Answers the place after them.
+fn load_values(data: &[u8], from: usize, kind: Kind, cells: &mut [u32]) -> usize
+    ensures value { result ≡ (values_at kind «data».now (length cells.old) from).next }
+    ensures cells_after { cells.new ≡ (values_at kind «data».now (length cells.old) from).cells }
 {
     let mut at = from;
-    let mut count = start;
-    let mut left = width;
-    while 0 < left {
-        let number = value_at(data, at, quoted);
-        cells[count] = number.value;
-        count += 1;
+    for cell in cells.iter_mut() {
+        let number = value_at(data, at, kind);
+        *cell = number.value;
         at = number.next;
-        left -= 1;
     }
     at
 }
 
 // The file's next numbers, as many as there are cells for them. Answers the place after them.
 pub fn load_numbers(data: &[u8], from: usize, cells: &mut [u32]) -> usize
-    requires { length cells.old < 4294967296 }
-    ensures value { result ≡ (values_at false «data».now (length cells.old) from).next }
-    ensures cells_after { cells.new ≡ sets cells.old 0
-        (values_at false «data».now (length cells.old) from).cells }
+    ensures value { result ≡ (values_at Kind.Numbers «data».now (length cells.old) from).next }
+    ensures cells_after { cells.new ≡ (values_at Kind.Numbers «data».now (length cells.old) from).cells }
 {
-    let n = cells.len() as u32;
-    load_values(data, from, false, cells, 0, n)
-}
-
-// The lesser of two.
-pub fn at_most(n: usize, room: usize) -> usize
-    ensures value { result ≡ min n room }
-    ensures upper_bound { result ≤ room }
-{
-    if n < room {
-        return n;
-    }
-    room
+    load_values(data, from, Kind::Numbers, cells)
 }
 
 // As much of a slice as the file says, and at most all of it.
-pub fn lent(length: u32, room: usize) -> usize
-    ensures value { result ≡ min length room }
-    ensures upper_bound { result ≤ room }
+pub fn lend<T>(cells: &mut [T], length: u32) -> &mut [T]
+    ensures { result.now ≡ take length cells.old }
 {
-    at_most(length as usize, room)
+    let n = (length as usize).min(cells.len());
+    &mut cells[..n]
 }
 
 // Stores a row of `width` cells behind the row at `start`, each larger by a step of the file, and answers the place
 // after the steps.
-fn load_row(data: &[u8], from: usize, cells: &mut [u32], start: usize, width: u32) -> usize
+fn load_row(data: &[u8], from: usize, cells: &mut [u32], start: usize, width: usize) -> usize
     requires { start + width + width ≤ length cells.old }
-    ensures { (result ≡ (values_at false «data».now width from).next)
-        × (cells.new ≡ sets cells.old (start + width)
+    ensures value { result ≡ (values_at Kind.Numbers «data».now width from).next }
+    ensures cells_after { cells.new ≡ sets cells.old (start + width)
         (stepped (slice start (start + width) cells.old)
-        (values_at false «data».now width from).cells)) }
+        (values_at Kind.Numbers «data».now width from).cells) }
 {
+    // By index: the slice is read and written.
     let mut at = from;
-    let mut here = start;
-    let mut left = width;
-    while 0 < left {
+    for here in start..start + width {
         let step = number_at(data, at);
-        let there = here + width as usize;
-        cells[there] = std::num::wrapping_add_u32(cells[here], step.value);
-        here += 1;
+        cells[here + width] = cells[here].wrapping_add(step.value);
         at = step.next;
-        left -= 1;
     }
     at
 }
 
-// Repeats the row at `start` so many times more, and answers the count of cells then and the place after the steps.
-fn load_rows(
-    data: &[u8],
-    from: usize,
-    cells: &mut [u32],
-    start: usize,
-    width: u32,
-    more: u32,
-) -> Loaded
-    requires { start + width + more * width ≤ length cells.old }
-    ensures { (result.count ≡ start + width + more * width)
-        × (result.next ≡ pick (nat_lt 0 more) (values_at false «data».now width from).next from)
-        × (cells.new ≡ sets cells.old (start + width)
+// Repeats the row that stands first so many times more, and answers the count of cells then and the place after the
+// steps.
+fn load_rows(data: &[u8], from: usize, cells: &mut [u32], width: usize, more: usize) -> Loaded
+    requires { width + more * width ≤ length cells.old }
+    ensures count { result.count ≡ width + more * width }
+    ensures next { result.next ≡ (if nat_lt 0 more then (values_at Kind.Numbers «data».now width from).next else from) }
+    ensures cells_after { cells.new ≡ sets cells.old width
         (repeated more
-        (stepped (slice start (start + width) cells.old)
-        (values_at false «data».now width from).cells)
-        (values_at false «data».now width from).cells)) }
+        (stepped (take width cells.old)
+        (values_at Kind.Numbers «data».now width from).cells)
+        (values_at Kind.Numbers «data».now width from).cells) }
 {
-    let mut row = start;
-    let mut left = more;
     let mut next = from;
-    while 0 < left {
-        next = load_row(data, from, cells, row, width);
-        row += width as usize;
-        left -= 1;
+    for row in 0..more {
+        next = load_row(data, from, cells, row * width, width);
     }
     Loaded {
-        count: row + width as usize,
+        count: width + more * width,
         next,
     }
 }
 
 // How many times more the values of a run stand. None are repeated where there are none.
 fn times_more(times: u32, width: u32) -> u32
-    ensures { result ≡ pick (width == 0) 0 (times - 1) }
+    ensures { result ≡ (if width == 0 then 0 else times - 1) }
 {
-    pick(width == 0, 0, times - pick(times == 0, 0, 1))
+    if width == 0 {
+        0
+    } else {
+        times.saturating_sub(1)
+    }
 }
 
 fn has_room(room: usize, width: u32, more: u32) -> bool
     ensures { result ≡ nat_le (width + more * width) room }
 {
-    width as u64 + more as u64 * width as u64 <= room as u64
+    u64::from(width) + u64::from(more) * u64::from(width) <= room as u64
 }
 
-// One run, behind `start` cells. Where they have no room for it, nothing is stored and the file is malformed.
-fn load_run(data: &[u8], from: usize, quoted: bool, cells: &mut [u32], start: usize) -> Loaded
-    requires { start ≤ length cells.old }
-    ensures { Stored start
-        (fitting (length cells.old - start) (length «data».now)
-        (run_at quoted «data».now from))
+// One run. Where the cells have no room for it, nothing is stored and the file is malformed.
+fn load_run(data: &[u8], from: usize, kind: Kind, cells: &mut [u32]) -> Loaded
+    ensures { Stored (fitting (length cells.old) (length «data».now) (run_at kind «data».now from))
         cells.old result cells.new }
 {
     let times = number_at(data, from);
     let width = number_at(data, times.next);
-    let wide = width.value;
-    let more = times_more(times.value, wide);
-    if !has_room(cells.len() - start, wide, more) {
+    let more = times_more(times.value, width.value);
+    if !has_room(cells.len(), width.value, more) {
         return Loaded {
-            count: start,
+            count: 0,
             next: data.len(),
         };
     }
-    let at = behind_quote(data, width.next, quoted);
-    let next = load_values(data, at, quoted, cells, start, wide);
-    load_rows(data, next, cells, start, wide, more)
+    let wide = width.value as usize;
+    let at = behind_quote(data, width.next, kind);
+    let next = load_values(data, at, kind, &mut cells[..wide]);
+    load_rows(data, next, cells, wide, more as usize)
 }
 
-// A list of bytes, which are quoted, or of numbers.
-pub(crate) fn load(data: &[u8], from: usize, quoted: bool, cells: &mut [u32]) -> Loaded
-    ensures stored { Stored 0 (list_at quoted «data».now (length cells.old) from)
+// A list, first in the cells.
+pub(crate) fn load(data: &[u8], from: usize, kind: Kind, cells: &mut [u32]) -> Loaded
+    ensures stored { Stored (list_at kind «data».now (length cells.old) from)
         cells.old result cells.new }
     ensures count_in_bounds { result.count ≤ length cells.old }
 {
     let runs = number_at(data, from);
-    let mut left = runs.value;
+    let mut count = 0;
     let mut at = runs.next;
-    let mut count: usize = 0;
-    while 0 < left {
+    for _done in 0..runs.value {
         if at == data.len() {
             return Loaded { count, next: at };
         }
-        let run = load_run(data, at, quoted, cells, count);
-        count = run.count;
+        let run = load_run(data, at, kind, &mut cells[count..]);
+        count += run.count;
         at = run.next;
-        left -= 1;
     }
     Loaded { count, next: at }
 }
@@ -258,38 +223,33 @@ pub(crate) fn load(data: &[u8], from: usize, quoted: bool, cells: &mut [u32]) ->
 fn narrow(cells: &[u32], bytes: &mut [u8])
     ensures { bytes.new ≡ sets bytes.old 0 (low_bytes cells.now) }
 {
-    let mut i: usize = 0;
-    while i < bytes.len() {
-        if cells.len() <= i {
-            return;
-        }
+    // By index: of a `zip` with an `iter_mut` a proof doesn't learn what is stored.
+    for i in 0..cells.len().min(bytes.len()) {
         bytes[i] = (cells[i] % 256) as u8;
-        i += 1;
     }
 }
 
 // A list of bytes as a text, by way of the cells. Where the text has no room for it, the file is malformed.
 fn text_by(data: &[u8], from: usize, cells: &mut [u32], text: &mut [u8]) -> Loaded
-    ensures stored { Stored 0
+    ensures stored { Stored
         (text_at «data».now (length cells.old) (length text.old) from)
         text.old result text.new }
     ensures count_in_bounds { result.count ≤ length text.old }
 {
-    let list = load(data, from, true, cells);
-    let n = list.count;
-    if text.len() < n {
+    let list = load(data, from, Kind::Bytes, cells);
+    if text.len() < list.count {
         return Loaded {
             count: 0,
             next: data.len(),
         };
     }
-    narrow(&cells[..n], text);
+    narrow(&cells[..list.count], text);
     list
 }
 
 // The file's next list of bytes, as a text.
 pub fn load_text(data: &[u8], from: usize, text: &mut [u8]) -> Loaded
-    ensures stored { Stored 0 (text_at «data».now room (length text.old) from)
+    ensures stored { Stored (text_at «data».now room (length text.old) from)
         text.old result text.new }
     ensures count_in_bounds { result.count ≤ length text.old }
 {

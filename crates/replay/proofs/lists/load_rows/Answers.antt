@@ -1,44 +1,35 @@
--- The rows that are left, behind the row at `row`, give what all of them give.
-use Rattle.std.proofs.Common.{◌≡◌, ◌+◌, ◌*◌, false, refl, ◌∙◌, arith, lt-ltb}
-use lib.Seq.{slice}
-use Rattle.utils.specs.Bytes.{pick}
-use Rattle.replay.specs.Lists.{values_at, stepped}
-use Rattle.replay.proofs.Rows.{values_length, once-less, pick_same, repeated-none, row-stored}
+-- Each turn stores one row more (`row-stored`).
+use Rattle.std.proofs.Common.{◌≡◌, ◌+◌, ◌-◌, ◌*◌, refl, ◌∙◌, arith, lt-ltb}
+use Rattle.replay.specs.Lists.{values_at, repeated}
+use Rattle.replay.specs.declared.lists.Kind.TheVariants.{Numbers}
+use Rattle.replay.proofs.Rows.{values_length, row-stored, next-row, row_fits}
 use Rattle.replay.proofs.lists.load_rows.Goals as goal
-
-pub loop-left-init : goal.loop-left-init
-loop-left-init c = (refl, refl, refl, refl)
 
 pub load_row-next-requires : goal.load_row-next-requires
 load_row-next-requires c =
-    let less = once-less c.loop-left.left c.args.width c.loop-left-test.true in
-    omega (arith, less)
+    omega (arith, row_fits c.loop-row.row c.args.more c.args.width c.loop-row-test.true)
 
-pub loop-left-preserved : goal.loop-left-preserved
-unfolding pick
-loop-left-preserved c =
-    let steps = values_at false c.args.«data».now c.args.width c.args.from in
-    let less = once-less c.loop-left.left c.args.width c.loop-left-test.true in (
-      c.load_row-next.auto.cells ∙ c.loop-left.invariant.0,
-      omega arith,
-      rw (c.load_row-next.ensures.0, pick_same) (rw (lt-ltb 0 c.loop-left.left c.loop-left-test.true) at
-          c.loop-left.invariant.2),
-      row-stored c.loop-left.cells c.load_row-next.new.cells steps.cells c.loop-left.row c.args.width c.loop-left.left
-          c.loop-left-test.true
-          (values_length false c.args.«data».now c.args.width c.args.from) (omega arith) c.load_row-next.ensures.1
-          ∙ c.loop-left.invariant.3,
-    )
+pub loop-row-preserved : goal.loop-row-preserved
+loop-row-preserved c =
+    let row = c.loop-row.row in
+    let width = c.args.width in
+    let steps = values_at Numbers c.args.«data».now width c.args.from in
+    let fits = row_fits row c.args.more width c.loop-row-test.true in
+    record {
+      next = rw (lt-ltb 0 (row + 1) (omega arith)) c.load_row-next.ensures.value;
+      stored = row-stored c.loop-row.cells c.load_row-next.new.cells steps.cells (row * width) ((row + 1) * width) width
+          (c.args.more - row) (c.args.more - (row + 1)) (omega arith) (next-row row width)
+          (values_length Numbers c.args.«data».now width c.args.from) (omega arith) c.load_row-next.ensures.cells_after
+          ∙ c.loop-row.invariant.stored;
+    }
 
 pub returns : goal.returns
-unfolding pick
+unfolding repeated
 returns c =
-    let steps = values_at false c.args.«data».now c.args.width c.args.from in
-    let first = slice c.loop-left.row (c.loop-left.row + c.args.width) c.loop-left.cells in
-    let none : c.loop-left.left ≡ 0 = omega arith in
-    let rows : c.loop-left.row + 0 * c.args.width ≡ c.args.start + c.args.more * c.args.width = rw none at
-    c.loop-left.invariant.1 in (
-      omega arith,
-      rw none at c.loop-left.invariant.2,
-      rw (repeated-none c.loop-left.left (stepped first steps.cells) steps.cells c.loop-left-test.false) at
-          c.loop-left.invariant.3,
-    )
+    let all : c.loop-row.row ≡ c.args.more = omega arith in
+    let none : c.args.more - c.loop-row.row ≡ 0 = omega arith in
+    record {
+      count = refl;
+      next = rw all at c.loop-row.invariant.next;
+      cells_after = rw none at c.loop-row.invariant.stored;
+    }

@@ -1,18 +1,17 @@
--- What each turn of a loop keeps.
-use Rattle.std.proofs.Common.{◌≡◌, ◌+◌, ◌*◌, false, ltb, length}
+-- The rows that are left, behind those that are stored, give what all of them give.
+use Rattle.std.proofs.Common.{◌≡◌, ◌+◌, ◌-◌, ◌*◌, nat_lt, cond, take}
 use lib.Seq.{sets, slice}
-use Rattle.utils.specs.Bytes.{pick}
 use Rattle.replay.specs.Lists.{values_at, stepped, repeated}
+use Rattle.replay.specs.declared.lists.Kind.TheVariants.{Numbers}
 use Rattle.replay.proofs.lists.load_rows.Given as goal
 
-abbrev pub invariant-loop-left : goal.invariant-loop-left
-invariant-loop-left l = let steps = values_at false l.data l.width l.from in
-    (length l.cells ≡ length l.initial.cells) × (l.row + l.left * l.width ≡ l.start + l.more * l.width)
-    × (pick (ltb 0 l.left) steps.next l.next ≡ pick (ltb 0 l.more) steps.next l.from)
-    × (sets l.cells (l.row + l.width) (repeated l.left (stepped (slice l.row (l.row + l.width) l.cells) steps.cells)
-    steps.cells)
-    ≡ sets l.initial.cells (l.start + l.width)
-    (repeated l.more (stepped (slice l.start (l.start + l.width) l.initial.cells) steps.cells) steps.cells))
-
-abbrev pub decreases-loop-left : goal.decreases-loop-left
-decreases-loop-left l = l.left
+abbrev pub invariant-loop-row : goal.invariant-loop-row
+invariant-loop-row l =
+    let steps = values_at Numbers l.data l.width l.from in
+    let start = l.row * l.width in
+    record {
+      next : l.next ≡ cond (nat_lt 0 l.row) steps.next l.from;
+      stored : sets l.cells (start + l.width)
+          (repeated (l.more - l.row) (stepped (slice start (start + l.width) l.cells) steps.cells) steps.cells)
+          ≡ sets l.initial.cells l.width (repeated l.more (stepped (take l.width l.initial.cells) steps.cells) steps.cells);
+    }

@@ -1,27 +1,25 @@
--- The values that are left, read from `at` on and stored behind `count` cells, give what all of them give.
-use Rattle.std.proofs.Common.{sym, refl, ap, ◌∙◌, arith, length-set}
+-- Each turn stores one value more (`value-stored`).
+use Rattle.std.proofs.Common.{◌+◌, ◌-◌, length, sym, ap, ◌∙◌, arith}
+use Rattle.std.proofs.lemmas.List.{take_all}
+use Rattle.std.proofs.Common.{append-nil}
 use Rattle.replay.specs.Lists.{Values}
 use Rattle.replay.proofs.Rows.{values-more, values-none, value-stored}
 use Rattle.replay.proofs.lists.load_values.Goals as goal
 
-pub loop-left-init : goal.loop-left-init
-loop-left-init c = (refl, refl, refl, refl)
-
-pub loop-left-preserved : goal.loop-left-preserved
-loop-left-preserved c = (
-  simp length-set c.loop-left.invariant.0,
-  omega arith,
-  sym (ap (λ (v : Values). v.next) (values-more c.args.quoted c.args.«data».now c.loop-left.left c.loop-left.at
-      c.value_at-number.result
-      c.loop-left-test.true c.value_at-number.ensures))
-      ∙ c.loop-left.invariant.2,
-  value-stored c.args.quoted c.args.«data».now c.loop-left.cells c.loop-left.count c.loop-left.left c.loop-left.at
-      c.value_at-number.result
-      c.loop-left-test.true c.value_at-number.ensures
-      ∙ c.loop-left.invariant.3,
-)
+pub loop-cell-preserved : goal.loop-cell-preserved
+loop-cell-preserved c =
+    let more = values-more c.args.kind c.args.«data».now (length c.args.cells.now - c.loop-cell.cell-index)
+    (length c.args.cells.now - (c.loop-cell.cell-index + 1)) c.loop-cell.at c.value_at-number.result (omega arith) c.value_at-number.ensures in
+    record {
+      next = sym (ap (λ (v : Values). v.next) more) ∙ c.loop-cell.invariant.next;
+      stored = value-stored c.loop-cell.cells _ c.loop-cell.cell-index c.value_at-number.result.value (omega arith)
+          ∙ (rw more at c.loop-cell.invariant.stored);
+    }
 
 pub returns : goal.returns
 returns c =
-    let none = values-none c.args.quoted c.args.«data».now c.loop-left.left c.loop-left.at c.loop-left-test.false in
-    (rw none at c.loop-left.invariant.2, rw none at c.loop-left.invariant.3)
+    let none = values-none c.args.kind c.args.«data».now (length c.args.cells.now - c.loop-cell.cell-index) c.loop-cell.at (omega arith) in
+    record {
+      value = rw none at c.loop-cell.invariant.next;
+      cells_after = sym (append-nil c.loop-cell.cells) ∙ (rw (none, take_all c.loop-cell.cell-index c.loop-cell.cells (omega arith)) at c.loop-cell.invariant.stored);
+    }

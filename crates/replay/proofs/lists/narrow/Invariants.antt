@@ -1,12 +1,8 @@
--- What each turn of a loop keeps.
-use Rattle.std.proofs.Common.{◌≡◌, ◌-◌, length, drop}
+-- The low bytes of the cells from `i` on, stored from `i` on, give what storing them all gives.
+use Rattle.std.proofs.Common.{◌≡◌, drop}
 use lib.Seq.{sets}
 use Rattle.replay.specs.Lists.{low_bytes}
 use Rattle.replay.proofs.lists.narrow.Given as goal
 
 abbrev pub invariant-loop-i : goal.invariant-loop-i
-invariant-loop-i l = (length l.bytes ≡ length l.initial.bytes) × (sets l.bytes l.i (low_bytes (drop l.i l.cells)) ≡ sets
-    l.initial.bytes 0 (low_bytes l.cells))
-
-abbrev pub decreases-loop-i : goal.decreases-loop-i
-decreases-loop-i l = length l.initial.bytes - l.i
+invariant-loop-i l = sets l.bytes l.i (low_bytes (drop l.i l.cells)) ≡ sets l.initial.bytes 0 (low_bytes l.cells)
