@@ -70,12 +70,12 @@ pub record Accepted (ts : List Tok) (fs : List Function) : Type 0 where
   pub end : (program_d ts).end ≡ Ok next
   pub fine : (typed_d ts fs fs untyped).end ≡ (Ok tt)
 
-pub typed-fine : (fs gs : List Function) (c : Result Unit Refusal) → after_typing gs c ≡ checked fs → (gs ≡ fs) × (c ≡ (Ok tt)
+pub typed-fine : (fs gs : List Function) (c : Result Unit Refusal) → after_typing gs c ≡ checked fs → (gs ≡ fs) × (c ≡ (Ok tt))
 typed-fine fs gs (Ok tt) e = (cc, refl)
 typed-fine fs gs (Err x) e = let z : ◌≡◌ {A = ℕ} 0 1 = cc in absurd (omega arith)
 
 pub parsed_fine : (ts : List Tok) (fs gs : List Function) (c : Result ℕ Refusal) → after_parsing ts gs c ≡ checked fs
-    → (gs ≡ fs) × ((typed_d ts gs gs untyped).end ≡ (Ok tt) × ((next : ℕ) × (c ≡ Ok next))
+    → (gs ≡ fs) × ((typed_d ts gs gs untyped).end ≡ (Ok tt)) × ((next : ℕ) × (c ≡ Ok next))
 parsed_fine ts fs gs (Ok next) e =
     let t = typed-fine fs gs (typed_d ts gs gs untyped).end e in
     (t.0, t.1, (next, refl))
@@ -89,7 +89,7 @@ accepted-by ts fs e =
       functions = p.0;
       next = p.2.0;
       end = p.2.1;
-      fine = subst (λ (gs : List Function). (typed_d ts gs gs untyped).end ≡ (Ok tt) p.0 p.1;
+      fine = subst (λ (gs : List Function). (typed_d ts gs gs untyped).end ≡ (Ok tt)) p.0 p.1;
     }
 
 pub refused-unit : (ts : List Tok) (x : Refusal) → (program_d ts).end ≡ Err x → unit_d ts ≡ refused x

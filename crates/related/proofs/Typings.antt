@@ -17,7 +17,7 @@ use Rattle.related.proofs.SimProgram.{function_typed_s}
 
 -- both steps are fine
 fine_end : (c : Result Unit Refusal) (next this : Typed) → this.end ≡ c → (then_end c next this).end ≡ (Ok tt)
-    → (c ≡ (Ok tt) × (next.end ≡ (Ok tt)
+    → (c ≡ (Ok tt)) × (next.end ≡ (Ok tt))
 unfolding then_end
 fine_end (Ok tt) next this e h = (refl, h)
 fine_end (Err x) next this e h = let z : ◌≡◌ {A = ℕ} 0 1 = cc in absurd (omega arith)
@@ -77,13 +77,13 @@ fine-from (SimTyped.both q (SimChecked.refused r)) e = let z : ◌≡◌ {A = �
 module _ {m : Move} {n : ℕ} {ts ts' : List Tok} {globals globals' : ℕ → Global} {blank blank' : List ℕ}
     (s : Sim m n ts ts') (g : SameGlobals m globals globals') (t : Tables m blank blank') where
   pub all_from : {fs fs' : List Function} → Each (SimFunction m n) fs fs'
-      → All (λ f. (function_typed ts' globals' f blank').end ≡ (Ok tt) fs'
-      → All (λ f. (function_typed ts globals f blank).end ≡ (Ok tt) fs
+      → All (λ f. (function_typed ts' globals' f blank').end ≡ (Ok tt)) fs'
+      → All (λ f. (function_typed ts globals f blank).end ≡ (Ok tt)) fs
   all_from Each.none All.none = All.none
   all_from (Each.more q r) (All.more a b) = All.more (fine-from (function_typed_s s g t q) a) (all_from r b)
 
   pub all-to : {fs fs' : List Function} → Each (SimFunction m n) fs fs'
-      → All (λ f. (function_typed ts globals f blank).end ≡ (Ok tt) fs
-      → All (λ f. (function_typed ts' globals' f blank').end ≡ (Ok tt) fs'
+      → All (λ f. (function_typed ts globals f blank).end ≡ (Ok tt)) fs
+      → All (λ f. (function_typed ts' globals' f blank').end ≡ (Ok tt)) fs'
   all-to Each.none All.none = All.none
   all-to (Each.more q r) (All.more a b) = All.more (fine-to (function_typed_s s g t q) a) (all-to r b)
