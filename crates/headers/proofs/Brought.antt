@@ -1,6 +1,6 @@
 -- What is looked up by its number among the rows that were brought is what its spelling finds in the old table: a row
 -- is brought with the one number that is spelled as its name, and its other cells as they were.
-use Rattle.std.specs.Prelude.{None, Option, Some}
+use Rattle.std.specs.Prelude.{Option, Some, None}
 use Prim.Native.Nat.{ℕ, zero, suc, ◌+◌, ◌-◌, ◌*◌, ◌≤◌, ◌<◌}
 use mathlib.Core.Path.{◌≡◌, refl, sym, ap, subst, ◌∙◌}
 use mathlib.Core.List.{List}
@@ -15,8 +15,6 @@ use Rattle.utils.specs.Bytes.{pick, same_bytes}
 use Rattle.pieces.proofs.Progress.{pick_either}
 use Rattle.pieces.specs.declared.Identifier.{Identifier}
 use Rattle.lexer.specs.Decoded.{name_of}
-use Rattle.lexer.specs.declared.Found.{Found}
-use Rattle.lexer.specs.declared.Found.TheVariants as F
 use Rattle.functions.specs.Columns.{row_at, name_at, ret_at, count_at, formals_at, place_at, length_at}
 use Rattle.functions.specs.Rows.{at_most16, types_at}
 use Rattle.functions.proofs.Stores.{get_or-sets-below}
@@ -154,20 +152,20 @@ module _ (cells rows : List ℕ) where
 
 -- What stays of a table while more rows are brought. -----------------------------------------------------------------
 
-pub step_grows : (b : Brought) (rows : List ℕ) (i : ℕ) (f : Found)
+pub step_grows : (b : Brought) (rows : List ℕ) (i : ℕ) (f : Option Identifier)
     → (b.count ≤ (brought_as b rows i f).count) × ((brought_as b rows i f).count ≤ b.count + 1)
-step_grows b rows i (F.At y) = (omega arith, omega arith)
-step_grows b rows i F.Nothing = (omega arith, omega arith)
+step_grows b rows i (Some y) = (omega arith, omega arith)
+step_grows b rows i None = (omega arith, omega arith)
 
-pub step_length : (b : Brought) (rows : List ℕ) (i : ℕ) (f : Found)
+pub step_length : (b : Brought) (rows : List ℕ) (i : ℕ) (f : Option Identifier)
     → length (brought_as b rows i f).cells ≡ length b.cells
-step_length b rows i (F.At y) = length_put b.cells rows b.count i y.0
-step_length b rows i F.Nothing = refl
+step_length b rows i (Some y) = length_put b.cells rows b.count i y.0
+step_length b rows i None = refl
 
-step_kept : (b : Brought) (rows : List ℕ) (i : ℕ) (f : Found) (j : ℕ) → j < row_at b.count
+step_kept : (b : Brought) (rows : List ℕ) (i : ℕ) (f : Option Identifier) (j : ℕ) → j < row_at b.count
     → get_or (brought_as b rows i f).cells j 0 ≡ get_or b.cells j 0
-step_kept b rows i (F.At y) j h = put_below b.cells rows b.count i y.0 j h
-step_kept b rows i F.Nothing j h = refl
+step_kept b rows i (Some y) j h = put_below b.cells rows b.count i y.0 j h
+step_kept b rows i None j h = refl
 
 module _ (old rows new names : List ℕ) (known : ℕ) where
   -- row i, brought if its name is found
@@ -229,7 +227,7 @@ module _ (old rows new names : List ℕ) (x i n : ℕ) (b e : Brought) where
   unfolding row_spelled pick
   turn_none d s = rw (d x) s
 
-  turn : (f : Found) → Decides new names (row_name old rows i) f → row_at (b.count + 1) ≤ length b.cells
+  turn : (f : Option Identifier) → Decides new names (row_name old rows i) f → row_at (b.count + 1) ≤ length b.cells
       → (brought_as b rows i f).count ≤ e.count
       → ((j : ℕ) → j < row_at (brought_as b rows i f).count
       → get_or e.cells j 0 ≡ get_or (brought_as b rows i f).cells j 0)
@@ -238,8 +236,8 @@ module _ (old rows new names : List ℕ) (x i n : ℕ) (b e : Brought) where
       (row_spelled old rows (i + 1) n (name_of new names x))
       → Same e.cells rows (row_from e.cells b.count (e.count - b.count) x)
       (row_spelled old rows i (suc n) (name_of new names x))
-  turn (F.At y) d room g k s = turn_at y.0 d room g k s
-  turn F.Nothing d room g k s = turn_none d s
+  turn (Some y) d room g k s = turn_at y.0 d room g k s
+  turn None d room g k s = turn_none d s
 
 none-same : (cells rows : List ℕ) (k x : ℕ) (old : List ℕ) (i : ℕ) (name : List ℕ)
     → Same cells rows (row_from cells k (k - k) x) (row_spelled old rows i 0 name)
@@ -326,7 +324,7 @@ pub record Stands (rows : List ℕ) (number y : ℕ) (r : Placed) (out : List �
   pub cells : RowSame out rows r.place number
 
 module _ (old rows new names : List ℕ) (known number : ℕ) (out₀ : List ℕ) (y : Identifier)
-    (t : Tabled old rows number) (found : name_spelled new names 0 known (row_name old rows number) ≡ F.At y)
+    (t : Tabled old rows number) (found : name_spelled new names 0 known (row_name old rows number) ≡ Some y)
   where
     -- the rows before it
     abbrev before : Brought

@@ -1,5 +1,6 @@
 -- A name of the new text is found by its spelling, and only that one: the names are distinct, and a number from their
 -- count on has no spelling.
+use Rattle.std.specs.Prelude.{Option, Some, None}
 use Prim.Native.Nat.{ℕ, zero, suc, ◌+◌, ◌-◌, ◌*◌, ◌≤◌, ◌<◌}
 use mathlib.Core.Path.{◌≡◌, refl, sym, ap, ◌∙◌}
 use mathlib.Core.List.{List, [], ◌∷◌, ◌++◌}
@@ -17,8 +18,6 @@ use Rattle.pieces.specs.declared.Token.{Token}
 use Rattle.lexer.specs.Decoded.{name_of}
 use Rattle.lexer.specs.Numbered.{Part, names_cells}
 use Rattle.lexer.specs.Sound.{Sound}
-use Rattle.lexer.specs.declared.Found.{Found}
-use Rattle.lexer.specs.declared.Found.TheVariants as F
 use Rattle.lexer.proofs.Same.{same_bytes-true, same_bytes-false}
 use Rattle.lexer.proofs.Cells.{length-names_cells, cells-name}
 use Rattle.headers.specs.Spelled.{name_spelled, Named}
@@ -26,11 +25,11 @@ use Rattle.headers.specs.Spelled.{name_spelled, Named}
 -- The search. --------------------------------------------------------------------------------------------------------
 
 module _ (new names w : List ℕ) where
-  abbrev FoundName : ℕ → ℕ → Found → Type 0
-  FoundName n x (F.At y) = (x ≤ y.0) × (y.0 < x + n) × (w ≡ name_of new names y.0)
-  FoundName n x F.Nothing = (z : ℕ) → x ≤ z → z < x + n → same_bytes w (name_of new names z) ≡ false
+  abbrev FoundName : ℕ → ℕ → Option Identifier → Type 0
+  FoundName n x (Some y) = (x ≤ y.0) × (y.0 < x + n) × (w ≡ name_of new names y.0)
+  FoundName n x None = (z : ℕ) → x ≤ z → z < x + n → same_bytes w (name_of new names z) ≡ false
 
-  none-later : (n x : ℕ) → same_bytes w (name_of new names x) ≡ false → FoundName n (x + 1) F.Nothing
+  none-later : (n x : ℕ) → same_bytes w (name_of new names x) ≡ false → FoundName n (x + 1) None
       → (z : ℕ) → x ≤ z → z < x + suc n → same_bytes w (name_of new names z) ≡ false
   none-later n x e h z l m = at (ltb x z) refl
     where
@@ -40,26 +39,26 @@ module _ (new names w : List ℕ) where
           let k : z ≡ x = omega (arith, ltb-false x z q) in
           rw k e
 
-  found-later : (n x : ℕ) (f : Found) → same_bytes w (name_of new names x) ≡ false → FoundName n (x + 1) f
+  found-later : (n x : ℕ) (f : Option Identifier) → same_bytes w (name_of new names x) ≡ false → FoundName n (x + 1) f
       → FoundName (suc n) x f
-  found-later n x (F.At y) e h = (omega arith, omega arith, h.2)
-  found-later n x F.Nothing e h = none-later n x e h
+  found-later n x (Some y) e h = (omega arith, omega arith, h.2)
+  found-later n x None e h = none-later n x e h
 
   found_name : (n x : ℕ) → FoundName n x (name_spelled new names x n w)
   unfolding name_spelled
   found_name zero x = λ z l m. absurd (omega arith)
   found_name (suc n) x =
       let more = name_spelled new names (x + 1) n w in
-      pick_either (FoundName (suc n) x) (same_bytes w (name_of new names x)) (F.At record { 0 = x }) more
+      pick_either (FoundName (suc n) x) (same_bytes w (name_of new names x)) (Some record { 0 = x }) more
       (λ e. (omega arith, omega arith, same_bytes-true _ _ e))
       (λ e. found-later n x more e (found_name n (x + 1)))
 
 -- What is found decides for every number. ----------------------------------------------------------------------------
 
 -- whether each number is spelled so
-abbrev pub Decides : List ℕ → List ℕ → List ℕ → Found → Type 0
-Decides new names w (F.At y) = (x : ℕ) → same_bytes w (name_of new names x) ≡ eqb y.0 x
-Decides new names w F.Nothing = (x : ℕ) → same_bytes w (name_of new names x) ≡ false
+abbrev pub Decides : List ℕ → List ℕ → List ℕ → Option Identifier → Type 0
+Decides new names w (Some y) = (x : ℕ) → same_bytes w (name_of new names x) ≡ eqb y.0 x
+Decides new names w None = (x : ℕ) → same_bytes w (name_of new names x) ≡ false
 
 module _ (new names : List ℕ) (known : ℕ) (v : Named new names known) (w : List ℕ) (some : 1 ≤ length w) where
   -- a number that is spelled so is below the count
@@ -87,28 +86,28 @@ module _ (new names : List ℕ) (known : ℕ) (v : Named new names known) (w : L
       at true e = sym (eq-eqb y x (one_number y x h (same_bytes-true _ _ e)))
       at false e = sym (ne_eqb y x (λ q. same_bytes-false w (name_of new names x) e (rw q at h)))
 
-  none_decides : FoundName new names w known 0 F.Nothing → (x : ℕ) → same_bytes w (name_of new names x) ≡ false
+  none_decides : FoundName new names w known 0 None → (x : ℕ) → same_bytes w (name_of new names x) ≡ false
   none_decides h x = at (ltb x known) refl
     where
       at : (t : Bool) → ltb x known ≡ t → same_bytes w (name_of new names x) ≡ false
       at true q = h x (omega arith) (omega (arith, ltb-true x known q))
       at false q = rw (v.past x (ltb-false x known q)) (other_length w [] (λ e. omega arith))
 
-  decides : (f : Found) → FoundName new names w known 0 f → Decides new names w f
-  decides (F.At y) h = λ x. one_decides y.0 x h.2
-  decides F.Nothing h = none_decides h
+  decides : (f : Option Identifier) → FoundName new names w known 0 f → Decides new names w f
+  decides (Some y) h = λ x. one_decides y.0 x h.2
+  decides None h = none_decides h
 
   pub found_decides : Decides new names w (name_spelled new names 0 known w)
   found_decides = decides (name_spelled new names 0 known w) (found_name new names w known 0)
 
   -- a name that is spelled so is the one that is found
   pub spelled-found : (y : Identifier) → same_bytes w (name_of new names y.0) ≡ true
-      → name_spelled new names 0 known w ≡ F.At y
+      → name_spelled new names 0 known w ≡ Some y
   spelled-found y e = from (name_spelled new names 0 known w) found_decides
     where
-      from : (f : Found) → Decides new names w f → f ≡ F.At y
-      from (F.At z) d = ap (λ (k : ℕ). F.At record { 0 = k }) (eqb-true z.0 y.0 (sym (d y.0) ∙ e))
-      from F.Nothing d =
+      from : (f : Option Identifier) → Decides new names w f → f ≡ Some y
+      from (Some z) d = ap (λ (k : ℕ). Some record { 0 = k }) (eqb-true z.0 y.0 (sym (d y.0) ∙ e))
+      from None d =
           let q : ◌≡◌ {A = Bool} false true = sym (d y.0) ∙ e in
           absurd (let z : ◌≡◌ {A = ℕ} 0 1 = cc in omega arith)
 

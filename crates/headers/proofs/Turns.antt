@@ -1,4 +1,5 @@
 -- One turn more, and none, of the loops over formals, rows, names and the cells of a row.
+use Rattle.std.specs.Prelude.{Some, None}
 use Prim.Native.Nat.{ℕ, zero, suc, ◌+◌, ◌-◌, ◌≤◌, ◌<◌}
 use mathlib.Core.Path.{◌≡◌, refl}
 use mathlib.Core.List.{List, []}
@@ -9,7 +10,6 @@ use lib.ListN.{get_or, set}
 use lib.Seq.{sets}
 use Rattle.utils.specs.Bytes.{pick, same_bytes}
 use Rattle.lexer.specs.Decoded.{name_of}
-use Rattle.lexer.specs.declared.Found.TheVariants as F
 use Rattle.functions.specs.Columns.{formal_type_at}
 use Rattle.headers.specs.Table.{between, formals_fit, row_fits, rows_fit}
 use Rattle.headers.specs.Spelled.{row_name, name_spelled}
@@ -40,12 +40,12 @@ rows_none old rows i (suc n) h = absurd (omega arith)
 
 pub names_more : (new names : List ℕ) (x n : ℕ) (name : List ℕ) → 0 < n
     → name_spelled new names x n name
-    ≡ pick (same_bytes name (name_of new names x)) (F.At record { 0 = x }) (name_spelled new names (x + 1) (n - 1) name)
+    ≡ pick (same_bytes name (name_of new names x)) (Some record { 0 = x }) (name_spelled new names (x + 1) (n - 1) name)
 unfolding name_spelled
 names_more new names x zero name h = absurd (omega arith)
 names_more new names x (suc n) name h = let m : suc n - 1 ≡ n = omega arith in rw m
 
-pub names-none : (new names : List ℕ) (x n : ℕ) (name : List ℕ) → n ≤ 0 → name_spelled new names x n name ≡ F.Nothing
+pub names-none : (new names : List ℕ) (x n : ℕ) (name : List ℕ) → n ≤ 0 → name_spelled new names x n name ≡ None
 unfolding name_spelled
 names-none new names x zero name h = refl
 names-none new names x (suc n) name h = absurd (omega arith)

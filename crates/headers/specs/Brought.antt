@@ -1,14 +1,13 @@
 -- The old headers in the new text's numbers: a table of the rows whose names the new text has, in their order, each
 -- with that name's number in it. What looks a callee up by its number among these rows finds what the spelling finds
 -- among all of them (`globals_brought`, `callees_brought`, proofs/Brought.antt).
-use Rattle.std.specs.Prelude.{ℕ, zero, suc, ◌+◌, ◌≤◌, ◌≡◌, List, [], ◌∷◌, get_or, set}
+use Rattle.std.specs.Prelude.{ℕ, zero, suc, ◌+◌, ◌≤◌, ◌≡◌, List, [], ◌∷◌, get_or, set, Option, Some, None}
 use Rattle.std.proofs.lemmas.List.Edits.{sets}
 use Rattle.utils.specs.Limits.{most_functions}
-use Rattle.lexer.specs.declared.Found.{Found}
-use Rattle.lexer.specs.declared.Found.TheVariants as F
 use Rattle.functions.specs.Columns.{row_at, name_at, row_width}
 use Rattle.headers.specs.Spelled.{row_name, name_spelled}
 use Rattle.headers.specs.declared.Placed.{Placed}
+use Rattle.pieces.specs.declared.Identifier.{Identifier}
 
 -- n cells, from a place on
 unfoldable pub cells_from : List ℕ → ℕ → ℕ → List ℕ
@@ -28,9 +27,9 @@ abbrev pub brought : List ℕ → ℕ → Brought
 brought cells count = record { cells = cells; count = count }
 
 -- row i, behind those that are there, if the new text has its name
-abbrev pub brought_as : Brought → List ℕ → ℕ → Found → Brought
-brought_as b rows i (F.At x) = brought (row_put b.cells b.count rows i x.0) (b.count + 1)
-brought_as b rows i F.Nothing = b
+abbrev pub brought_as : Brought → List ℕ → ℕ → Option Identifier → Brought
+brought_as b rows i (Some x) = brought (row_put b.cells b.count rows i x.0) (b.count + 1)
+brought_as b rows i None = b
 
 -- n rows, from row i on; the new text has `known` names
 unfoldable pub brought_from : List ℕ → List ℕ → List ℕ → List ℕ → ℕ → ℕ → ℕ → Brought → Brought

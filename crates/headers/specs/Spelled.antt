@@ -1,19 +1,17 @@
 -- Names by spelling: "A looked-up name is a part of the old text or of the new." The headers' names are parts of the
 -- old text, the new function's names parts of the new one.
-use Rattle.std.specs.Prelude.{None, Option, Some}
-use Rattle.std.specs.Prelude.{ℕ, zero, suc, ◌+◌, ◌≤◌, ◌<◌, ◌≡◌, List, [], leb, length, get_or}
+use Rattle.std.specs.Prelude.{ℕ, zero, suc, ◌+◌, ◌≤◌, ◌<◌, ◌≡◌, List, [], leb, length, get_or, Option, Some, None}
 use Rattle.std.proofs.Math.Seq.{slice}
 use Rattle.utils.specs.Bytes.{pick, same_bytes}
 use Rattle.lexer.specs.Decoded.{name_of}
 use Rattle.utils.specs.Limits.{most_functions}
-use Rattle.lexer.specs.declared.Found.{Found}
-use Rattle.lexer.specs.declared.Found.TheVariants as F
 use Rattle.functions.specs.Columns.{place_at, length_at}
 use Rattle.sema.specs.Typing.{Global}
 use Rattle.sema.specs.Globals.{global_of}
 use Rattle.elaborate.specs.Types.{type_cell_of}
 use Rattle.headers.specs.declared.Looked.{Looked}
 use Rattle.headers.specs.declared.Looked.TheVariants as L
+use Rattle.pieces.specs.declared.Identifier.{Identifier}
 
 -- the name of row i of the header table; nothing where it lies outside the old text
 unfoldable pub row_name : List ℕ → List ℕ → ℕ → List ℕ
@@ -33,11 +31,11 @@ InTable (L.Header i) = i ≤ most_functions
 InTable (L.Name x) = Unit
 
 -- the first of the new text's n names, from name x on, that is spelled so
-unfoldable pub name_spelled : List ℕ → List ℕ → ℕ → ℕ → List ℕ → Found
-name_spelled new names x zero name = F.Nothing
+unfoldable pub name_spelled : List ℕ → List ℕ → ℕ → ℕ → List ℕ → Option Identifier
+name_spelled new names x zero name = None
 name_spelled new names x (suc n) name =
     let more = name_spelled new names (x + 1) n name in
-    pick (same_bytes name (name_of new names x)) (F.At record { 0 = x }) more
+    pick (same_bytes name (name_of new names x)) (Some record { 0 = x }) more
 
 -- the first of n rows, from row i on, whose name is spelled so
 unfoldable pub row_spelled : List ℕ → List ℕ → ℕ → ℕ → List ℕ → Option ℕ

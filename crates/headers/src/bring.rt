@@ -8,7 +8,6 @@ ghost use Rattle.headers.specs.Brought.{cells_from, row_put, brought, brought_as
 
 use crate::{Placed, names};
 use functions::columns;
-use lexer::Found;
 use pieces::Identifier;
 use utils::cell_at;
 
@@ -57,11 +56,11 @@ fn bring_row<'t, 'c>(
     ensures lower_bound { (n ≤ result) × (result ≤ n + 1) }
 {
     match names::find_name(old, rows, i, new, names, known) {
-        Found::At(x) => {
+        Some(x) => {
             put_row(out, n, rows, i, x);
             n + 1
         }
-        Found::Nothing => n,
+        None => n,
     }
 }
 

@@ -7,7 +7,6 @@ ghost use Rattle.headers.specs.Spelled.{row_name, spelled_as, InTable, name_spel
 
 use crate::Looked;
 use functions::columns;
-use lexer::Found;
 use pieces::{Identifier, tokens};
 use utils::cell_at;
 
@@ -78,7 +77,7 @@ pub fn find_name<'t, 'c>(
     new: &'t [u8],
     names: &'c [u32],
     count: u32,
-) -> Found
+) -> Option<Identifier>
     requires { i ≤ most_functions }
     ensures { result ≡ name_spelled new.now names.now 0 count
         (row_name old.now rows.now i) }
@@ -87,10 +86,10 @@ pub fn find_name<'t, 'c>(
     let mut left = count;
     while 0 < left {
         if is_spelled(old, new, rows, names, i, Identifier(x)) {
-            return Found::At(Identifier(x));
+            return Some(Identifier(x));
         }
         x += 1;
         left -= 1;
     }
-    Found::Nothing
+    None
 }

@@ -12,7 +12,7 @@ ghost use Rattle.lexer.specs.Steps.{room_for, pushed};
 ghost use Rattle.lexer.specs.Decoded.{tokens_of, name_in, integer_in, index_behind, token_at, name_of};
 
 use crate::sizes::{NAME_CELLS, TOKEN_CELLS};
-use pieces::{Cursor, Identifier, Location, Refusal, Token, kinds, tokens};
+use pieces::{Cursor, Identifier, Kinded, Location, Refusal, Token, kinds};
 use utils::{limits, put_cells};
 
 // A name's number, in the table already or new to it.
@@ -66,9 +66,8 @@ fn put_token(cells: &mut [u32], count: usize, token: Token)
     requires { (count * token_width + token_width ≤ length cells.old) × (token.place < 4294967296) }
     ensures { cells.new ≡ sets cells.old (count * token_width) (token_cells token) }
 {
-    let value = token.value;
-    let first = tokens::kinded(value);
-    let part = [first.0, first.1, token.line.0, token.place as u32];
+    let Kinded { kind, carried } = Kinded::from(token.value);
+    let part = [kind, carried, token.line.0, token.place as u32];
     put_cells(cells, count * TOKEN_CELLS, &part);
 }
 

@@ -1,4 +1,4 @@
--- A digit is one of the bytes 48 to 57.
+-- A digit is a byte from 48 on.
 use Prim.Native.Nat.{ℕ, ◌≤◌}
 use mathlib.Core.Path.{◌≡◌, refl}
 use mathlib.Core.Bool.{Bool, true, false, ◌&&◌}
@@ -23,7 +23,3 @@ and_pick false u = refl
 pub digit_from : (b : ℕ) → is_digit b ≡ true → 48 ≤ b
 unfolding is_digit
 digit_from b e = leb-true 48 b (pick-both (leb 48 b) (leb b 57) e).0
-
-pub digit_to : (b : ℕ) → is_digit b ≡ true → b ≤ 57
-unfolding is_digit
-digit_to b e = leb-true b 57 (pick-both (leb 48 b) (leb b 57) e).1

@@ -7,7 +7,6 @@ use mathlib.Core.List.{List, [], ◌∷◌}
 use mathlib.Core.Bool.{Bool, true, false}
 use native.Mathlib.Numerals.{add-one}
 use borrow.Author.Tests.{lt-ltb, le-ltb, le-leb, lt-leb, eq-eqb, ne_eqb, not-true, not-false}
-use lib.Dec.{eqb}
 use lib.ListN.{length, drop, get_or, drop_of_length-le}
 use lib.Seq.{drop-cons}
 use Rattle.utils.specs.Bytes.{pick}
@@ -25,15 +24,9 @@ module _ {A : Type 0} {a : A} (x y : A) (q : Bool) where
 pub told : (q : Bool) {b v : Bool} → b ≡ q → b ≡ v → q ≡ v
 told q t e = rw (← t) e
 
--- of an arm's number the other tests compute
-pub other_key : (k j : ℕ) {n : ℕ} → k ≡ n → eqb n j ≡ false → eqb k j ≡ false
-other_key k j e r = rw e r
-
 pub ruleset tests = (pick_first, pick_second, lt-ltb, le-ltb, le-leb, lt-leb, eq-eqb, ne_eqb)
 
 pub ruleset picked = (tests, told, not-true, not-false)
-
-pub ruleset arms = (tests, other_key)
 
 -- One turn of a scan, and its end: where the scan from here on gives w, so does the byte that stands here with what is
 -- behind it.

@@ -91,7 +91,7 @@ carried T.Identity = 0
 carried T.EndOfFile = 0
 
 abbrev pub kinded_of : TokenValue → Kinded
-kinded_of v = record { 0 = kind_of v; 1 = carried v }
+kinded_of v = record { kind = kind_of v; carried = carried v }
 
 -- The value of a kind; a number that is no kind is read as the end. A value comes back from its kind and what it
 -- carries: `value_of-kind`.

@@ -61,7 +61,10 @@ pub enum TokenValue {
 
 // A value's kind, and what it carries: a name's number, an integer's bits, or 0.
 #[derive(Clone, Copy)]
-pub struct Kinded(pub u32, pub u32);
+pub struct Kinded {
+    pub kind: u32,
+    pub carried: u32,
+}
 
 #[derive(Clone, Copy)]
 pub struct Token {

@@ -7,96 +7,106 @@ ghost use Rattle.pieces.specs.Tokens.{word_in, keyword, symbol};
 
 use crate::{Identifier, Kinded, TokenValue, kinds};
 
-// The kind of a value and what it carries: the first two cells of its record.
-pub fn kinded(value: TokenValue) -> Kinded
-    ensures { result ≡ kinded_of value }
+// A value of this kind that carries this.
+fn kinded(kind: u32, carried: u32) -> Kinded
+    ensures { result ≡ record { kind = kind; carried = carried } }
 {
-    match value {
-        TokenValue::Local(i) => Kinded(kinds::LOCAL, i.0),
-        TokenValue::Global(i) => Kinded(kinds::GLOBAL, i.0),
-        TokenValue::Label(i) => Kinded(kinds::LABEL, i.0),
-        TokenValue::Integer(n) => Kinded(kinds::INTEGER, n),
-        TokenValue::Add => Kinded(kinds::ADD, 0),
-        TokenValue::Mul => Kinded(kinds::MUL, 0),
-        TokenValue::Sub => Kinded(kinds::SUB, 0),
-        TokenValue::Div => Kinded(kinds::DIV, 0),
-        TokenValue::Mod => Kinded(kinds::MOD, 0),
-        TokenValue::True => Kinded(kinds::TRUE, 0),
-        TokenValue::False => Kinded(kinds::FALSE, 0),
-        TokenValue::Equal => Kinded(kinds::EQ, 0),
-        TokenValue::LessThan => Kinded(kinds::LT, 0),
-        TokenValue::GreaterThan => Kinded(kinds::GT, 0),
-        TokenValue::LessThanOrEq => Kinded(kinds::LE, 0),
-        TokenValue::GreaterThanOrEq => Kinded(kinds::GE, 0),
-        TokenValue::Not => Kinded(kinds::NOT, 0),
-        TokenValue::And => Kinded(kinds::AND, 0),
-        TokenValue::Or => Kinded(kinds::OR, 0),
-        TokenValue::Jump => Kinded(kinds::JMP, 0),
-        TokenValue::Branch => Kinded(kinds::BR, 0),
-        TokenValue::Call => Kinded(kinds::CALL, 0),
-        TokenValue::Return => Kinded(kinds::RET, 0),
-        TokenValue::Define => Kinded(kinds::DEFINE, 0),
-        TokenValue::LeftParen => Kinded(kinds::LEFT_PAREN, 0),
-        TokenValue::RightParen => Kinded(kinds::RIGHT_PAREN, 0),
-        TokenValue::LeftBrace => Kinded(kinds::LEFT_BRACE, 0),
-        TokenValue::RightBrace => Kinded(kinds::RIGHT_BRACE, 0),
-        TokenValue::Colon => Kinded(kinds::COLON, 0),
-        TokenValue::Semicolon => Kinded(kinds::SEMICOLON, 0),
-        TokenValue::Comma => Kinded(kinds::COMMA, 0),
-        TokenValue::Int => Kinded(kinds::INT, 0),
-        TokenValue::Bool => Kinded(kinds::BOOL, 0),
-        TokenValue::Const => Kinded(kinds::CONST, 0),
-        TokenValue::Print => Kinded(kinds::PRINT, 0),
-        TokenValue::Nop => Kinded(kinds::NOP, 0),
-        TokenValue::Identity => Kinded(kinds::ID, 0),
-        TokenValue::EndOfFile => Kinded(kinds::END_OF_FILE, 0),
+    Kinded { kind, carried }
+}
+
+impl From<TokenValue> for Kinded {
+    ghost from_gives = { λ v r. r ≡ kinded_of v };
+
+    fn from(value: TokenValue) -> Kinded {
+        match value {
+            TokenValue::Local(i) => kinded(kinds::LOCAL, i.0),
+            TokenValue::Global(i) => kinded(kinds::GLOBAL, i.0),
+            TokenValue::Label(i) => kinded(kinds::LABEL, i.0),
+            TokenValue::Integer(n) => kinded(kinds::INTEGER, n),
+            TokenValue::Add => kinded(kinds::ADD, 0),
+            TokenValue::Mul => kinded(kinds::MUL, 0),
+            TokenValue::Sub => kinded(kinds::SUB, 0),
+            TokenValue::Div => kinded(kinds::DIV, 0),
+            TokenValue::Mod => kinded(kinds::MOD, 0),
+            TokenValue::True => kinded(kinds::TRUE, 0),
+            TokenValue::False => kinded(kinds::FALSE, 0),
+            TokenValue::Equal => kinded(kinds::EQ, 0),
+            TokenValue::LessThan => kinded(kinds::LT, 0),
+            TokenValue::GreaterThan => kinded(kinds::GT, 0),
+            TokenValue::LessThanOrEq => kinded(kinds::LE, 0),
+            TokenValue::GreaterThanOrEq => kinded(kinds::GE, 0),
+            TokenValue::Not => kinded(kinds::NOT, 0),
+            TokenValue::And => kinded(kinds::AND, 0),
+            TokenValue::Or => kinded(kinds::OR, 0),
+            TokenValue::Jump => kinded(kinds::JMP, 0),
+            TokenValue::Branch => kinded(kinds::BR, 0),
+            TokenValue::Call => kinded(kinds::CALL, 0),
+            TokenValue::Return => kinded(kinds::RET, 0),
+            TokenValue::Define => kinded(kinds::DEFINE, 0),
+            TokenValue::LeftParen => kinded(kinds::LEFT_PAREN, 0),
+            TokenValue::RightParen => kinded(kinds::RIGHT_PAREN, 0),
+            TokenValue::LeftBrace => kinded(kinds::LEFT_BRACE, 0),
+            TokenValue::RightBrace => kinded(kinds::RIGHT_BRACE, 0),
+            TokenValue::Colon => kinded(kinds::COLON, 0),
+            TokenValue::Semicolon => kinded(kinds::SEMICOLON, 0),
+            TokenValue::Comma => kinded(kinds::COMMA, 0),
+            TokenValue::Int => kinded(kinds::INT, 0),
+            TokenValue::Bool => kinded(kinds::BOOL, 0),
+            TokenValue::Const => kinded(kinds::CONST, 0),
+            TokenValue::Print => kinded(kinds::PRINT, 0),
+            TokenValue::Nop => kinded(kinds::NOP, 0),
+            TokenValue::Identity => kinded(kinds::ID, 0),
+            TokenValue::EndOfFile => kinded(kinds::END_OF_FILE, 0),
+        }
     }
 }
 
-// The value of a kind; what is no kind is read as the end.
-#[tactic(auto, unfolding(crate::specs::Tokens::value_of, utils::specs::Bytes::pick))]
-pub fn value_of(kind: u32, carried: u32) -> TokenValue
-    ensures { result ≡ value_of kind carried }
-{
-    match kind {
-        kinds::LOCAL => TokenValue::Local(Identifier(carried)),
-        kinds::GLOBAL => TokenValue::Global(Identifier(carried)),
-        kinds::LABEL => TokenValue::Label(Identifier(carried)),
-        kinds::INTEGER => TokenValue::Integer(carried),
-        kinds::ADD => TokenValue::Add,
-        kinds::MUL => TokenValue::Mul,
-        kinds::SUB => TokenValue::Sub,
-        kinds::DIV => TokenValue::Div,
-        kinds::MOD => TokenValue::Mod,
-        kinds::TRUE => TokenValue::True,
-        kinds::FALSE => TokenValue::False,
-        kinds::EQ => TokenValue::Equal,
-        kinds::LT => TokenValue::LessThan,
-        kinds::GT => TokenValue::GreaterThan,
-        kinds::LE => TokenValue::LessThanOrEq,
-        kinds::GE => TokenValue::GreaterThanOrEq,
-        kinds::NOT => TokenValue::Not,
-        kinds::AND => TokenValue::And,
-        kinds::OR => TokenValue::Or,
-        kinds::JMP => TokenValue::Jump,
-        kinds::BR => TokenValue::Branch,
-        kinds::CALL => TokenValue::Call,
-        kinds::RET => TokenValue::Return,
-        kinds::DEFINE => TokenValue::Define,
-        kinds::LEFT_PAREN => TokenValue::LeftParen,
-        kinds::RIGHT_PAREN => TokenValue::RightParen,
-        kinds::LEFT_BRACE => TokenValue::LeftBrace,
-        kinds::RIGHT_BRACE => TokenValue::RightBrace,
-        kinds::COLON => TokenValue::Colon,
-        kinds::SEMICOLON => TokenValue::Semicolon,
-        kinds::COMMA => TokenValue::Comma,
-        kinds::INT => TokenValue::Int,
-        kinds::BOOL => TokenValue::Bool,
-        kinds::CONST => TokenValue::Const,
-        kinds::PRINT => TokenValue::Print,
-        kinds::NOP => TokenValue::Nop,
-        kinds::ID => TokenValue::Identity,
-        _ => TokenValue::EndOfFile,
+// What is no kind is read as the end.
+impl From<Kinded> for TokenValue {
+    ghost from_gives = { λ k r. r ≡ value_of k.kind k.carried };
+
+    #[tactic(auto, unfolding(crate::specs::Tokens::value_of, utils::specs::Bytes::pick))]
+    fn from(of: Kinded) -> TokenValue {
+        match of.kind {
+            kinds::LOCAL => TokenValue::Local(Identifier(of.carried)),
+            kinds::GLOBAL => TokenValue::Global(Identifier(of.carried)),
+            kinds::LABEL => TokenValue::Label(Identifier(of.carried)),
+            kinds::INTEGER => TokenValue::Integer(of.carried),
+            kinds::ADD => TokenValue::Add,
+            kinds::MUL => TokenValue::Mul,
+            kinds::SUB => TokenValue::Sub,
+            kinds::DIV => TokenValue::Div,
+            kinds::MOD => TokenValue::Mod,
+            kinds::TRUE => TokenValue::True,
+            kinds::FALSE => TokenValue::False,
+            kinds::EQ => TokenValue::Equal,
+            kinds::LT => TokenValue::LessThan,
+            kinds::GT => TokenValue::GreaterThan,
+            kinds::LE => TokenValue::LessThanOrEq,
+            kinds::GE => TokenValue::GreaterThanOrEq,
+            kinds::NOT => TokenValue::Not,
+            kinds::AND => TokenValue::And,
+            kinds::OR => TokenValue::Or,
+            kinds::JMP => TokenValue::Jump,
+            kinds::BR => TokenValue::Branch,
+            kinds::CALL => TokenValue::Call,
+            kinds::RET => TokenValue::Return,
+            kinds::DEFINE => TokenValue::Define,
+            kinds::LEFT_PAREN => TokenValue::LeftParen,
+            kinds::RIGHT_PAREN => TokenValue::RightParen,
+            kinds::LEFT_BRACE => TokenValue::LeftBrace,
+            kinds::RIGHT_BRACE => TokenValue::RightBrace,
+            kinds::COLON => TokenValue::Colon,
+            kinds::SEMICOLON => TokenValue::Semicolon,
+            kinds::COMMA => TokenValue::Comma,
+            kinds::INT => TokenValue::Int,
+            kinds::BOOL => TokenValue::Bool,
+            kinds::CONST => TokenValue::Const,
+            kinds::PRINT => TokenValue::Print,
+            kinds::NOP => TokenValue::Nop,
+            kinds::ID => TokenValue::Identity,
+            _ => TokenValue::EndOfFile,
+        }
     }
 }
 

@@ -1,6 +1,6 @@
 -- The new function's row, put in the replaced one's place among the old headers, leaves a table that answers as the old
 -- headers do: its name and its function type are the replaced one's, and its function type's number is given to it.
-use Rattle.std.specs.Prelude.{None, Some}
+use Rattle.std.specs.Prelude.{Option, Some, None}
 use Prim.Native.Nat.{ℕ, zero, suc, ◌+◌, ◌*◌, ◌-◌, ◌≤◌, ◌<◌}
 use mathlib.Core.Path.{◌≡◌, refl, sym, ap, ◌∙◌}
 use mathlib.Core.List.{List, [], ◌∷◌, ◌++◌, append_assoc}
@@ -13,8 +13,6 @@ use lib.Seq.{sets, set-set, set_comm, sets-eq, drop_at, length-take-le}
 use Rattle.utils.specs.Bytes.{pad_to, same_bytes}
 use Rattle.pieces.proofs.Digits.{pick-both}
 use Rattle.lexer.specs.Decoded.{Tok, name_of}
-use Rattle.lexer.specs.declared.Found.{Found}
-use Rattle.lexer.specs.declared.Found.TheVariants as F
 use Rattle.lexer.proofs.Same.{same_bytes-true}
 use Rattle.parser.specs.Runs.{type_cell, variables_cells}
 use Rattle.functions.specs.Known.{signature, formal_types}
@@ -42,6 +40,7 @@ use Rattle.headers.proofs.Brought.{row_named, cell_same, global-same, globals_br
 use Rattle.headers.proofs.Brought.{Stands, place-brought}
 use Rattle.headers.proofs.Alike.{Alike, globals_alike, callees_alike, other_row}
 use Rattle.recheck.proofs.Keeping.{kept_same}
+use Rattle.pieces.specs.declared.Identifier.{Identifier}
 
 -- Stores. ------------------------------------------------------------------------------------------------------------
 
@@ -101,12 +100,12 @@ retyped-row ts names l f type =
 abbrev Few : Brought → Type 0
 Few b = (k : ℕ) → k < b.count → get_or b.cells (type_at k) 0 ≤ 64
 
-step_few : (b : Brought) (rows : List ℕ) (i : ℕ) (x : Found) → row_at (b.count + 1) ≤ length b.cells
+step_few : (b : Brought) (rows : List ℕ) (i : ℕ) (x : Option Identifier) → row_at (b.count + 1) ≤ length b.cells
     → get_or rows (type_at i) 0 ≤ 64 → Few b → Few (brought_as b rows i x)
-step_few b rows i (F.At y) room few h = λ k l. by k l (ltb k b.count) refl
+step_few b rows i (Some y) room few h = λ k l. by k l (ltb k b.count) refl
   where
     by : (k : ℕ) → k < b.count + 1 → (s : Bool) → ltb k b.count ≡ s
-        → get_or (brought_as b rows i (F.At y)).cells (type_at k) 0 ≤ 64
+        → get_or (brought_as b rows i (Some y)).cells (type_at k) 0 ≤ 64
     by k l true e =
         let q = ltb-true k b.count e in
         rw (put_below b.cells rows b.count i y.0 (type_at k) (omega arith)) (h k q)
@@ -115,7 +114,7 @@ step_few b rows i (F.At y) room few h = λ k l. by k l (ltb k b.count) refl
         let m : type_at b.count ≡ row_at b.count + 7 = omega arith in
         let n : row_at i + 7 ≡ type_at i = omega arith in
         rw (q, m, put_cell b.cells rows b.count i y.0 room 7 (omega arith) (λ z. omega (arith, z)), n) few
-step_few b rows i F.Nothing room few h = h
+step_few b rows i None room few h = h
 
 module _ (old rows new names : List ℕ) (known : ℕ) where
   brought-few : (n i : ℕ) (b : Brought) → row_at (b.count + n) ≤ length b.cells
