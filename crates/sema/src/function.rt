@@ -11,8 +11,8 @@ ghost use Rattle.sema.specs.Blocks.{type_block_d, type_blocks_d, block_items, bl
 
 use crate::{Checked, blocks, calls, symbols};
 use functions::columns;
+use graph::RPOWorklist;
 use graph::blocks::block_at;
-use graph::{Popped, RPOWorklist};
 use parser::VARIABLE_CELLS;
 use pieces::Identifier;
 use utils::limits;
@@ -106,24 +106,16 @@ fn analyze_remaining(
         (remaining order.now work)) }
 {
     let mut left = work;
-    loop {
-        match left.pop(order) {
-            Popped::Empty => {
-                return Checked::Fine;
+    while let Some(b) = left.pop(order) {
+        let k = first as usize + b.0 as usize;
+        match analyze_recorded(tokens, rows, n, ret, table, items, arguments, blocks, k) {
+            Checked::Refused(e) => {
+                return Checked::Refused(e);
             }
-            Popped::Block(b, rest) => {
-                let k = first as usize + b.0 as usize;
-                match analyze_recorded(tokens, rows, n, ret, table, items, arguments, blocks, k) {
-                    Checked::Refused(e) => {
-                        return Checked::Refused(e);
-                    }
-                    Checked::Fine => {
-                        left = rest;
-                    }
-                }
-            }
+            Checked::Fine => {}
         }
     }
+    Checked::Fine
 }
 
 fn analyze_blocks(
