@@ -14,6 +14,8 @@ use lib.ListN.{length, get_or, take, drop, replicate, length-append, length-take
 use lib.Seq.{sets, drop-cons, sets-eq, length-take-le}
 use native.Mathlib.Nat.{zero-add, sub-zero}
 use Rattle.utils.specs.Bytes.{pick, pad_to}
+use borrow.Rule.Slice.PartMut.{put_mid}
+use Rattle.utils.proofs.Runs as Runs
 use Rattle.utils.proofs.Runs.{sets_append}
 
 -- one more cell
@@ -43,9 +45,10 @@ le32s_zeros (suc n) =
     let e : suc n * 4 ≡ suc (suc (suc (suc (n * 4)))) = omega arith in
     rw (e, le32s_zeros n)
 
--- the part that the code lends
-pub from_start : (k : ℕ) (s : List ℕ) → take (k - 0) (drop 0 s) ≡ take k s
-from_start k s = rw sub-zero
+-- a part of a slice is cleared
+pub cleared : (at k : ℕ) (xs ys : List ℕ) → ys ≡ replicate k 0 → at + k ≤ length xs
+    → put_mid at k xs ys ≡ sets xs at (replicate k 0)
+cleared at k xs ys e h = Runs.stored at k xs ys (replicate k 0) e (sym (length-replicate {A = ℕ} k 0)) h
 
 -- the first cells of a slice, and zeros behind them
 pub front-stored : (out b o cells : List ℕ) (at n : ℕ) → n ≤ length cells → b ≡ sets out at (le32s (take n cells))

@@ -51,7 +51,7 @@ pub fn put_all(
         predecessors,
         r.predecessors as usize,
     );
-    crate::clear_part(out, layout::CHECKED, out.len());
+    out[layout::CHECKED..].fill(0);
 }
 
 // Checks into the front of cells, and stores those as bytes.

@@ -20,35 +20,15 @@ fn put_cell(out: &mut [u8], at: usize, cell: u32)
     requires { at + 4 ≤ length out.old }
     ensures { out.new ≡ sets out.old at (le32 cell) }
 {
-    let a1 = at + 1;
-    let a2 = at + 2;
-    let a3 = at + 3;
-    out[at] = (cell % 256) as u8;
-    out[a1] = (cell / 256 % 256) as u8;
-    out[a2] = (cell / 65536 % 256) as u8;
-    out[a3] = (cell / 16777216 % 256) as u8;
+    utils::put_cells(out, at, &cell.to_le_bytes());
 }
 
 fn put_cells(out: &mut [u8], at: usize, cells: &[u32])
     requires { at + length cells.now * 4 ≤ length out.old }
     ensures { out.new ≡ sets out.old at (le32s cells.now) }
 {
-    let mut i: usize = 0;
-    while i < cells.len() {
-        put_cell(out, at + i * layout::CELL, cells[i]);
-        i += 1;
-    }
-}
-
-// Zeros from an offset to another.
-fn clear_part(out: &mut [u8], from: usize, to: usize)
-    requires { (from ≤ to) × (to ≤ length out.old) }
-    ensures { out.new ≡ sets out.old from (replicate (to - from) 0) }
-{
-    let mut i = from;
-    while i < to {
-        out[i] = 0;
-        i += 1;
+    for (i, cell) in cells.iter().enumerate() {
+        put_cell(out, at + i * layout::CELL, *cell);
     }
 }
 
@@ -58,12 +38,9 @@ fn put_front(out: &mut [u8], at: usize, cells: &[u32], n: usize)
     ensures { out.new
         ≡ sets out.old at (le32s (pad_to (length cells.now) (take n cells.now))) }
 {
-    if cells.len() <= n {
-        put_cells(out, at, cells);
-        return;
-    }
-    put_cells(out, at, &cells[0..n]);
-    clear_part(out, at + n * layout::CELL, at + cells.len() * layout::CELL);
+    let n = n.min(cells.len());
+    put_cells(out, at, &cells[..n]);
+    out[at + n * layout::CELL..at + cells.len() * layout::CELL].fill(0);
 }
 
 // Reads into the front of cells, and stores those as bytes.
@@ -87,7 +64,7 @@ pub fn read_out(
         names,
         answer.names as usize * NAME_CELLS,
     );
-    clear_part(out, layout::READ, out.len());
+    out[layout::READ..].fill(0);
     read::finish_message(answer.number, message);
     answer
 }

@@ -12,9 +12,9 @@ use lib.ListN.{length, get_or, set, take, replicate, length-set, length-replicat
 use lib.Seq.{get_or-set_same}
 use Rattle.utils.specs.Bytes.{pick}
 use Rattle.graph.specs.Walk.{fresh, walk_from, walked}
-use Rattle.graph.specs.Frames.{Stack, stack, push_one, state, here, coming, resume, marks, waiting, Ready, Holds}
+use Rattle.graph.specs.Frames.{Stack, stack, push_one, state, here, coming, resume, marks, waiting, Ready, SameWalk}
+use Rattle.graph.specs.declared.walk.State.{State}
 use Rattle.graph.proofs.Counts.{waiting-fresh}
-use Rattle.graph.proofs.Below.{walk_depends_below}
 
 take-replicate : (n m a : ℕ) → n ≤ m → take n (replicate m a) ≡ replicate n a
 take-replicate zero m a h = refl
@@ -66,7 +66,7 @@ module _ (n : ℕ) (met left entries₀ : List ℕ) (few : n ≤ 256) (none : me
         (rw first refl)
     by false e = one entries₀ 0 (omega arith) deep (λ h. absurd (not-suc-le-zero h)) refl
 
-    pub ready : Ready n (state met left entries top 256)
+    ready : Ready n (state met left entries top 256)
     ready =
         subst (λ (p : Stack). Ready n (state met left p.entries p.top 256)) (sym pushed-is) (by (ltb 0 n) refl)
 
@@ -83,13 +83,16 @@ module _ (n : ℕ) (met left entries₀ : List ℕ) (few : n ≤ 256) (none : me
         ∙ ap (λ (p : Stack). resume g n p.entries p.top (fresh n)) pushed-is
         ∙ comes g (ltb 0 n) refl
 
-    -- what the loop makes of it, for another graph with the same successors
-    pub ends : (g h : ℕ → List ℕ) (met' left' : List ℕ) (at : ℕ) → ((v : ℕ) → v < n → g v ≡ h v)
-        → Holds (coming g n (state met left entries top 256)) n met' left' at → Holds (walked h n) n met' left' at
-    ends g h met' left' at same p =
-        record {
-          long_met = p.long_met;
-          long_left = p.long_left;
-          within = p.within;
-          same = p.same ∙ whole g ∙ walk_depends_below g h n same;
-        }
+-- the stack of a new walk once block 0 was pushed
+pub begun : (g : ℕ → List ℕ) (n : ℕ) (a : State) → n ≤ 256
+    → SameWalk (state (replicate 256 0) (replicate 256 0) (replicate 513 0) 0 256) a
+    → stack a.entries a.top ≡ push_one n 0 (stack (replicate 513 0) 0) → Ready n a × (coming g n a ≡ walked g n)
+begun g n a few s p =
+    let left : length a.left ≡ 256 = rw s.left refl in
+    subst
+    (λ (at : ℕ). Ready n (state a.met a.left a.entries a.top at)
+    × (coming g n (state a.met a.left a.entries a.top at) ≡ walked g n))
+    (sym s.at) (
+      ready n a.met a.left (replicate 513 0) few s.met left refl a.entries a.top p,
+      whole n a.met a.left (replicate 513 0) few s.met left refl a.entries a.top p g,
+    )

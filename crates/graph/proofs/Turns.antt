@@ -2,17 +2,18 @@
 -- Each time the same comes of what is left to do, and there is less of it: an entry goes, or a block is met, which
 -- counts for three, and two entries at most are added.
 use Prim.Native.Nat.{ℕ, zero, suc, ◌+◌, ◌-◌, ◌≤◌, ◌<◌}
-use mathlib.Core.Path.{◌≡◌, sym, ap, ◌∙◌}
+use mathlib.Core.Path.{◌≡◌, sym, ap, ◌∙◌, subst}
 use mathlib.Core.Bool.{false}
 use mathlib.Core.List.{List, [], ◌∷◌}
 use native.Mathlib.Omega.{arith}
 use borrow.Author.Tests.{lt-ltb, le-ltb, ne_eqb}
 use lib.ListN.{length, get_or, set, take, drop, length-set}
-use lib.Seq.{get_or-take, take-set-lt, length-take-le}
+use lib.Seq.{drop-cons, get_or-set_same, drop-set-lt, get_or-take, take-set-lt, length-take-le}
 use Rattle.utils.specs.Bytes.{pick}
 use Rattle.graph.specs.Walk.{Walk, is_new, meet, leave, last_first, walk_from}
-use Rattle.graph.specs.Frames.{Stack, stack, push_all, State, state, here, frame, resume, coming}
-use Rattle.graph.specs.Frames.{marks, waiting, Ready, Turned}
+use Rattle.graph.specs.Frames.{Stack, stack, push_all, state, here, frame, resume}
+use Rattle.graph.specs.Frames.{marks, waiting, Ready, Turned, SameWalk}
+use Rattle.graph.specs.declared.walk.State.{State}
 use Rattle.graph.proofs.Steps.{New, is_new_lem, get_d_any, walk_again}
 use Rattle.graph.proofs.Counts.{waiting-set}
 use Rattle.graph.proofs.Depth.{enough_on}
@@ -24,6 +25,12 @@ unfolding pick
 waiting_most [] = omega arith
 waiting_most (zero ∷ flags) = let r = waiting_most flags in omega arith
 waiting_most (suc x ∷ flags) = let r = waiting_most flags in rw (ne_eqb (suc x) 0 (λ e. omega arith)) (omega arith)
+
+-- an element is stored right before the rest
+drop-set : (xs : List ℕ) (k v : ℕ) → k < length xs → drop k (set xs k v) ≡ v ∷ drop (suc k) xs
+drop-set xs k v h =
+    drop-cons (set xs k v) k 0 (rw length-set h)
+    ∙ rw (get_or-set_same xs k v 0 h, drop-set-lt (suc k) xs k v (omega arith))
 
 -- the entry on top
 abbrev pub current : State → ℕ
@@ -62,24 +69,28 @@ module _ (g : ℕ → List ℕ) (n : ℕ) (a : State) (ready : Ready n a) (some 
   pub room-left : 256 ≤ current a → 0 < a.at
   room-left h = omega (arith, marks_high h, ready.front)
 
-  pub turn_leave : (left : List ℕ) (r : ℕ) → 256 ≤ current a
-      → (r + 1 ≡ a.at) × (length left ≡ 256) × (drop r left ≡ (current a - 256) ∷ drop a.at a.left)
-      → Turned g n a (state a.met left a.entries (a.top - 1) r)
-  turn_leave left r h p =
-      let gone : here n a.met left r ≡ leave (current a - 256) from =
-      λ i. record { met = take n a.met; left = p.2 i } in
+  pub turn_leave : 256 ≤ current a
+      → Turned g n a (state a.met (set a.left (a.at - 1) (current a - 256)) a.entries (a.top - 1) (a.at - 1))
+  turn_leave h =
+      let left = set a.left (a.at - 1) (current a - 256) in
+      let there = room-left h in
+      let k : suc (a.at - 1) ≡ a.at = omega arith in
+      let front : drop (a.at - 1) left ≡ (current a - 256) ∷ drop a.at a.left =
+      rw k at (drop-set a.left (a.at - 1) (current a - 256) (omega (arith, ready.long_left, ready.within))) in
+      let gone : here n a.met left (a.at - 1) ≡ leave (current a - 256) from =
+      λ i. record { met = take n a.met; left = front i } in
       record {
         ready =
             record {
               few = ready.few;
               long_met = ready.long_met;
-              long_left = p.1;
+              long_left = length-set a.left (a.at - 1) (current a - 256) ∙ ready.long_left;
               deep = ready.deep;
               small = λ k l. ready.small k (omega arith);
               blocks = λ k l. ready.blocks k (omega arith);
               room = omega (arith, ready.room);
-              front = omega (arith, marks_high h, p.0, ready.front);
-              within = omega (arith, p.0, ready.within);
+              front = omega (arith, marks_high h, ready.front);
+              within = omega (arith, ready.within);
             };
         less = omega arith;
         same =
@@ -162,9 +173,10 @@ module _ (g : ℕ → List ℕ) (n : ℕ) (a : State) (ready : Ready n a) (some 
         }
 
     -- a block has two successors at most
-    pub turn_meet : (p : Stack) → length (g (current a)) ≤ 2 → p ≡ push_all n (g (current a)) (stack (marked a) a.top)
-        → Turned g n a (met a p)
-    turn_meet p l e =
+    pub turn_meet : (a' : State) → length (g (current a)) ≤ 2
+        → SameWalk (state (set a.met (current a) 1) a.left (marked a) a.top a.at) a'
+        → stack a'.entries a'.top ≡ push_all n (g (current a)) (stack (marked a) a.top) → Turned g n a a'
+    turn_meet a' l s e =
         let on-top = stack (marked a) a.top in
         let mark =
         pushed_none g n a.entries a.top (current a) some (omega (arith, ready.deep, room-two)) h ready.small
@@ -172,9 +184,10 @@ module _ (g : ℕ → List ℕ) (n : ℕ) (a : State) (ready : Ready n a) (some 
         let all =
         pushed-all g n a.entries a.top (current a) ready.few (g (current a)) [] on-top mark
         (omega (arith, ready.deep, room-two)) in
-        rw e (meets (push_all n (g (current a)) on-top) all (omega (arith, all.up)))
-
--- One turn after others.
-pub turned : (g : ℕ → List ℕ) (n : ℕ) (a₀ a a' : State) → Turned g n a a' → coming g n a ≡ coming g n a₀
-    → Ready n a' × (coming g n a' ≡ coming g n a₀)
-turned g n a₀ a a' t e = (t.ready, t.same ∙ e)
+        let p = stack a'.entries a'.top in
+        let t =
+        subst (λ (q : Stack). Turned g n a (met a q)) (sym e)
+        (meets (push_all n (g (current a)) on-top) all (omega (arith, all.up))) in
+        let is : a' ≡ met a p =
+        λ i. record { met = s.met i; left = s.left i; entries = p.entries; top = p.top; at = s.at i } in
+        subst (λ (x : State). Turned g n a x) (sym is) t

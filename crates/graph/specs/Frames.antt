@@ -3,6 +3,7 @@
 use Rattle.std.specs.Prelude.{ℕ, zero, suc, ◌+◌, ◌-◌, ◌*◌, ◌≤◌, ◌<◌, ◌≡◌, List, [], ◌∷◌, eqb, ltb, length, get_or, set, take, drop}
 use Rattle.utils.specs.Bytes.{pick}
 use Rattle.graph.specs.Walk.{Walk, walk_from, leave}
+use Rattle.graph.specs.declared.walk.State.{State}
 
 -- A stack: its first `top` entries.
 pub record Stack : Type 0 where
@@ -26,15 +27,14 @@ waiting [] = 0
 waiting (flag ∷ flags) = pick (eqb flag 0) 1 0 + waiting flags
 
 -- What the code has in hand: the flags, the blocks left, from `at` on, and the first `top` entries of the stack.
-pub record State : Type 0 where
-  pub met : List ℕ
-  pub left : List ℕ
-  pub entries : List ℕ
-  pub top : ℕ
-  pub at : ℕ
-
 abbrev pub state : List ℕ → List ℕ → List ℕ → ℕ → ℕ → State
 state met left entries top at = record { met = met; left = left; entries = entries; top = top; at = at }
+
+-- A push changes the stack alone.
+pub record SameWalk (a a' : State) : Type 0 where
+  pub met : a'.met ≡ a.met
+  pub left : a'.left ≡ a.left
+  pub at : a'.at ≡ a.at
 
 -- Where the walk of n blocks is then.
 abbrev pub here : ℕ → List ℕ → List ℕ → ℕ → Walk

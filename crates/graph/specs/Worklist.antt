@@ -1,12 +1,11 @@
 -- The worklist's answers. What `new` and `pop` give together, every block of the order, one after the other, is said in
 -- proofs/Callers.antt.
-use Rattle.std.specs.Prelude.{ℕ, ◌+◌, List, Bool, false, ltb, eqb, get_or}
+use Rattle.std.specs.Prelude.{ℕ, ◌+◌, List, Option, Some, None, Bool, false, ltb, eqb, get_or}
 use Rattle.std.proofs.Math.Seq.{slice}
 use Rattle.utils.specs.Bytes.{pick}
 use Rattle.utils.specs.Limits.{most_blocks}
 use Rattle.graph.specs.declared.RPOWorklist.{RPOWorklist}
-use Rattle.graph.specs.declared.Popped.{Popped}
-use Rattle.graph.specs.declared.Popped.TheVariants as P
+use Rattle.graph.specs.declared.BlockId.{BlockId}
 
 -- So many blocks of the order were taken, of so many.
 abbrev pub worklist : ℕ → ℕ → RPOWorklist
@@ -17,10 +16,16 @@ abbrev pub remaining : List ℕ → RPOWorklist → List ℕ
 remaining order w = slice w.taken w.blocks order
 
 -- The next block of an order, where there is one; an order has at most 256.
-unfoldable pub popped : List ℕ → RPOWorklist → Popped
+unfoldable pub popped : List ℕ → RPOWorklist → Option BlockId
 popped order w =
-    let next = P.Block (record { 0 = get_or order w.taken 0 }) (worklist (w.taken + 1) w.blocks) in
-    pick (ltb w.taken w.blocks) (pick (ltb w.taken most_blocks) next P.Empty) P.Empty
+    let next = Some (record { 0 = get_or order w.taken 0 }) in
+    pick (ltb w.taken w.blocks) (pick (ltb w.taken most_blocks) next None) None
+
+-- The worklist once that block was taken.
+unfoldable pub after_pop : RPOWorklist → RPOWorklist
+after_pop w =
+    let next = worklist (w.taken + 1) w.blocks in
+    pick (ltb w.taken w.blocks) (pick (ltb w.taken most_blocks) next w) w
 
 -- Whether block v's flag is set; there are at most 256.
 unfoldable pub flagged : List ℕ → ℕ → Bool

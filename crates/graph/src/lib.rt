@@ -14,7 +14,7 @@ ghost use Rattle.std.specs.Prelude.{◌≡◌};
 ghost use Rattle.std.proofs.lemmas.List.Edits.{sets};
 ghost use Rattle.graph.specs.Walk.{met_blocks, block_order};
 ghost use Rattle.graph.specs.Records.{recorded, at_most256};
-ghost use Rattle.graph.specs.Worklist.{worklist, popped, flagged};
+ghost use Rattle.graph.specs.Worklist.{worklist, popped, after_pop, flagged};
 
 use utils::limits;
 
@@ -41,18 +41,11 @@ pub struct BlockRecord {
 }
 
 // The Rust's worklist once every block was pushed. The order stands in an array of the caller's; the worklist says how
-// many of its blocks were taken, and goes in and comes back by value.
+// many of its blocks were taken.
 #[derive(Clone, Copy)]
 pub struct RPOWorklist {
     pub taken: u32,
     pub blocks: u32,
-}
-
-// The Rust's Option<usize>, with the worklist after it.
-#[derive(Clone, Copy)]
-pub enum Popped {
-    Block(BlockId, RPOWorklist),
-    Empty,
 }
 
 impl RPOWorklist {
@@ -68,11 +61,9 @@ impl RPOWorklist {
             ≡ sets order.old 0 (block_order (recorded blocks.now first) (at_most256 count)) }
     {
         let n = successors::at_most_256(count);
-        let mut met = [0u8; limits::BLOCKS];
-        let mut left = [0u32; limits::BLOCKS];
-        let at = walk::walk(blocks, first, n, &mut met, &mut left);
-        let placed = place::put_left(&left, at, order);
-        place::put_unmet(&met, n, order, placed);
+        let state = walk::walk(blocks, first, n);
+        let placed = place::put_left(&state.left, state.at, order);
+        place::put_unmet(&state.met, n, order, placed);
         RPOWorklist {
             taken: 0,
             blocks: n,
@@ -80,24 +71,17 @@ impl RPOWorklist {
     }
 
     // The next block.
-    pub fn pop(self, order: &[u32; limits::BLOCKS]) -> Popped
-        ensures { result ≡ popped order.now self }
+    #[tactic(auto, unfolding(crate::specs::Worklist::popped, crate::specs::Worklist::after_pop, utils::specs::Bytes::pick))]
+    pub fn pop(&mut self, order: &[u32; limits::BLOCKS]) -> Option<BlockId>
+        ensures value { result ≡ popped order.now self.old }
+        ensures worklist_after { self.new ≡ after_pop self.old }
     {
-        let taken = self.taken;
-        let blocks = self.blocks;
-        if blocks <= taken {
-            return Popped::Empty;
+        if self.blocks <= self.taken {
+            return None;
         }
-        if limits::MOST_BLOCKS <= taken {
-            return Popped::Empty;
-        }
-        let i = taken as usize;
-        let block = BlockId(order[i]);
-        let rest = RPOWorklist {
-            taken: taken + 1,
-            blocks,
-        };
-        Popped::Block(block, rest)
+        let block = *order.get(self.taken as usize)?;
+        self.taken += 1;
+        Some(BlockId(block))
     }
 }
 
@@ -107,20 +91,14 @@ pub fn met_blocks(blocks: &[u32], first: u32, count: u32, met: &mut [u8; limits:
         ≡ sets met.old 0 (met_blocks (recorded blocks.now first) (at_most256 count)) }
 {
     let n = successors::at_most_256(count);
-    let mut flags = [0u8; limits::BLOCKS];
-    let mut left = [0u32; limits::BLOCKS];
-    walk::walk(blocks, first, n, &mut flags, &mut left);
-    place::put_flags(&flags, n, met);
+    let state = walk::walk(blocks, first, n);
+    place::put_flags(&state.met, n, met);
 }
 
 // Whether a block's flag is set.
+#[tactic(auto, unfolding(crate::specs::Worklist::flagged, utils::specs::Bytes::pick))]
 pub fn is_met(met: &[u8; limits::BLOCKS], block: BlockId) -> bool
     ensures { result ≡ flagged met.now block.0 }
 {
-    let v = block.0;
-    if limits::MOST_BLOCKS <= v {
-        return false;
-    }
-    let i = v as usize;
-    met[i] == 1
+    met.get(block.0 as usize) == Some(&1)
 }

@@ -7,13 +7,11 @@ use crate::blocks::block_at;
 use utils::limits;
 
 // How many blocks are looked at.
+#[tactic(auto, unfolding(crate::specs::Records::at_most256, utils::specs::Bytes::pick))]
 pub fn at_most_256(count: u32) -> u32
     ensures { (result ≡ at_most256 count) × (result ≤ most_blocks) }
 {
-    if limits::MOST_BLOCKS < count {
-        return limits::MOST_BLOCKS;
-    }
-    count
+    count.min(limits::MOST_BLOCKS)
 }
 
 // The first n blocks from the record `first` on.
@@ -28,13 +26,9 @@ pub fn load(
     ensures { Loaded blocks.now first n succs.old succs.new
         counts.old counts.new }
 {
-    let mut k: u32 = 0;
-    while k < n {
-        let b = block_at(blocks, first as usize + k as usize);
-        let row = [b.to.0, b.other.0];
-        let i = k as usize;
-        succs[i] = row;
-        counts[i] = b.successors;
-        k += 1;
+    for k in 0..n as usize {
+        let b = block_at(blocks, first as usize + k);
+        succs[k] = [b.to.0, b.other.0];
+        counts[k] = b.successors;
     }
 }

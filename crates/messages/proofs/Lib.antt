@@ -1,9 +1,7 @@
 -- Why each message is written as the definition says, in reading order.
--- stores one after the other
+-- what is put goes behind what was put
 pub mod Puts
--- the rows of the code's table are the words
-pub mod Rows
--- a number of no fixed text says nothing
-pub mod Others
+-- the words of the kinds
+pub mod Table
 -- the names of an accepted reading are short: a law for callers
 pub mod Short

@@ -1,37 +1,19 @@
--- Stores one after the other, each where the one before it ended.
+-- What is put goes behind what was put before.
 use Prim.Native.Nat.{ℕ, ◌+◌, ◌≤◌}
-use mathlib.Core.List.{List, [], ◌++◌}
-use mathlib.Core.Path.{◌≡◌, refl}
+use mathlib.Core.List.{List, ◌++◌}
+use mathlib.Core.Path.{◌≡◌, ap, ◌∙◌}
 use native.Mathlib.Omega.{arith}
-use lib.ListN.{length, take, drop}
+use lib.ListN.{length, take, drop, length-append, length-take}
 use lib.Seq.{sets, sets-eq, take_at}
-use Rattle.utils.proofs.Runs.{both}
 
--- xs is stored in b from `at` on, which gives b' and ends at r; xs has at most so many bytes
-abbrev pub Put : List ℕ → ℕ → List ℕ → List ℕ → ℕ → ℕ → Type 0
-Put b at xs b' r most = (r ≡ at + length xs) × (b' ≡ sets b at xs) × (r ≤ at + most)
+put_front : (b xs : List ℕ) (at : ℕ) → at + length xs ≤ length b → take (at + length xs) (sets b at xs) ≡ take at b ++ xs
+put_front b xs at h =
+    let long : length (take at b ++ xs) ≡ at + length xs = omega (arith, length-append (take at b) xs, length-take at b) in
+    rw (sets-eq xs b at h) (take_at (take at b ++ xs) (drop (at + length xs) b) (at + length xs) long)
 
-pub one : (b : List ℕ) (at : ℕ) (xs b' : List ℕ) (r : ℕ) → (r ≡ at + length xs) × (b' ≡ sets b at xs)
-    → Put b at xs b' r (length xs)
-one b at xs b' r p = (p.0, p.1, omega (arith, p.0))
-
-pub nothing : (b : List ℕ) (at most : ℕ) → Put b at [] b at most
-nothing b at most = (omega arith, refl, omega arith)
-
-pub then : (b₀ b₁ b₂ xs ys : List ℕ) (at k r m n : ℕ) → Put b₀ at xs b₁ k m → Put b₁ k ys b₂ r n
-    → Put b₀ at (xs ++ ys) b₂ r (m + n)
-then b₀ b₁ b₂ xs ys at k r m n p q =
-    let w = both b₀ b₁ b₂ xs ys at k r p.0 p.1 q.0 q.1 in
-    (w.0, w.1, omega (arith, p.2, q.2))
-
-pub wider : (b : List ℕ) (at : ℕ) (xs b' : List ℕ) (r m n : ℕ) → m ≤ n → Put b at xs b' r m → Put b at xs b' r n
-wider b at xs b' r m n h p = (p.0, p.1, omega (arith, p.2, h))
-
--- what was stored from the start on is read back
-pub read_back : (b xs b' : List ℕ) (r most : ℕ) → most ≤ length b → Put b 0 xs b' r most → take r b' ≡ xs
-read_back b xs b' r most h p =
-    let short : 0 + length xs ≤ length b = omega (arith, p.0, p.2, h) in
-    rw (p.1, sets-eq xs b 0 short) (take_at xs (drop (0 + length xs) b) r (omega (arith, p.0)))
-
-pub front_long : (b xs b' : List ℕ) (r most : ℕ) → most ≤ length b → Put b 0 xs b' r most → r ≡ length (take r b')
-front_long b xs b' r most h p = rw (read_back b xs b' r most h p) (omega (arith, p.0))
+-- for a part of which `now` was put
+pub put_behind : (b b' xs now : List ℕ) (count r : ℕ) → take count b ≡ now → count ≤ 91 → length b ≡ 91
+    → length now + length xs ≤ 91 → r ≡ count + length xs → b' ≡ sets b count xs → take r b' ≡ now ++ xs
+put_behind b b' xs now count r v i l h p q =
+    let n : length now ≡ count = omega (arith, ap length v, length-take count b) in
+    rw (p, q) (put_front b xs count (omega arith) ∙ ap (λ (l : List ℕ). l ++ xs) v)

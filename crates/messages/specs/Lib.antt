@@ -1,7 +1,5 @@
 -- The messages of the refusals of parsing and typing.
 pub mod Messages
--- how the code holds the words
-pub mod Rows
 -- for tables of cases: all definitions at once
 pub mod Opened
 -- what no text shows of the messages, computed

@@ -82,7 +82,7 @@ type_word cell =
     (pick (eqb cell Types.void) (bytes "void")
     (bytes "fn"))))
 
-abbrev pub quoted : List ℕ → List ℕ
+unfoldable pub quoted : List ℕ → List ℕ
 quoted s = bytes "'" ++ (s ++ bytes "'")
 
 -- ITEM. ---------------------------------------------------------------------------------------------------------------
@@ -178,6 +178,10 @@ message_at text names t e =
 -- of a text with its tokens, its names' cells and its refusal
 abbrev pub message_of : List ℕ → List Tok → List ℕ → Refusal → List ℕ
 message_of text ts names e = message_at text names (token_at ts e.token) e
+
+-- the room in which ITEM is put together, and TEXT
+abbrev pub room : ℕ
+room = 91
 
 -- What the code asks of the names' cells: no name is longer than 64 bytes (document 01's limit).
 abbrev pub ShortNames : List ℕ → List ℕ → Type 0

@@ -12,10 +12,10 @@ use Rattle.parser.specs.declared.Refusal.{Refusal}
 use Rattle.parser.specs.declared.Variable.{Variable}
 use Rattle.graph.specs.Walk.{block_order}
 use Rattle.graph.specs.Records.{recorded, at_most256}
-use Rattle.graph.specs.Worklist.{worklist, remaining, popped}
+use Rattle.graph.specs.Worklist.{worklist, remaining, popped, after_pop}
 use Rattle.graph.specs.declared.BlockId.{BlockId}
 use Rattle.graph.specs.declared.RPOWorklist.{RPOWorklist}
-use Rattle.graph.specs.declared.Popped.TheVariants as P
+use Rattle.std.specs.Prelude.{Some, None}
 use Rattle.graph.proofs.Callers.{blocks_most, new-remaining, popped-block, popped_empty}
 use Rattle.sema.specs.Symbols.{Typed, typed, on, then_typed, enter_d}
 use Rattle.sema.specs.Typing.{Global, type_item_d}
@@ -129,11 +129,11 @@ module _ (ts : List Tok) (globals : ℕ → Global) (ret : ℕ) (t₀ : List ℕ
     (same : type_blocks_d ts globals ret t (blocks_at items args blocks first (remaining order w)) ≡ type_blocks_d ts
     globals ret t₀ bs₀)
   where
-    module _ {b : BlockId} {rest : RPOWorklist} (pop : popped order w ≡ P.Block b rest) where
+    module _ {b : BlockId} {rest : RPOWorklist} (pop : popped order w ≡ Some b) (goes : rest ≡ after_pop w) where
       next : (remaining order w ≡ b.0 ∷ remaining order rest) × (rest ≡ worklist (w.taken + 1) w.blocks)
           × (w.taken < w.blocks)
       next =
-          let p = popped-block order w.taken w.blocks few (omega arith) b rest pop in
+          let p = popped-block order w.taken w.blocks few (omega arith) b rest pop goes in
           (rw p.1 p.0, p.1, p.2)
 
       pub fewer : (rest.blocks ≡ w.blocks) × (rest.blocks - rest.taken < w.blocks - w.taken)
@@ -165,7 +165,7 @@ module _ (ts : List Tok) (globals : ℕ → Global) (ret : ℕ) (t₀ : List ℕ
             typed-fine t₁ (type_block_d ts globals ret t (block_items items args blocks (first + b.0))) more-blocks op g
             ∙ blocks_step
 
-    pub blocks-ended : popped order w ≡ P.Empty → on t ≡ type_blocks_d ts globals ret t₀ bs₀
+    pub blocks-ended : popped order w ≡ None → on t ≡ type_blocks_d ts globals ret t₀ bs₀
     unfolding type_blocks_d blocks_at
     blocks-ended e = let n = popped_empty order w.taken w.blocks few (omega arith) e in rw (← same, n)
 

@@ -11,8 +11,8 @@ ghost use Rattle.sema.specs.Blocks.{type_block_d, type_blocks_d, block_items, bl
 
 use crate::{blocks, calls, symbols};
 use functions::columns;
+use graph::RPOWorklist;
 use graph::blocks::block_at;
-use graph::{Popped, RPOWorklist};
 use parser::{Refusal, VARIABLE_CELLS};
 use pieces::Identifier;
 use utils::limits;
@@ -103,18 +103,11 @@ fn analyze_remaining(
         (remaining order.now work)) }
 {
     let mut left = work;
-    loop {
-        match left.pop(order) {
-            Popped::Empty => {
-                return Ok(());
-            }
-            Popped::Block(b, rest) => {
-                let k = first as usize + b.0 as usize;
-                analyze_recorded(tokens, rows, n, ret, table, items, arguments, blocks, k)?;
-                left = rest;
-            }
-        }
+    while let Some(b) = left.pop(order) {
+        let k = first as usize + b.0 as usize;
+        analyze_recorded(tokens, rows, n, ret, table, items, arguments, blocks, k)?;
     }
+    Ok(())
 }
 
 fn analyze_blocks(

@@ -1,5 +1,6 @@
 -- Two runs of cells and zeros after them fill the slice (`whole`).
-use Rattle.exports.proofs.Cells.{whole}
+use Rattle.std.proofs.Common.{rules}
+use Rattle.exports.proofs.Cells.{cleared, whole}
 use Rattle.lexer.specs.Read.{read_of}
 use native.Mathlib.Omega.{arith}
 use mathlib.Core.Path.{◌∙◌}
@@ -17,16 +18,13 @@ pub put_front-requires-2 : goal.put_front-requires-2
 put_front-requires-2 c =
     omega (arith, c.put_front.auto.out, c.read_into-answer.auto.names, c.requires.1, c.requires.2)
 
-pub clear_part-requires : goal.clear_part-requires
-clear_part-requires c =
-    (omega (arith, c.put_front-2.auto.out, c.put_front.auto.out, c.requires.2), omega arith)
-
 pub returns : goal.returns
 unfolding read_of
 returns c =
     let long = c.put_front-2.auto.out ∙ c.put_front.auto.out in
+    let zeros = cleared 73728 _ c.put_front-2.new.out c.fill.new.self (search rules) (omega (arith, long, c.requires.2)) in
     whole c.args.text.now _ _ c.args.out.now _ _ _ c.args.message.now _ _ c.read_into-answer.result
     c.read_into-answer.ensures (c.read_into-answer.auto.tokens ∙ c.requires.0) (c.read_into-answer.auto.names ∙
     c.requires.1) c.requires.2
     c.read_into-answer.auto.message c.put_front.ensures c.put_front-2.ensures
-    (rw long at c.clear_part.ensures) c.finish_message.ensures
+    (rw long at zeros) c.finish_message.ensures

@@ -5,6 +5,8 @@ use lib.Seq.{sets}
 use lib.ListN.{length, take, replicate}
 use Rattle.utils.specs.Bytes.{pad_to}
 use Rattle.exports.specs.Bytes.{le32s}
+use Rattle.std.proofs.Common.{rules}
+use Rattle.exports.proofs.Cells.{cleared}
 use Rattle.exports.proofs.Checks.{fronts-stored}
 use Prim.Native.Nat.{ℕ, ◌-◌}
 use mathlib.Core.Path.{◌≡◌, ap, ◌∙◌}
@@ -29,5 +31,5 @@ returns c =
     (c.put_front-3.ensures
     ∙ ap (λ (k : ℕ). sets c.put_front-2.new.out 73728 (le32s (pad_to (length rows) (take k rows)))) c.rows_used.ensures)
     c.put_front-4.ensures c.put_front-5.ensures c.put_front-6.ensures c.put_front-7.ensures
-    (c.clear_part.ensures
+    (cleared 252228 _ c.put_front-7.new.out c.fill.new.self (search rules) (omega (arith, kept, c.requires.1))
     ∙ ap (λ (x : ℕ). sets c.put_front-7.new.out 252228 (replicate (x - 252228) 0)) kept)

@@ -7,44 +7,50 @@ use Rattle.sema.specs.Globals.{globals_in}
 use Rattle.sema.specs.Blocks.{blocks_at}
 use Rattle.sema.proofs.Threads.{fewer, blocks-refused, blocks-fine, blocks-ended}
 use native.Mathlib.Omega.{arith}
-use mathlib.Core.Path.{sym, ◌∙◌}
+use mathlib.Core.Path.{◌≡◌, sym, ◌∙◌}
+use Rattle.std.proofs.Common.{rules}
+use Rattle.std.specs.Prelude.{None}
 use Rattle.sema.proofs.function.analyze_remaining.Goals as goal
 
-pub returns-in-Empty : goal.returns-in-Empty
-returns-in-Empty c =
+pub returns : goal.returns
+returns c =
+    let none : c.pop.result ≡ None = search rules in
     blocks-ended (tokens_of c.args.tokens.now) (globals_in c.args.rows.now c.args.n) c.args.ret c.args.table.now
     (blocks_at c.args.items.now c.args.arguments.now c.args.blocks.now c.args.first (remaining c.args.order.now
     c.args.work))
     c.loop-b.table c.args.items.now c.args.arguments.now c.args.blocks.now c.args.first c.args.order.now c.loop-b.left
-    c.loop-b.invariant.0 c.requires.2 c.loop-b.invariant.2 (sym c.pop.ensures ∙ c.in-Empty.is)
+    c.loop-b.invariant.0 c.requires.2 c.loop-b.invariant.2 (sym c.pop.ensures.value ∙ none)
 
-pub returns-in_err-analyze_recorded-in-Block : goal.returns-in_err-analyze_recorded-in-Block
-returns-in_err-analyze_recorded-in-Block c =
+pub returns-in_err-analyze_recorded-in-Some : goal.returns-in_err-analyze_recorded-in-Some
+returns-in_err-analyze_recorded-in-Some c =
     let p = err_from_is_err_and c.from_residual.result c.from_residual.ensures.1 in
     rw (p.1, p.2) (blocks-refused (tokens_of c.args.tokens.now) (globals_in c.args.rows.now c.args.n) c.args.ret c.args.table.now
     (blocks_at c.args.items.now c.args.arguments.now c.args.blocks.now c.args.first (remaining c.args.order.now
     c.args.work))
     c.loop-b.table c.args.items.now c.args.arguments.now c.args.blocks.now c.args.first c.args.order.now c.loop-b.left
-    c.loop-b.invariant.0 c.requires.2 c.loop-b.invariant.2 (sym c.pop.ensures ∙ c.in-Block.is)
-    c.analyze_recorded.ensures c.in_err-analyze_recorded-in-Block.was)
+    c.loop-b.invariant.0 c.requires.2 c.loop-b.invariant.2 (sym c.pop.ensures.value ∙ c.in-Some.is)
+    c.pop.ensures.worklist_after
+    c.analyze_recorded.ensures c.in_err-analyze_recorded-in-Some.was)
 
 pub loop-b-smaller : goal.loop-b-smaller
 loop-b-smaller c =
-    let popped-is = sym c.pop.ensures ∙ c.in-Block.is in
+    let popped-is = sym c.pop.ensures.value ∙ c.in-Some.is in
     (fewer (tokens_of c.args.tokens.now) (globals_in c.args.rows.now c.args.n) c.args.ret c.args.table.now
     (blocks_at c.args.items.now c.args.arguments.now c.args.blocks.now c.args.first (remaining c.args.order.now
     c.args.work))
     c.loop-b.table c.args.items.now c.args.arguments.now c.args.blocks.now c.args.first c.args.order.now c.loop-b.left
-    c.loop-b.invariant.0 c.requires.2 c.loop-b.invariant.2 popped-is).1
+    c.loop-b.invariant.0 c.requires.2 c.loop-b.invariant.2 popped-is
+    c.pop.ensures.worklist_after).1
 
 pub loop-b-preserved : goal.loop-b-preserved
 loop-b-preserved c =
-    let popped-is = sym c.pop.ensures ∙ c.in-Block.is in
+    let popped-is = sym c.pop.ensures.value ∙ c.in-Some.is in
     let less = fewer (tokens_of c.args.tokens.now) (globals_in c.args.rows.now c.args.n) c.args.ret c.args.table.now
     (blocks_at c.args.items.now c.args.arguments.now c.args.blocks.now c.args.first (remaining c.args.order.now
     c.args.work))
     c.loop-b.table c.args.items.now c.args.arguments.now c.args.blocks.now c.args.first c.args.order.now c.loop-b.left
-    c.loop-b.invariant.0 c.requires.2 c.loop-b.invariant.2 popped-is in (
+    c.loop-b.invariant.0 c.requires.2 c.loop-b.invariant.2 popped-is
+    c.pop.ensures.worklist_after in (
       omega (arith, less.0, c.loop-b.invariant.0),
       c.analyze_recorded.auto.table ∙ c.loop-b.invariant.1,
       blocks-fine (tokens_of c.args.tokens.now) (globals_in c.args.rows.now c.args.n) c.args.ret c.args.table.now
@@ -52,5 +58,6 @@ loop-b-preserved c =
           c.args.work))
           c.loop-b.table c.args.items.now c.args.arguments.now c.args.blocks.now c.args.first c.args.order.now
           c.loop-b.left
-          c.loop-b.invariant.0 c.requires.2 c.loop-b.invariant.2 popped-is c.analyze_recorded.ensures c.in_ok-analyze_recorded-in-Block.was,
+          c.loop-b.invariant.0 c.requires.2 c.loop-b.invariant.2 popped-is
+          c.pop.ensures.worklist_after c.analyze_recorded.ensures c.in_ok-analyze_recorded-in-Some.was,
     )
