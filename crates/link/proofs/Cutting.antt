@@ -281,8 +281,8 @@ module _ (items : List ℕ) (all : List Block) (named first end base : ℕ) (cel
 
 -- One turn, from what the calls give. --------------------------------------------------------------------------------
 
-module _ {items : List ℕ} {first count named : ℕ} {labels : List ℕ} {labelled before : ℕ} {cells₀ : List ℕ} {base : ℕ}
-    (pre : Cut items first count labels labelled before cells₀ base) {cells : List ℕ} {from k : ℕ}
+module _ {items : List ℕ} {first count named : ℕ} {names : List ℕ} {before : ℕ} {cells₀ : List ℕ} {base : ℕ}
+    (pre : Cut items first count names before cells₀ base) {cells : List ℕ} {from k : ℕ}
     (cut : Cutting items (blocks_of (parts_at items first count)) named first (first + count) base cells₀ cells from k)
     {stop : ℕ} (ends : stop ≡ from + run (parts_at items from (first + count - from)))
   where
@@ -292,11 +292,8 @@ module _ {items : List ℕ} {first count named : ℕ} {labels : List ℕ} {label
     abbrev all : List Block
     all = blocks_of ps
 
-    abbrev names : List ℕ
-    names = take labelled labels
-
     same : (l : ℕ) → place_of all l 0 ≡ label_place before 0 names l
-    same = same_place ps before names pre.before_are pre.labels_are
+    same = same_place ps before names pre.before_are pre.names_are
 
     pub next-room : from < stop → k < 1024
     next-room = cut-room items all named first (first + count) base cells₀ cells from k cut stop ends before names same

@@ -111,20 +111,13 @@ entering_append j k [] more = refl
 entering_append j k (t ∷ ts) more =
     prepend (eqb t j) k (entering j k ts more) (entering j k ts []) more (entering_append j k ts more)
 
-links_more : (goes : ℕ → List ℕ) (k n : ℕ) → 0 < n → links_from goes k n ≡ goes k ∷ links_from goes (k + 1) (n - 1)
-unfolding links_from
-links_more goes k zero h = absurd (omega arith)
-links_more goes k (suc n) h =
-    let e : suc n - 1 ≡ n = omega arith in
-    rw e
-
-pub predecessors-more : (goes : ℕ → List ℕ) (j k rest : ℕ) → 0 < rest
-    → predecessors j k (links_from goes k rest)
-    ≡ entering j k (goes k) [] ++ predecessors j (k + 1) (links_from goes (k + 1) (rest - 1))
-unfolding predecessors
-predecessors-more goes j k rest h =
-    rw (links_more goes k rest h)
-    (entering_append j k (goes k) (predecessors j (k + 1) (links_from goes (k + 1) (rest - 1))))
+pub predecessors-more : (goes : ℕ → List ℕ) (j k n : ℕ) → k < n
+    → predecessors j k (links_from goes k (n - k))
+    ≡ entering j k (goes k) [] ++ predecessors j (k + 1) (links_from goes (k + 1) (n - (k + 1)))
+unfolding predecessors links_from
+predecessors-more goes j k n h =
+    let e : n - k ≡ suc (n - (k + 1)) = omega arith in
+    rw e (entering_append j k (goes k) (predecessors j (k + 1) (links_from goes (k + 1) (n - (k + 1)))))
 
 pub predecessors-none : (goes : ℕ → List ℕ) (j k rest : ℕ) → rest ≡ 0 → predecessors j k (links_from goes k rest) ≡ []
 unfolding predecessors links_from

@@ -1,13 +1,15 @@
 -- Records read one after the other: what the labels and operations from here on are, with one record more. And labels
 -- looked up one after the other.
 use Prim.Native.Nat.{ℕ, zero, suc, ◌+◌, ◌-◌, ◌≤◌, ◌<◌}
-use mathlib.Core.Path.{◌≡◌}
+use mathlib.Core.Path.{◌≡◌, refl, sym, ap, ◌∙◌}
+use mathlib.Core.Bool.{Bool, true, false, cond}
 use mathlib.Core.List.{List, [], ◌∷◌}
 use native.Mathlib.Omega.{arith}
 use borrow.Author.Tests.{eq-eqb, ne_eqb}
-use lib.ListN.{length, drop, take, get_or, drop_of_length-le}
-use lib.Seq.{drop-cons, get_or-take, length-take-le}
-use native.Mathlib.Numerals.{add-one}
+use lib.Dec.{eqb}
+use Rattle.std.specs.Prelude.{Option, Some, None, position}
+use Rattle.std.specs.List.{position_from}
+use Rattle.std.proofs.lemmas.Iterator.Adapters.{position_from-zero}
 use Rattle.utils.specs.Bytes.{pick}
 use Rattle.body.specs.Shapes.{name, operation}
 use Rattle.body.specs.Records.{first_cell, record_at, record_part, goes_of, parts_at}
@@ -94,30 +96,22 @@ module _ (cells : List ℕ) (i end : ℕ) (less : i < end) (r : ItemRecord) (rea
       let e = rw (there, label-part r k) at h in
       omega (arith, e)
 
--- The last `rest` of a function's labels, among which this name is looked up.
-module _ (labels : List ℕ) (before all rest l : ℕ) (there : all ≤ length labels) (few : rest ≤ all) (whole : Place)
-    (left : label_place before (all - rest) (drop (all - rest) (take all labels)) l ≡ whole) where
-  long : length (take all labels) ≡ all
-  long = length-take-le all labels there
+-- The first label of a name, among labels that are numbered from i on.
+abbrev pub placed : ℕ → Option ℕ → Place
+placed before (Some i) = at (block_of before i)
+placed before None = nowhere
 
-  pub label-nowhere : rest ≤ 0 → nowhere ≡ whole
-  unfolding label_place
-  label-nowhere h = rw (drop_of_length-le (take all labels) {i = all - rest} (omega (arith, long, h))) at left
+placed_from : (before l i : ℕ) (xs : List ℕ)
+    → label_place before i xs l ≡ placed before (position_from (λ x. eqb x l) i xs)
+unfolding label_place pick
+placed_from before l i [] = refl
+placed_from before l i (x ∷ xs) = by (eqb x l) _ _ (placed_from before l (i + 1) xs)
+  where
+    by : (t : Bool) (p : Place) (o : Option ℕ) → p ≡ placed before o
+        → pick t (at (block_of before i)) p ≡ placed before (cond t (Some i) o)
+    by true p o e = refl
+    by false p o e = e
 
-  module _ (some : 0 < rest) where
-    here-first : drop (all - rest) (take all labels)
-        ≡ get_or labels (all - rest) 0 ∷ drop (suc (all - rest)) (take all labels)
-    here-first =
-        rw (← get_or-take all labels (all - rest) 0 (omega arith))
-        (drop-cons (take all labels) (all - rest) 0 (omega (arith, long)))
-
-    pub label-here : get_or labels (all - rest) 0 ≡ l → at (block_of before (all - rest)) ≡ whole
-    unfolding label_place pick
-    label-here h = rw (here-first, eq-eqb _ _ h) at left
-
-    pub label-later : (get_or labels (all - rest) 0 ≡ l → ⊥)
-        → label_place before (all - (rest - 1)) (drop (all - (rest - 1)) (take all labels)) l ≡ whole
-    unfolding label_place pick
-    label-later h =
-        let next : all - (rest - 1) ≡ all - rest + 1 = omega arith in
-        rw (next, add-one (all - rest)) (rw (here-first, ne_eqb _ _ h, add-one (all - rest)) at left)
+pub label_placed : (before l : ℕ) (xs : List ℕ) → label_place before 0 xs l ≡ placed before (position (λ x. eqb x l) xs)
+label_placed before l xs =
+    placed_from before l 0 xs ∙ ap (λ (o : Option ℕ). placed before o) (sym (position_from-zero (λ x. eqb x l) xs))

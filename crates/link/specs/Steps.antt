@@ -46,13 +46,11 @@ pub record Ready (items : List ℕ) (first count : ℕ) (labels : List ℕ) (lab
   pub predecessors_there : predecessors_size ≤ length preds
 
 -- What cutting the items into blocks needs of it, with how many labels stand before the first operation.
-pub record Cut (items : List ℕ) (first count : ℕ) (labels : List ℕ) (labelled before : ℕ) (blocks : List ℕ) (base : ℕ)
+pub record Cut (items : List ℕ) (first count : ℕ) (names : List ℕ) (before : ℕ) (blocks : List ℕ) (base : ℕ)
     : Type 0 where
   pub items_there : (first + count) * 8 ≤ length items
   pub few-items : first + count ≤ 3072
-  pub few-labels : labelled ≤ most_labels
-  pub labels_there : labelled ≤ length labels
-  pub labels_are : take labelled labels ≡ names_in (parts_at items first count)
+  pub names_are : names ≡ names_in (parts_at items first count)
   pub before_are : before ≡ leading (parts_at items first count)
   pub before-few : before ≤ count
   pub few_blocks : base + filled true (parts_at items first count) ≤ 1024

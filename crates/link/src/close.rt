@@ -1,13 +1,13 @@
 // A function's items, cut into blocks.
-ghost use Rattle.std.specs.Prelude.{◌≡◌, ◌+◌, ◌-◌, ◌*◌, ◌≤◌, ◌<◌, length, take};
+ghost use Rattle.std.specs.Prelude.{◌≡◌, ◌+◌, ◌-◌, ◌*◌, ◌≤◌, ◌<◌, length};
 ghost use Rattle.body.specs.Records.{record_at, parts_at};
-ghost use Rattle.utils.specs.Limits.{most_labels};
 ghost use Rattle.link.specs.Blocks.{blocks_of};
 ghost use Rattle.link.specs.Edges.{resolve_d};
 ghost use Rattle.link.specs.Steps.{goes_d, run, put_goes, added_d, added_cells, Cut, numbered_by, ClosedHeld};
 ghost use Rattle.link.specs.Steps.{blocks_size};
 
-use crate::{Goes, LabelCounts, labels};
+use crate::Goes;
+use crate::labels::Labels;
 use body::kinds;
 use graph::BlockRecord;
 use graph::blocks::put_block;
@@ -19,15 +19,13 @@ fn block_end(items: &[u32], from: usize, end: usize) -> usize
     requires { (from ≤ end) × (end * 8 ≤ length items.now) }
     ensures { (result ≡ from + run (parts_at items.now from (end - from))) × (result ≤ end) }
 {
-    let mut i = from;
-    while i < end {
+    for i in from..end {
         let r = body::records::record_at(items, i);
         if r.kind == kinds::LABEL {
             return i;
         }
-        i += 1;
     }
-    i
+    end
 }
 
 // The block of the operations from `from` to before `stop` becomes record k, but for what enters it.
@@ -35,19 +33,17 @@ fn close_block(
     items: &[u32],
     from: usize,
     stop: usize,
-    labels: &[u32],
-    counts: LabelCounts,
+    labels: Labels,
     blocks: &mut [u32],
     k: usize,
 ) -> Result<Goes, Refusal>
-    requires { (from < stop) × (stop ≤ 3072) × (stop * 8 ≤ length items.now) × (counts.all ≤ most_labels)
-        × (counts.all ≤ length labels.now) × (k * 8 + 8 ≤ length blocks.old) }
-    ensures { (result ≡ goes_d counts.leading (take counts.all labels.now)
+    requires { (from < stop) × (stop ≤ 3072) × (stop * 8 ≤ length items.now) × (k * 8 + 8 ≤ length blocks.old) }
+    ensures { (result ≡ goes_d labels.entry.leading labels.entry.names.now
         (record_at items.now (stop - 1)))
         × (blocks.new ≡ put_goes blocks.old k from (stop - from) result) }
 {
     let r = body::records::record_at(items, stop - 1);
-    let goes = labels::resolve(labels, counts, r)?;
+    let goes = labels.resolve(r)?;
     let b = BlockRecord {
         first: from as u32,
         operations: (stop - from) as u32,
@@ -70,22 +66,20 @@ fn add_block(
     from: usize,
     stop: usize,
     empty: Refusal,
-    labels: &[u32],
-    counts: LabelCounts,
+    labels: Labels,
     blocks: &mut [u32],
     k: usize,
 ) -> Result<usize, Refusal>
-    requires { (from ≤ stop) × (stop ≤ 3072) × (stop * 8 ≤ length items.now) × (counts.all ≤ most_labels)
-        × (counts.all ≤ length labels.now) × (blocks_size ≤ length blocks.old) × (from < stop → k < 1024) }
-    ensures value { result ≡ added_d counts.leading (take counts.all labels.now) items.now
-        from stop empty k }
-    ensures blocks_after { blocks.new ≡ added_cells counts.leading (take counts.all labels.now)
-        items.now from stop blocks.old k }
+    requires { (from ≤ stop) × (stop ≤ 3072) × (stop * 8 ≤ length items.now)
+        × (blocks_size ≤ length blocks.old) × (from < stop → k < 1024) }
+    ensures value { result ≡ added_d labels.entry.leading labels.entry.names.now items.now from stop empty k }
+    ensures blocks_after { blocks.new ≡ added_cells labels.entry.leading labels.entry.names.now items.now
+        from stop blocks.old k }
 {
     if stop == from {
         return Err(empty);
     }
-    close_block(items, from, stop, labels, counts, blocks, k)?;
+    close_block(items, from, stop, labels, blocks, k)?;
     Ok(k + 1)
 }
 
@@ -95,12 +89,11 @@ pub fn link_blocks(
     first: usize,
     count: usize,
     name: usize,
-    labels: &[u32],
-    counts: LabelCounts,
+    labels: Labels,
     blocks: &mut [u32],
     base: usize,
 ) -> Result<usize, Refusal>
-    requires { Cut items.now first count labels.now counts.all counts.leading blocks.old base }
+    requires { Cut items.now first count labels.names.now labels.leading blocks.old base }
     ensures value { result ≡ numbered_by (blocks_of (parts_at items.now first count))
         (resolve_d name (blocks_of (parts_at items.now first count))) }
     ensures closed_held { ClosedHeld (blocks_of (parts_at items.now first count)) first base
@@ -108,11 +101,11 @@ pub fn link_blocks(
 {
     let end = first + count;
     let empty = parser::refuse(numbers::EMPTY_BLOCK, name);
-    let mut from = first + counts.leading;
+    let mut from = first + labels.leading;
     let mut k = base;
     loop {
         let stop = block_end(items, from, end);
-        k = add_block(items, from, stop, empty, labels, counts, blocks, k)?;
+        k = add_block(items, from, stop, empty, labels, blocks, k)?;
         if stop == end {
             return Ok(k - base);
         }

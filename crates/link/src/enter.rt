@@ -64,15 +64,6 @@ fn enter_from(
     put_source(sources, next, k, second)
 }
 
-// The source looked at when `rest` of n blocks are still to be looked at: in order of the edges.
-fn next_source(n: u32, rest: u32) -> BlockId
-    requires { (1 ≤ rest) × (rest ≤ n) }
-    ensures { result.0 + rest ≡ n }
-{
-    let k = n - rest;
-    BlockId(k)
-}
-
 // The sources of the edges that enter block j, from the place `used` on. The place after them.
 fn enter_edges(
     succs: &[[u32; 2]; limits::BLOCKS],
@@ -91,11 +82,8 @@ fn enter_edges(
         (predecessors j.0 0 (links_from (row_of succs.now counts.now) 0 n))) }
 {
     let mut here = used;
-    let mut rest = n;
-    while 0 < rest {
-        let k = next_source(n, rest);
-        here = enter_from(succs, counts, k, j, sources, here);
-        rest -= 1;
+    for k in 0..n {
+        here = enter_from(succs, counts, BlockId(k), j, sources, here);
     }
     here
 }
@@ -149,13 +137,11 @@ fn enter_all(
         (entries_from 0 (links_from (row_of succs.now counts.now) 0 n) n) }
 {
     let mut here = used;
-    let mut j: u32 = 0;
-    while j < n {
+    for j in 0..n {
         let i = base + j as usize;
         let next = enter_edges(succs, counts, n, BlockId(j), sources, here);
         put_entries(blocks, i, BlockId(j), here, next - here);
         here = next;
-        j += 1;
     }
     here
 }

@@ -11,6 +11,7 @@ ghost use Rattle.link.specs.Cells.{link_d, LinkHeld};
 ghost use Rattle.link.specs.Steps.{Ready};
 
 use graph::BlockId;
+use labels::Labels;
 use parser::Refusal;
 
 // How many blocks and predecessors a function has.
@@ -26,13 +27,6 @@ pub struct Goes {
     pub count: u32,
     pub to: BlockId,
     pub other: BlockId,
-}
-
-// How many labels a function has, and how many of them lead: those stand before its first operation and name block 0.
-#[derive(Clone, Copy)]
-pub struct LabelCounts {
-    pub all: usize,
-    pub leading: usize,
 }
 
 // The items of a function stand in `count` records from the record `first` on, and its labels at the front of `labels`;
@@ -56,11 +50,11 @@ pub fn link(
         blocks.new predecessors.old predecessors.new result }
 {
     let leading = labels::leading_labels(items, first, count);
-    let counts = LabelCounts {
-        all: labelled,
+    let labels = Labels {
+        names: &labels[..labelled],
         leading,
     };
-    let n = close::link_blocks(items, first, count, name, labels, counts, blocks, base)?;
+    let n = close::link_blocks(items, first, count, name, labels, blocks, base)?;
     let next = enter::enter_blocks(blocks, base, n as u32, predecessors, used);
     Ok(Linked {
         blocks: n,

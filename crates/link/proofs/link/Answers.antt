@@ -16,9 +16,7 @@ link_blocks-requires c =
     record {
       items_there = c.requires.items_there;
       few-items = c.requires.few-items;
-      few-labels = c.requires.few-labels;
-      labels_there = c.requires.labels_there;
-      labels_are = c.requires.labels_are;
+      names_are = c.requires.labels_are;
       before_are = c.leading_labels-leading.ensures.0;
       before-few = c.leading_labels-leading.ensures.1;
       few_blocks = c.requires.few_blocks;

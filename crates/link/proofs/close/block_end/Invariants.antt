@@ -1,5 +1,5 @@
 -- What each turn of a loop keeps.
-use Prim.Native.Nat.{◌+◌, ◌-◌, ◌≤◌}
+use Prim.Native.Nat.{◌+◌, ◌-◌}
 use mathlib.Core.Path.{◌≡◌}
 use Rattle.link.specs.Steps.{run}
 use Rattle.body.specs.Records.{parts_at}
@@ -7,8 +7,4 @@ use Rattle.link.proofs.close.block_end.Given as goal
 
 abbrev pub invariant-loop-i : goal.invariant-loop-i
 invariant-loop-i l =
-    (l.i ≤ l.end) × (l.i + run (parts_at l.items l.i (l.end - l.i)) ≡ l.from + run (parts_at l.items l.from (l.end -
-    l.from)))
-
-abbrev pub decreases-loop-i : goal.decreases-loop-i
-decreases-loop-i l = l.end - l.i
+    l.i + run (parts_at l.items l.i (l.end - l.i)) ≡ l.from + run (parts_at l.items l.from (l.end - l.from))

@@ -15,7 +15,7 @@ overflow_add-from c =
 
 pub loop-k-init : goal.loop-k-init
 loop-k-init c =
-    cut-start c.args.items.now c.args.first c.args.count c.args.counts.leading c.args.base c.args.name c.args.blocks.now
+    cut-start c.args.items.now c.args.first c.args.count c.args.labels.leading c.args.base c.args.name c.args.blocks.now
     c.requires.before_are c.requires.before-few c.requires.few_blocks
 
 pub block_end-stop-requires : goal.block_end-stop-requires
@@ -27,8 +27,6 @@ add_block-requires c = (
   omega (arith, c.block_end-stop.ensures.0),
   omega (arith, c.block_end-stop.ensures.1, c.requires.few-items),
   omega (arith, c.block_end-stop.ensures.1, c.requires.items_there),
-  c.requires.few-labels,
-  c.requires.labels_there,
   omega (arith, c.loop-k.invariant.left.long, c.requires.blocks_there),
   next-room c.requires c.loop-k.invariant c.block_end-stop.ensures.0,
 )

@@ -16,7 +16,6 @@ use Rattle.link.proofs.enter.enter_all.Goals as goal
 pub loop-j-init : goal.loop-j-init
 loop-j-init c =
     let all = links_from (row_of c.args.succs.now c.args.counts.now) 0 c.args.n in (
-      omega arith,
       refl,
       rw sub-zero (entered-none (entries_from 0 all c.args.n) c.args.used c.args.sources.now),
       rw (add-zero, sub-zero),
@@ -25,9 +24,9 @@ loop-j-init c =
 pub enter_edges-next-requires : goal.enter_edges-next-requires
 enter_edges-next-requires c =
     let all = links_from (row_of c.args.succs.now c.args.counts.now) 0 c.args.n in
-    let more = entries-more all c.loop-j.j c.args.n c.loop-j-test.true in
-    let e = rw (more, length-append) at c.loop-j.invariant.2.count in
-    (c.requires.0, omega (arith, e, c.loop-j.invariant.2.long, c.requires))
+    let more = entries-more all c.loop-j.j c.args.n (omega arith) in
+    let e = rw (more, length-append) at c.loop-j.invariant.1.count in
+    (c.requires.0, omega (arith, e, c.loop-j.invariant.1.long, c.requires))
 
 pub overflow_sub-next : goal.overflow_sub-next
 overflow_sub-next c =
@@ -36,10 +35,10 @@ overflow_sub-next c =
 pub put_entries-requires : goal.put_entries-requires
 put_entries-requires c =
     let all = links_from (row_of c.args.succs.now c.args.counts.now) 0 c.args.n in
-    let more = entries-more all c.loop-j.j c.args.n c.loop-j-test.true in
-    let e = rw (more, length-append) at c.loop-j.invariant.2.count in (
+    let more = entries-more all c.loop-j.j c.args.n (omega arith) in
+    let e = rw (more, length-append) at c.loop-j.invariant.1.count in (
       omega (arith, c.requires),
-      omega (arith, c.requires, c.loop-j.invariant.1),
+      omega (arith, c.requires, c.loop-j.invariant.0),
       omega (arith, e, c.requires),
       omega (arith, e, c.enter_edges-next.ensures.0, c.requires),
     )
@@ -47,30 +46,26 @@ put_entries-requires c =
 pub loop-j-preserved : goal.loop-j-preserved
 loop-j-preserved c =
     let all = links_from (row_of c.args.succs.now c.args.counts.now) 0 c.args.n in
-    let more = entries-more all c.loop-j.j c.args.n c.loop-j-test.true in
+    let more = entries-more all c.loop-j.j c.args.n (omega arith) in
     let whole = cells_of (entered_by (block_at c.loop-j.blocks (c.args.base + c.loop-j.j)) c.loop-j.j c.loop-j.here
     (c.enter_edges-next.result - c.loop-j.here)) in (
-      omega arith,
       ap length c.put_entries.ensures ∙ length-sets c.loop-j.blocks ((c.args.base + c.loop-j.j) * 8) whole ∙
-          c.loop-j.invariant.1,
+          c.loop-j.invariant.0,
       entered-more (predecessors c.loop-j.j 0 all) (entries_from (c.loop-j.j + 1) all (c.args.n - (c.loop-j.j + 1)))
           c.enter_edges-next.result
-          c.enter_edges-next.new.sources c.loop-j.invariant.2 more c.enter_edges-next.ensures,
+          c.enter_edges-next.new.sources c.loop-j.invariant.1 more c.enter_edges-next.ensures,
       ap (λ (b : List ℕ). put_entered (c.loop-j.j + 1) c.enter_edges-next.result all b (c.args.base + (c.loop-j.j +
           1)) (c.args.n - (c.loop-j.j + 1))) c.put_entries.ensures
           ∙ entered_step c.loop-j.here all c.loop-j.blocks c.args.base c.loop-j.j c.args.n c.enter_edges-next.result
-          c.loop-j-test.true c.enter_edges-next.ensures.0
-          ∙ c.loop-j.invariant.3,
+          (omega arith) c.enter_edges-next.ensures.0
+          ∙ c.loop-j.invariant.2,
     )
 
 pub returns : goal.returns
 returns c =
     let all = links_from (row_of c.args.succs.now c.args.counts.now) 0 c.args.n in
-    let done = entered_all c.loop-j.invariant.2 (entries_none all c.loop-j.j (c.args.n - c.loop-j.j) (omega arith)) in
+    let done = entered_all c.loop-j.invariant.1 (entries_none all c.loop-j.j (c.args.n - c.loop-j.j) (omega arith)) in
     let none = entered-end c.loop-j.here all c.loop-j.blocks c.loop-j.j (c.args.base + c.loop-j.j) (c.args.n -
     c.loop-j.j)
     (omega arith) in
-    record { value = done.0; blocks_after = rw none at c.loop-j.invariant.3; sources_after = done.1 }
-
-pub loop-j-smaller : goal.loop-j-smaller
-loop-j-smaller c = omega arith
+    record { value = done.0; blocks_after = rw none at c.loop-j.invariant.2; sources_after = done.1 }

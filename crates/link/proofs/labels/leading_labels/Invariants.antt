@@ -1,5 +1,5 @@
 -- What each turn of a loop keeps.
-use Prim.Native.Nat.{◌+◌, ◌-◌, ◌≤◌}
+use Prim.Native.Nat.{◌+◌, ◌-◌}
 use mathlib.Core.Path.{◌≡◌}
 use Rattle.link.specs.Table.{leading}
 use Rattle.body.specs.Records.{parts_at}
@@ -7,8 +7,4 @@ use Rattle.link.proofs.labels.leading_labels.Given as goal
 
 abbrev pub invariant-loop-i : goal.invariant-loop-i
 invariant-loop-i l =
-    (l.i ≤ l.count) × (l.i + leading (parts_at l.items (l.first + l.i) (l.count - l.i)) ≡ leading (parts_at l.items
-    l.first l.count))
-
-abbrev pub decreases-loop-i : goal.decreases-loop-i
-decreases-loop-i l = l.count - l.i
+    l.i + leading (parts_at l.items (l.first + l.i) (l.count - l.i)) ≡ leading (parts_at l.items l.first l.count)
