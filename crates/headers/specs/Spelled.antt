@@ -1,7 +1,6 @@
 -- Names by spelling: "A looked-up name is a part of the old text or of the new." The headers' names are parts of the
 -- old text, the new function's names parts of the new one.
-use Rattle.std.specs.Prelude.{None, Option, Some}
-use Rattle.std.specs.Prelude.{ℕ, zero, suc, ◌+◌, ◌≤◌, ◌<◌, ◌≡◌, List, [], leb, length, get_or}
+use Rattle.std.specs.Prelude.{ℕ, zero, suc, ◌+◌, ◌≤◌, ◌<◌, ◌≡◌, List, [], leb, length, get_or, None, Option, Some}
 use Rattle.std.proofs.Math.Seq.{slice}
 use Rattle.utils.specs.Bytes.{pick, same_bytes}
 use Rattle.lexer.specs.Decoded.{name_of}
