@@ -62,20 +62,22 @@ fn keeps_behind<'t, 'c>(
         name at }
 {
     bring::copy_row(local, 0, rows, i);
-    let Ok(run) = header::parse_optional_formals(tokens, at, local, columns::SECOND_FORMALS) else {
+    let Ok(formals) = header::parse_optional_formals(tokens, at, local, columns::SECOND_FORMALS)
+    else {
         return true;
     };
-    let Ok((result, _)) = header::parse_optional_type(tokens, run.next) else {
+    let Ok((result, _)) = header::parse_optional_type(tokens, formals.next) else {
         return true;
     };
     if !names::is_spelled(old, new, rows, names, i, name) {
         return false;
     }
-    known::same_type(local, 0, runs::type_cell(result), run.count, 1)
+    known::same_type(local, 0, runs::type_cell(result), formals.count, 1)
 }
 
 // Whether the new function has the name and the function type of row i. What is refused before the name would be
 // entered is no matter here.
+#[tactic(auto, unfolding(parser::specs::Step::opened, crate::specs::Kept::keeps))]
 pub fn keeps<'t, 'c>(
     old: &'t [u8],
     new: &'t [u8],

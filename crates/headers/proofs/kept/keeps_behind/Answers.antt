@@ -16,48 +16,48 @@ pub returns-then-not-is_spelled : goal.returns-then-not-is_spelled
 unfolding keeps_behind then_formals opened
 returns-then-not-is_spelled c =
     let read = optional_formals (tokens_of c.args.tokens.now) c.args.at in
-    let d = run-done read (sym c.in-Done.is ∙ c.parse_optional_formals.ensures.value) in
-    rw (d.0, ← c.parse_optional_type.ensures, c.in-At.is, ← c.is_spelled.ensures, c.if-not-is_spelled.true)
+    let d = run-done read (sym c.in-Ok.is ∙ c.parse_optional_formals.ensures.value) in
+    rw (d.0, ← c.parse_optional_type.ensures, c.in-Ok-parse_optional_type.is, ← c.is_spelled.ensures, c.if-not-is_spelled.true)
 
 pub same_type-requires : goal.same_type-requires
 same_type-requires c =
     let read = optional_formals (tokens_of c.args.tokens.now) c.args.at in
-    let d = run-done read (sym c.in-Done.is ∙ c.parse_optional_formals.ensures.value) in (
+    let d = run-done read (sym c.in-Ok.is ∙ c.parse_optional_formals.ensures.value) in (
       omega arith,
       omega arith,
       omega (arith, d.1, formals_few (tokens_of c.args.tokens.now) c.args.at),
       omega (arith, c.requires.1, c.copy_row.auto.out, c.parse_optional_formals.auto.rows),
     )
 
-pub returns-in-Refused : goal.returns-in-Refused
+pub returns-in_default : goal.returns-in_default
 unfolding keeps_behind then_formals opened
-returns-in-Refused c =
+returns-in_default c =
     let read = optional_formals (tokens_of c.args.tokens.now) c.args.at in
-    let d = run-refused read (sym c.in-Refused.is ∙ c.parse_optional_formals.ensures.value) in
+    let d = run-refused read (sym c.in_default.is ∙ c.parse_optional_formals.ensures.value) in
     rw d
 
-pub returns-in-Refused-parse_optional_type : goal.returns-in-Refused-parse_optional_type
+pub returns-in_default-parse_optional_type : goal.returns-in_default-parse_optional_type
 unfolding keeps_behind then_formals opened
-returns-in-Refused-parse_optional_type c =
+returns-in_default-parse_optional_type c =
     let read = optional_formals (tokens_of c.args.tokens.now) c.args.at in
-    let d = run-done read (sym c.in-Done.is ∙ c.parse_optional_formals.ensures.value) in
-    rw (d.0, ← c.parse_optional_type.ensures, c.in-Refused-parse_optional_type.is)
+    let d = run-done read (sym c.in-Ok.is ∙ c.parse_optional_formals.ensures.value) in
+    rw (d.0, ← c.parse_optional_type.ensures, c.in_default-parse_optional_type.is)
 
-pub returns-else-not-is_spelled : goal.returns-else-not-is_spelled
+pub returns : goal.returns
 unfolding keeps_behind then_formals opened
-returns-else-not-is_spelled c =
+returns c =
     let read = optional_formals (tokens_of c.args.tokens.now) c.args.at in
-    let d = run-done read (sym c.in-Done.is ∙ c.parse_optional_formals.ensures.value) in
-    let few : c.in-Done.formals ≤ 16 = omega (arith, d.1, formals_few (tokens_of c.args.tokens.now) c.args.at) in
+    let d = run-done read (sym c.in-Ok.is ∙ c.parse_optional_formals.ensures.value) in
+    let few : c.in-Ok.formals.count ≤ 16 = omega (arith, d.1, formals_few (tokens_of c.args.tokens.now) c.args.at) in
     let same =
     copied_same c.args.local.now c.args.rows.now c.copy_row.new.out c.parse_optional_formals.new.rows c.args.i read.list
-    c.requires.1 c.copy_row.ensures c.parse_optional_formals.ensures.rows_after c.in-At.result c.type_cell.result
-    c.in-Done.formals
+    c.requires.1 c.copy_row.ensures c.parse_optional_formals.ensures.rows_after c.in-Ok-parse_optional_type.result c.type_cell.result
+    c.in-Ok.formals.count
     c.type_cell.ensures d.1 few in
     rw (
       d.0,
       ← c.parse_optional_type.ensures,
-      c.in-At.is,
+      c.in-Ok-parse_optional_type.is,
       ← c.is_spelled.ensures,
       c.if-not-is_spelled.false,
       ← same,
