@@ -2,10 +2,10 @@
 ghost use Rattle.std.specs.Prelude.{◌≡◌, [], ◌∷◌, ◌+◌, ◌≤◌, length};
 ghost use Rattle.std.proofs.Math.Seq.{slice};
 ghost use Rattle.utils.specs.Bytes.{same_bytes};
-ghost use Rattle.pieces.specs.Tokens.{kinded_of, value_of};
+ghost use Rattle.pieces.specs.Tokens.{kinded_of, name_kind, value_of};
 ghost use Rattle.pieces.specs.Tokens.{word_in, keyword, symbol};
 
-use crate::{Identifier, Kinded, TokenValue, kinds};
+use crate::{Identifier, Kinded, NameKind, TokenValue, kinds};
 
 // A value of this kind that carries this.
 fn kinded(kind: u32, carried: u32) -> Kinded
@@ -106,6 +106,20 @@ impl From<Kinded> for TokenValue {
             kinds::NOP => TokenValue::Nop,
             kinds::ID => TokenValue::Identity,
             _ => TokenValue::EndOfFile,
+        }
+    }
+}
+
+impl NameKind {
+    // The value of a name's token.
+    #[tactic(auto, unfolding(crate::specs::Tokens::value_of, utils::specs::Bytes::pick))]
+    pub fn value(self, id: Identifier) -> TokenValue
+        ensures { result ≡ value_of (name_kind self) id.0 }
+    {
+        match self {
+            NameKind::Local => TokenValue::Local(id),
+            NameKind::Global => TokenValue::Global(id),
+            NameKind::Label => TokenValue::Label(id),
         }
     }
 }
