@@ -138,7 +138,7 @@ pub fn same_bytes(a: &[u8], i: usize, b: &[u8], j: usize, n: usize) -> bool
 }
 
 // The value of a word, where a part of the text is that word.
-#[tactic(auto, using(crate::proofs::Compare::pointwise_same), unfolding(crate::specs::Tokens::word_in, utils::specs::Bytes::pick))]
+#[tactic(auto, using(crate::proofs::Compare::pointwise_same), unfolding(crate::proofs::Words::opened))]
 fn only(part: &[u8], word: &[u8], value: TokenValue) -> Option<TokenValue>
     ensures { result
         ≡ word_in (record { spelling = word.now; value = value } ∷ []) part.now }
@@ -147,7 +147,7 @@ fn only(part: &[u8], word: &[u8], value: TokenValue) -> Option<TokenValue>
 }
 
 // The same of two words.
-#[tactic(auto, using(crate::proofs::Compare::pointwise_same), unfolding(crate::specs::Tokens::word_in, utils::specs::Bytes::pick))]
+#[tactic(auto, using(crate::proofs::Compare::pointwise_same), unfolding(crate::proofs::Words::opened))]
 fn either(
     part: &[u8],
     word: &[u8],
@@ -171,7 +171,7 @@ const SHORTEST: usize = 2;
 const LONGEST: usize = 5;
 
 // The value of a word of the language, or none. No three words share their first letter.
-#[tactic(auto, using(crate::proofs::Words::by_letter), unfolding(crate::specs::Tokens::words, crate::specs::Tokens::word_in, utils::specs::Bytes::same_bytes, utils::specs::Bytes::pick))]
+#[tactic(auto, using(crate::proofs::Words::by_letter), unfolding(crate::proofs::Words::opened))]
 pub(crate) fn get_keyword(part: &[u8]) -> Option<TokenValue>
     ensures { result ≡ keyword part.now }
 {
