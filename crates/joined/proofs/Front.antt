@@ -18,6 +18,8 @@ use Rattle.pieces.specs.Pieces.{cursor, token, number, line_end, closes, star_af
 use Rattle.pieces.specs.Pieces.{name_end, name_end_at}
 use Rattle.pieces.specs.Pieces.{on_comment, slash_at, digit_at, minus_at, name_at, sigil_at, then_value, word_at, number_at}
 use Rattle.pieces.specs.Pieces.{symbol_at, token_from, piece_at}
+use Rattle.pieces.specs.declared.NameKind.{NameKind}
+use Rattle.pieces.specs.declared.NameKind.TheVariants as NK
 use Rattle.pieces.specs.declared.Number.{Number}
 use Rattle.pieces.specs.declared.Lexed.{Lexed}
 use Rattle.pieces.specs.declared.Lexed.TheVariants as L
@@ -135,7 +137,7 @@ module _ (s : List ℕ) {u u' : List ℕ} (g : Begins u u') (at line : ℕ) (h :
       rw (left-front u, left-front u')
       (name_end-front g (drop (at + 1) s) (at + 1) (omega (arith, rw (left-front u) at k)))
 
-  name-front : (kind : ℕ) → EndsBy (length s) (name_at kind (s ++ u) at line)
+  name-front : (kind : NameKind) → EndsBy (length s) (name_at kind (s ++ u) at line)
       → name_at kind (s ++ u') at line ≡ name_at kind (s ++ u) at line
   unfolding name_at
   name-front kind k = rw (name_end_at-front k)
@@ -152,7 +154,7 @@ module _ (s : List ℕ) {u u' : List ℕ} (g : Begins u u') (at line : ℕ) (h :
   second_digit [] k v e m = absurd (omega (arith, taken_digit u k v e))
   second_digit (b ∷ x) k v e m = refl
 
-  sigil_front : (kind : ℕ) → EndsBy (length s) (sigil_at kind (s ++ u) at line)
+  sigil_front : (kind : NameKind) → EndsBy (length s) (sigil_at kind (s ++ u) at line)
       → sigil_at kind (s ++ u') at line ≡ sigil_at kind (s ++ u) at line
   unfolding sigil_at name_at pick
   sigil_front kind = by (is_letter (get_or (s ++ u) (at + 1) 0)) refl
@@ -215,7 +217,7 @@ module _ (s : List ℕ) {u u' : List ℕ} (g : Begins u u') (at line : ℕ) (h :
     where
       ends : (v : Option TokenValue)
           → EndsBy (length s) (then_value v (λ v. Ok (L.Token (token v line at) (cursor (name_end_at (s ++ u) at) line)))
-          (name_at 1 (s ++ u) at line)) → name_end_at (s ++ u) at ≤ length s
+          (name_at NK.Local (s ++ u) at line)) → name_end_at (s ++ u) at ≤ length s
       ends (Some v) k = k
       ends None k = k
 
@@ -274,8 +276,8 @@ module _ (s : List ℕ) {u u' : List ℕ} (g : Begins u u') (at line : ℕ) (h :
       let P = EndsBy (length s) in
       rw (byte_front u, byte_front u')
       (pick-front P (eqb b 45) (λ _. minus_front) (λ _.
-      pick-front P (eqb b 64) (λ _. sigil_front 2) (λ _.
-      pick-front P (eqb b 46) (λ _. sigil_front 3) (λ _.
+      pick-front P (eqb b 64) (λ _. sigil_front NK.Global) (λ _.
+      pick-front P (eqb b 46) (λ _. sigil_front NK.Label) (λ _.
       pick-front P (is_digit b) (λ _. digit_front) (λ _.
       pick-front P (is_letter b) (λ _. word-front) (λ _ _. symbol-front))))) (rw (byte_front u) at k))
 

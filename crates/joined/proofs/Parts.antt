@@ -11,7 +11,7 @@ use lib.ListN.{length, get_or, length-append, get_or-append}
 use lib.Seq.{slice, get_or-append-add, get_or_at}
 use Rattle.utils.specs.Bytes.{pick, pad_to}
 use Rattle.pieces.specs.Classes.{is_ascii}
-use Rattle.pieces.specs.Tokens.{kind_of, carried}
+use Rattle.pieces.specs.Tokens.{kind_of, name_kind, carried}
 use Rattle.pieces.specs.Pieces.{Pieces, token, cursor, piece_at, on_piece, pieces, pieces_from}
 use Rattle.pieces.specs.declared.Cursor.{Cursor}
 use Rattle.pieces.specs.declared.Token.{Token}
@@ -202,7 +202,7 @@ pub stands_fit : (s : List ℕ) (W : List (List ℕ)) (n : ℕ) {is : List Item}
     → carried (get_or T i no_token).value < length W
 stands_fit s W n Both.none h i k e = absurd (omega arith)
 stands_fit s W n (Both.more {x = Item.spelled x} {y = t} p q) h zero k e =
-    let c = name-carried x.kind p.0 h.0.1 h.0.2 in
+    let c = name-carried (name_kind x.kind) p.0 h.0.1 h.0.2 in
     rw (p.4, c) p.1
 stands_fit s W n (Both.more {x = Item.plain x} {y = t} p q) h zero k e =
     let f : is_name (kind_of x.value) ≡ true = rw p at e in

@@ -17,6 +17,8 @@ use Rattle.pieces.specs.Pieces.{cursor, token, number, line_end, closes, star_af
 use Rattle.pieces.specs.Pieces.{name_end_at}
 use Rattle.pieces.specs.Pieces.{on_comment, slash_at, digit_at, minus_at, name_at, sigil_at, then_value, word_at, number_at}
 use Rattle.pieces.specs.Pieces.{symbol_at, token_from, piece_at}
+use Rattle.pieces.specs.declared.NameKind.{NameKind}
+use Rattle.pieces.specs.declared.NameKind.TheVariants as NK
 use Rattle.pieces.specs.declared.Number.{Number}
 use Rattle.pieces.specs.declared.Refusal.TheVariants as R
 use Rattle.pieces.specs.declared.Lexed.TheVariants as L
@@ -109,14 +111,14 @@ module _ (p s : List ℕ) where
 -- One piece. -------------------------------------------------------------------------------------------------------
 
 module _ (p s : List ℕ) (down at line : ℕ) where
-  name_shift : (kind : ℕ) → name_at kind (p ++ s) (length p + at) (down + line) ≡ move_piece (length p) down
+  name_shift : (kind : NameKind) → name_at kind (p ++ s) (length p + at) (down + line) ≡ move_piece (length p) down
       (name_at kind s at line)
   unfolding name_at
   name_shift kind =
       let e : length p + name_end_at s at - (length p + at) ≡ name_end_at s at - at = omega arith in
       rw (name_end_at_shift p s at, e)
 
-  sigil_shift : (kind : ℕ) → sigil_at kind (p ++ s) (length p + at) (down + line) ≡ move_piece (length p) down
+  sigil_shift : (kind : NameKind) → sigil_at kind (p ++ s) (length p + at) (down + line) ≡ move_piece (length p) down
       (sigil_at kind s at line)
   unfolding sigil_at
   sigil_shift kind =
@@ -131,11 +133,11 @@ module _ (p s : List ℕ) (down at line : ℕ) where
     where
       worded : (v : Option TokenValue)
           → then_value v (λ v. Ok (L.Token (token v (down + line) (length p + at)) (cursor (length p + name_end_at s at) (down + line))))
-          (name_at 1 (p ++ s) (length p + at) (down + line))
+          (name_at NK.Local (p ++ s) (length p + at) (down + line))
           ≡ move_piece (length p) down
-          (then_value v (λ v. Ok (L.Token (token v line at) (cursor (name_end_at s at) line))) (name_at 1 s at line))
+          (then_value v (λ v. Ok (L.Token (token v line at) (cursor (name_end_at s at) line))) (name_at NK.Local s at line))
       worded (Some v) = refl
-      worded None = name_shift 1
+      worded None = name_shift NK.Local
 
   symbol_shift : symbol_at (p ++ s) (length p + at) (down + line) ≡ move_piece (length p) down (symbol_at s at line)
   unfolding symbol_at then_value
@@ -196,8 +198,8 @@ module _ (p s : List ℕ) (down at line : ℕ) where
       let to = move_piece (length p) down in
       rw (byte_shift p s at)
       (pick_through to (eqb b 45) (λ _. minus_shift) (λ _.
-      pick_through to (eqb b 64) (λ _. sigil_shift 2) (λ _.
-      pick_through to (eqb b 46) (λ _. sigil_shift 3) (λ _.
+      pick_through to (eqb b 64) (λ _. sigil_shift NK.Global) (λ _.
+      pick_through to (eqb b 46) (λ _. sigil_shift NK.Label) (λ _.
       pick_through to (is_digit b) (λ _. digit_shift) (λ _.
       pick_through to (is_letter b) (λ _. word_shift) (λ _. symbol_shift))))))
 

@@ -11,7 +11,7 @@ use lib.Dec.{ltb, leb, eqb}
 use lib.ListN.{length, get_or}
 use lib.Seq.{slice, take-append-le}
 use Rattle.utils.specs.Bytes.{pick, pad_to}
-use Rattle.pieces.specs.Tokens.{kind_of, carried}
+use Rattle.pieces.specs.Tokens.{kind_of, name_kind, carried}
 use Rattle.pieces.specs.Pieces.{cursor}
 use Rattle.pieces.specs.declared.Token.{Token}
 use Rattle.pieces.specs.declared.Lexed.TheVariants as L
@@ -73,11 +73,11 @@ module _ (s s' : List ℕ) (on down : ℕ) (W W' : List (List ℕ)) (distinct : 
       let w : get_or W p.0 [] ≡ get_or W' p'.0 [] =
       p.2 ∙ rw e (spelled n.place (n.place + n.len) h.0) ∙ sym p'.2 in
       let r = renamed-is W W' distinct p'.0 p.0 p.1 w in
-      let k = name-kind n.kind p.0 h.1 h.2 in
-      let k' = name-kind n.kind p'.0 h.1 h.2 in
-      let c = name-carried n.kind p.0 h.1 h.2 in
-      let c' = name-carried n.kind p'.0 h.1 h.2 in
-      rw (p.4, p'.4, k, k', c, c', name_is n.kind h.1 h.2, r)
+      let k = name-kind (name_kind n.kind) p.0 h.1 h.2 in
+      let k' = name-kind (name_kind n.kind) p'.0 h.1 h.2 in
+      let c = name-carried (name_kind n.kind) p.0 h.1 h.2 in
+      let c' = name-carried (name_kind n.kind) p'.0 h.1 h.2 in
+      rw (p.4, p'.4, k, k', c, c', name_is (name_kind n.kind) h.1 h.2, r)
   token-moved (Item.plain u) t t' h p p' = rw (p, p', name-not (kind_of u.value) h.0)
 
   pub tokens-moved : (is : List Item) (T T' : List Token) → AllInside (length s') is → Both (Stands s W)

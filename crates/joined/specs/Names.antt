@@ -1,6 +1,6 @@
 -- The tokens that stand for the items of a text, by a table of spellings; and names that are the same in two tables.
 use Rattle.std.specs.Prelude.{ℕ, ◌+◌, ◌≤◌, ◌<◌, ◌≡◌, List, [], ◌∷◌, ◌++◌, length, get_or, Option, Some, None}
-use Rattle.pieces.specs.Tokens.{kind_of}
+use Rattle.pieces.specs.Tokens.{kind_of, name_kind}
 use Rattle.pieces.specs.Pieces.{Pieces, token}
 use Rattle.pieces.specs.Kinds as K
 use Rattle.utils.specs.Limits.{most_name_bytes}
@@ -79,7 +79,7 @@ renamed ws ws' x = found_or (length ws + x) (index_of (get_or ws' x []) ws 0)
 
 -- An item lies in a text of n bytes; a name is of a kind from 1 to 3, and a token of a kind from 4 to 37.
 abbrev pub Inside : ℕ → Item → Type 0
-Inside n (Item.spelled x) = (x.place + x.len ≤ n) × (K.local ≤ x.kind) × (x.kind ≤ K.label)
+Inside n (Item.spelled x) = (x.place + x.len ≤ n) × (K.local ≤ name_kind x.kind) × (name_kind x.kind ≤ K.label)
 Inside n (Item.plain t) = (K.integer ≤ kind_of t.value) × (kind_of t.value < K.end_of_file)
 
 abbrev pub AllInside : ℕ → List Item → Type 0

@@ -12,7 +12,7 @@ use lib.ListN.{length, get_or, length-append, get_or-append}
 use lib.Seq.{get_or_at, length-slice}
 use Rattle.utils.specs.Bytes.{pick}
 use Rattle.pieces.specs.Classes.{is_ascii}
-use Rattle.pieces.specs.Tokens.{kind_of, carried, value_of}
+use Rattle.pieces.specs.Tokens.{kind_of, name_kind, carried, value_of}
 use Rattle.pieces.specs.Refusals.{facts_of}
 use Rattle.pieces.specs.Pieces.{token, piece_at, on_piece, pieces_from}
 use Rattle.lexer.specs.Numbered.{Part, part, spellings, spelling_of, index_of, on_found, identified, named, Outcome}
@@ -198,8 +198,8 @@ module _ {s : List ℕ} {first : ℕ} {ts : List Token} {ns : List Part} {at lin
       → Going s first (ts ++ (named n (record { 0 = k }) ∷ [])) ns c.place c.line
   going_name n c k p h e =
       let t = named n (record { 0 = k }) in
-      let kind = name-kind n.kind k p.kind_from p.kind_to in
-      let number : carried t.value ≡ k = name-carried n.kind k p.kind_from p.kind_to in
+      let kind = name-kind (name_kind n.kind) k p.kind_from p.kind_to in
+      let number : carried t.value ≡ k = name-carried (name_kind n.kind) k p.kind_from p.kind_to in
       let q = get_or ns k no_part in
       let l : q.len ≡ n.len = same_length s q (part n.place n.len) (g.within k h).2 (omega arith) e in
       rw p.same_line

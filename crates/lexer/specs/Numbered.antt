@@ -2,7 +2,7 @@
 use Rattle.std.specs.Prelude.{ℕ, ◌+◌, List, [], ◌∷◌, ◌++◌, ltb, length, Option, Some, None, Result, Ok, Err}
 use Rattle.std.proofs.Math.Seq.{slice}
 use Rattle.utils.specs.Bytes.{pick, same_bytes}
-use Rattle.pieces.specs.Tokens.{value_of, token_cells}
+use Rattle.pieces.specs.Tokens.{name_kind, value_of, token_cells}
 use Rattle.pieces.specs.Pieces.{Pieces, cursor, token, pieces}
 use Rattle.utils.specs.Limits.{most_names, most_name_bytes, most_tokens}
 use Rattle.pieces.specs.declared.Cursor.{Cursor}
@@ -57,7 +57,7 @@ identified s names n =
 
 -- the token of a name that has its number
 abbrev pub named : Name → Identifier → Token
-named n i = token (value_of n.kind i.0) n.line.0 n.place
+named n i = token (value_of (name_kind n.kind) i.0) n.line.0 n.place
 
 pub data Outcome : Type 0 where
   done : List Token → List Part → Outcome

@@ -11,7 +11,7 @@ ghost use Rattle.lexer.specs.Steps.{first_names, Table, new_cells, Prints, next_
 ghost use Rattle.lexer.specs.Read.{lexed_from, result_of, Held};
 
 use lexer::{Counts, Identified, Next, names, push_token};
-use pieces::{Cursor, Identifier, Kinded, Lexed, Location, Name, Refusal, Token, TokenValue, scan};
+use pieces::{Cursor, Identifier, Lexed, Location, Name, Refusal, Token, TokenValue, scan};
 use utils::limits;
 
 // The token of a name that has its number.
@@ -19,10 +19,7 @@ fn named(name: Name, i: Identifier) -> Token
     ensures { result ≡ named name i }
 {
     Token {
-        value: TokenValue::from(Kinded {
-            kind: name.kind,
-            carried: i.0,
-        }),
+        value: name.kind.value(i),
         line: name.line,
         place: name.place,
     }

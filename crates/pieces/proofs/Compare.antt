@@ -29,7 +29,8 @@ unfolding same_bytes pick
 same_snoc [] [] x y e = refl
 same_snoc [] (b ∷ ys) x y e = absurd (omega (arith, e))
 same_snoc (a ∷ xs) [] x y e = absurd (omega (arith, e))
-same_snoc (a ∷ xs) (b ∷ ys) x y e = rw (same_snoc xs ys x y (suc_inj e)) (swapped (eqb a b) (eqb x y) (same_bytes xs ys))
+same_snoc (a ∷ xs) (b ∷ ys) x y e =
+    rw (same_snoc xs ys x y (suc_inj e)) (swapped (eqb a b) (eqb x y) (same_bytes xs ys))
   where
     swapped : (s t q : Bool) → pick s (pick t q false) false ≡ pick t (pick s q false) false
     swapped true true q = refl
@@ -56,7 +57,8 @@ same_back a b i j k h ha hb =
     let lb : length (slice j (j + (k - 1)) b) ≡ j + (k - 1) - j = length-slice j (j + (k - 1)) b (omega arith) in
     let e : length (slice i (i + (k - 1)) a) ≡ length (slice j (j + (k - 1)) b) = omega (arith, la, lb) in
     rw (part_snoc i k a h ha, part_snoc j k b h hb)
-    (same_snoc (slice i (i + (k - 1)) a) (slice j (j + (k - 1)) b) (get_or a (i + (k - 1)) 0) (get_or b (j + (k - 1)) 0) e)
+    (same_snoc (slice i (i + (k - 1)) a) (slice j (j + (k - 1)) b) (get_or a (i + (k - 1)) 0)
+    (get_or b (j + (k - 1)) 0) e)
 
 pub same_end : (a b : List ℕ) (i j : ℕ) → same_bytes (slice i i a) (slice j j b) ≡ true
 unfolding same_bytes

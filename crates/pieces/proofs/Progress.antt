@@ -12,7 +12,7 @@ use lib.ListN.{length, get_or, drop, length-drop}
 use lib.Seq.{slice, drop-cons}
 use Rattle.utils.specs.Bytes.{pick, same_bytes}
 use Rattle.pieces.specs.Classes.{is_blank, is_digit, is_letter, is_name_part}
-use Rattle.pieces.specs.Tokens.{kind_of, Word, words, word_in, symbol}
+use Rattle.pieces.specs.Tokens.{kind_of, name_kind, Word, words, word_in, symbol}
 use Rattle.pieces.specs.Refusals.{facts_of}
 use Rattle.pieces.specs.Pieces.{cursor, token, line_end, closes, star_after, comment_end, digits_from, name_end}
 use Rattle.pieces.specs.Pieces.{name_end_at}
@@ -20,6 +20,8 @@ use Rattle.pieces.specs.Pieces.{on_comment, slash_at, digit_at, minus_at, name_a
 use Rattle.pieces.specs.Pieces.{symbol_at, token_from, piece_at, Pieces, on_piece, pieces_from, pieces}
 use Rattle.pieces.specs.declared.Cursor.{Cursor}
 use Rattle.pieces.specs.declared.Name.{Name}
+use Rattle.pieces.specs.declared.NameKind.{NameKind}
+use Rattle.pieces.specs.declared.NameKind.TheVariants as N
 use Rattle.pieces.specs.declared.Number.{Number}
 use Rattle.pieces.specs.declared.Token.{Token}
 use Rattle.pieces.specs.declared.Refusal.{Refusal}
@@ -140,6 +142,12 @@ unfolding name_end pick
 name_end-past s at h d =
     rw (drop-cons s (at + 1) 0 h, d) (omega (arith, name_end-from (drop (suc (at + 1)) s) (at + 1 + 1)))
 
+-- a name's kind is one of the first three
+name_kind_in : (k : NameKind) → (1 ≤ name_kind k) × (name_kind k ≤ 3)
+name_kind_in N.Local = omega arith
+name_kind_in N.Global = omega arith
+name_kind_in N.Label = omega arith
+
 -- The words and the tokens of one byte have kinds from 4 to 37: none is a name or the end. --------------------------
 
 abbrev pub Plain : Option TokenValue → Type 0
@@ -198,10 +206,10 @@ pub record NamePast (n at line : ℕ) (m : Name) (c : Cursor) : Type 0 where
   pub name_place : m.place ≡ at
   pub name_end_lem : m.place + m.len ≡ c.place
   pub name_line : m.line.0 ≡ line
-  pub kind_from : 1 ≤ m.kind
-  pub kind_to : m.kind ≤ 3
+  pub kind_from : 1 ≤ name_kind m.kind
+  pub kind_to : name_kind m.kind ≤ 3
   -- a global or a label has a letter behind its sigil
-  pub lettered : 2 ≤ m.kind → 2 ≤ m.len
+  pub lettered : 2 ≤ name_kind m.kind → 2 ≤ m.len
 
 pub record TokenPast (n at line : ℕ) (t : Token) (c : Cursor) : Type 0 where
   pub on : at < c.place
@@ -275,10 +283,10 @@ module _ (s : List ℕ) (at line : ℕ) (h : at < length s) where
       (λ _. omega arith) (λ _. omega arith))
       (λ _. omega arith)
 
-  name-past : (kind : ℕ) → 1 ≤ kind → kind ≤ 3 → (2 ≤ kind → at + 2 ≤ name_end_at s at)
+  name-past : (kind : NameKind) → (2 ≤ name_kind kind → at + 2 ≤ name_end_at s at)
       → Past (length s) at line (name_at kind s at line)
   unfolding name_at
-  name-past kind k₁ k₃ second =
+  name-past kind second =
       let r = drop (at + 1) s in
       let from = name_end-from r (at + 1) in
       let to = name_end-to r (at + 1) in
@@ -290,16 +298,16 @@ module _ (s : List ℕ) (at line : ℕ) (h : at < length s) where
         name_place = refl;
         name_end_lem = omega arith;
         name_line = refl;
-        kind_from = k₁;
-        kind_to = k₃;
+        kind_from = (name_kind_in kind).0;
+        kind_to = (name_kind_in kind).1;
         lettered = λ k. omega (arith, second k);
       }
 
-  sigil_past : (kind : ℕ) → 1 ≤ kind → kind ≤ 3 → Past (length s) at line (sigil_at kind s at line)
+  sigil_past : (kind : NameKind) → Past (length s) at line (sigil_at kind s at line)
   unfolding sigil_at
-  sigil_past kind k₁ k₃ =
+  sigil_past kind =
       pick_either (Past (length s) at line) (is_letter (get_or s (at + 1) 0)) _ _
-      (λ e. name-past kind k₁ k₃ (λ _. name_end-past s at (letter_in s (at + 1) e) (letter_part (get_or s (at + 1) 0) e)))
+      (λ e. name-past kind (λ _. name_end-past s at (letter_in s (at + 1) e) (letter_part (get_or s (at + 1) 0) e)))
       (λ _. omega arith)
 
   word-past : Past (length s) at line (word_at s at line)
@@ -311,11 +319,11 @@ module _ (s : List ℕ) (at line : ℕ) (h : at < length s) where
 
       worded : (v : Option TokenValue) → Plain v
           → Past (length s) at line
-          (then_value v (λ v. Ok (L.Token (token v line at) (cursor end line))) (name_at 1 s at line))
+          (then_value v (λ v. Ok (L.Token (token v line at) (cursor end line))) (name_at N.Local s at line))
       worded (Some v) p =
           let r = drop (at + 1) s in
           omega (arith, name_end-from r (at + 1), name_end-to r (at + 1), left-from s (at + 1) (omega arith))
-      worded None p = name-past 1 (omega arith) (omega arith) (λ k. absurd (omega arith))
+      worded None p = name-past N.Local (λ k. absurd (omega arith))
 
   symbol-past : Past (length s) at line (symbol_at s at line)
   unfolding symbol_at then_value
@@ -334,8 +342,8 @@ module _ (s : List ℕ) (at line : ℕ) (h : at < length s) where
       let b = get_or s at 0 in
       let P = Past (length s) at line in
       pick_either P (eqb b 45) _ _ (λ _. minus_past) (λ _.
-      pick_either P (eqb b 64) _ _ (λ _. sigil_past 2 (omega arith) (omega arith)) (λ _.
-      pick_either P (eqb b 46) _ _ (λ _. sigil_past 3 (omega arith) (omega arith)) (λ _.
+      pick_either P (eqb b 64) _ _ (λ _. sigil_past N.Global) (λ _.
+      pick_either P (eqb b 46) _ _ (λ _. sigil_past N.Label) (λ _.
       pick_either P (is_digit b) _ _ (λ d. digit_past d) (λ _.
       pick_either P (is_letter b) _ _ (λ _. word-past) (λ _. symbol-past)))))
 

@@ -37,6 +37,11 @@ no_word_in (w ∷ ws) s e h =
     rw (other_length w.spelling s (h (length w.spelling) (leb-true _ _ low.0) (leb-true _ _ high.0)))
     (no_word_in ws s high.1 h)
 
+-- To unfold this is to unfold the words and the test of a part against them.
+unfoldable pub opened : ℕ
+unfolding words word_in same_bytes pick
+opened = 0
+
 -- a part as long as no word
 pub no_word : (s : List ℕ) → ((n : ℕ) → 2 ≤ n → n ≤ 5 → n ≡ length s → ⊥) → None ≡ word_in words s
 no_word s h = no_word_in words s words-sized h

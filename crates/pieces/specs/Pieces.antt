@@ -4,7 +4,6 @@ use Rattle.std.specs.Prelude.{ℕ, zero, suc, ◌+◌, ◌-◌, ◌*◌, ◌%◌
 use Rattle.std.specs.Prelude.{drop, Option, Some, None, Result, Ok, Err}
 use Rattle.std.proofs.Math.Seq.{slice}
 use Rattle.utils.specs.Bytes.{pick}
-use Rattle.pieces.specs.Kinds as K
 use Rattle.pieces.specs.Classes.{is_blank, is_digit, is_letter, is_name_part}
 use Rattle.pieces.specs.Tokens.{keyword, symbol}
 use Rattle.pieces.specs.declared.Cursor.{Cursor}
@@ -12,6 +11,8 @@ use Rattle.pieces.specs.declared.Token.{Token}
 use Rattle.pieces.specs.declared.TokenValue.{TokenValue}
 use Rattle.pieces.specs.declared.TokenValue.TheVariants as T
 use Rattle.pieces.specs.declared.Name.{Name}
+use Rattle.pieces.specs.declared.NameKind.{NameKind}
+use Rattle.pieces.specs.declared.NameKind.TheVariants as N
 use Rattle.pieces.specs.declared.Number.{Number}
 use Rattle.pieces.specs.declared.Refusal.{Refusal}
 use Rattle.pieces.specs.declared.Refusal.TheVariants as R
@@ -24,7 +25,7 @@ cursor place line = record { place = place; line = line }
 abbrev pub token : TokenValue → ℕ → ℕ → Token
 token v line place = record { value = v; line = record { 0 = line }; place = place }
 
-abbrev pub name : ℕ → ℕ → ℕ → ℕ → Name
+abbrev pub name : NameKind → ℕ → ℕ → ℕ → Name
 name kind place len line = record { kind = kind; place = place; len = len; line = record { 0 = line } }
 
 -- Each scan goes over what is left of the text, whose first byte stands at the place given.
@@ -102,13 +103,13 @@ minus_at s at line =
     pick (is_digit (get_or s (at + 1) 0)) (pick (leb n.value 2147483648) integer expected) expected
 
 -- A name from its first byte, its sigil with it, to its end. The kind is a local's, a global's or a label's.
-unfoldable pub name_at : ℕ → List ℕ → ℕ → ℕ → Result Lexed Refusal
+unfoldable pub name_at : NameKind → List ℕ → ℕ → ℕ → Result Lexed Refusal
 name_at kind s at line =
     let end = name_end_at s at in
     Ok (L.Name (name kind at (end - at) line) (cursor end line))
 
 -- `@` or `.` and a letter begin a global or label; the name keeps its sigil.
-unfoldable pub sigil_at : ℕ → List ℕ → ℕ → ℕ → Result Lexed Refusal
+unfoldable pub sigil_at : NameKind → List ℕ → ℕ → ℕ → Result Lexed Refusal
 sigil_at kind s at line =
     pick (is_letter (get_or s (at + 1) 0)) (name_at kind s at line)
     (Err (R.UnexpectedByte (get_or s at 0) (cursor at line)))
@@ -123,7 +124,7 @@ unfoldable pub word_at : List ℕ → ℕ → ℕ → Result Lexed Refusal
 word_at s at line =
     let end = name_end_at s at in
     then_value (keyword (slice at end s)) (λ v. Ok (L.Token (token v line at) (cursor end line)))
-    (name_at K.local s at line)
+    (name_at N.Local s at line)
 
 -- A token of one byte; any other byte is 3.
 unfoldable pub symbol_at : List ℕ → ℕ → ℕ → Result Lexed Refusal
@@ -136,8 +137,8 @@ unfoldable pub token_from : List ℕ → ℕ → ℕ → Result Lexed Refusal
 token_from s at line =
     let b = get_or s at 0 in
     pick (eqb b 45) (minus_at s at line)
-    (pick (eqb b 64) (sigil_at K.global s at line)
-    (pick (eqb b 46) (sigil_at K.label s at line)
+    (pick (eqb b 64) (sigil_at N.Global s at line)
+    (pick (eqb b 46) (sigil_at N.Label s at line)
     (pick (is_digit b) (digit_at s at line)
     (pick (is_letter b) (word_at s at line)
     (symbol_at s at line)))))

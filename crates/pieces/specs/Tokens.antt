@@ -6,6 +6,8 @@ use Rattle.utils.specs.Bytes.{pick, bytes, same_bytes}
 use Rattle.pieces.specs.declared.TokenValue.{TokenValue}
 use Rattle.pieces.specs.declared.TokenValue.TheVariants as T
 use Rattle.pieces.specs.declared.Kinded.{Kinded}
+use Rattle.pieces.specs.declared.NameKind.{NameKind}
+use Rattle.pieces.specs.declared.NameKind.TheVariants as N
 use Rattle.pieces.specs.declared.Token.{Token}
 
 -- The kind of a value, in the order of the Rust's enum. 0 is no kind: it fills unused room.
@@ -48,6 +50,12 @@ kind_of T.Print = 35
 kind_of T.Nop = 36
 kind_of T.Identity = 37
 kind_of T.EndOfFile = 38
+
+-- The kind of a name's token.
+abbrev pub name_kind : NameKind → ℕ
+name_kind N.Local = 1
+name_kind N.Global = 2
+name_kind N.Label = 3
 
 -- What a value carries: a name's number, an integer's 32 bits, or nothing.
 abbrev pub carried : TokenValue → ℕ

@@ -3,7 +3,7 @@ ghost use Rattle.std.specs.Prelude.{◌≡◌, ◌+◌, ◌-◌, ◌≤◌, ◌<
 ghost use Rattle.pieces.specs.Pieces.{cursor, token, name, slash_at, digit_at, minus_at, name_at, sigil_at, word_at, symbol_at};
 ghost use Rattle.pieces.specs.Pieces.{token_from};
 
-use crate::{Cursor, Lexed, Location, Name, Refusal, Token, TokenValue, kinds, scan, tokens};
+use crate::{Cursor, Lexed, Location, Name, NameKind, Refusal, Token, TokenValue, scan, tokens};
 
 // At a slash: a comment, or a byte that begins nothing.
 #[tactic(auto, unfolding(crate::specs::Pieces::slash_at, utils::specs::Bytes::pick))]
@@ -65,7 +65,7 @@ fn lex_minus(text: &[u8], at: Cursor) -> Result<Lexed, Refusal>
 }
 
 // A name from its first byte to its end.
-fn name_to(kind: u32, at: Cursor, end: usize) -> Lexed
+fn name_to(kind: NameKind, at: Cursor, end: usize) -> Lexed
     requires { at.place ≤ end }
     ensures { result ≡ Lexed.Name (name kind at.place (end - at.place) at.line) (cursor end at.line) }
 {
@@ -80,7 +80,7 @@ fn name_to(kind: u32, at: Cursor, end: usize) -> Lexed
 
 // From a name's first byte, a sigil or a letter, to its end.
 #[tactic(auto, unfolding(crate::specs::Pieces::name_at))]
-fn lex_name(kind: u32, text: &[u8], at: Cursor) -> Lexed
+fn lex_name(kind: NameKind, text: &[u8], at: Cursor) -> Lexed
     requires { at.place < length text.now }
     ensures { Ok result ≡ name_at kind text.now at.place at.line }
 {
@@ -90,7 +90,7 @@ fn lex_name(kind: u32, text: &[u8], at: Cursor) -> Lexed
 
 // At `@` or `.`, which a letter must follow.
 #[tactic(auto, unfolding(crate::specs::Pieces::sigil_at, utils::specs::Bytes::pick))]
-fn lex_sigil(kind: u32, text: &[u8], at: Cursor) -> Result<Lexed, Refusal>
+fn lex_sigil(kind: NameKind, text: &[u8], at: Cursor) -> Result<Lexed, Refusal>
     requires { at.place < length text.now }
     ensures { result ≡ sigil_at kind text.now at.place at.line }
 {
@@ -108,7 +108,7 @@ fn lex_word(text: &[u8], at: Cursor) -> Result<Lexed, Refusal>
     let end = scan::name_end(text, at.place + 1);
     match tokens::get_keyword(&text[at.place..end]) {
         Some(value) => Ok(token_to(value, at, end)),
-        None => Ok(name_to(kinds::LOCAL, at, end)),
+        None => Ok(name_to(NameKind::Local, at, end)),
     }
 }
 
@@ -133,8 +133,8 @@ pub(crate) fn lex_token(text: &[u8], at: Cursor) -> Result<Lexed, Refusal>
 {
     match text[at.place] {
         b'-' => lex_minus(text, at),
-        b'@' => lex_sigil(kinds::GLOBAL, text, at),
-        b'.' => lex_sigil(kinds::LABEL, text, at),
+        b'@' => lex_sigil(NameKind::Global, text, at),
+        b'.' => lex_sigil(NameKind::Label, text, at),
         b if scan::is_digit(b) => lex_digit(text, at),
         b if scan::is_letter(b) => lex_word(text, at),
         _ => lex_symbol(text, at),

@@ -80,10 +80,18 @@ pub struct Cursor {
     pub line: u32,
 }
 
-// A name that has no number yet. Its kind is 1 for a local, 2 for a global, 3 for a label.
+// What a name is of.
+#[derive(Clone, Copy)]
+pub enum NameKind {
+    Local,
+    Global,
+    Label,
+}
+
+// A name that has no number yet.
 #[derive(Clone, Copy)]
 pub struct Name {
-    pub kind: u32,
+    pub kind: NameKind,
     pub place: usize,
     pub len: usize,
     pub line: Location,

@@ -1,12 +1,12 @@
 // The classes of bytes, and the scans to the end of a comment, a number, a name.
-ghost use Rattle.std.specs.Prelude.{◌≡◌, true, false, ◌+◌, ◌-◌, ◌*◌, ◌≤◌, ◌<◌, drop, get_or};
+ghost use Rattle.std.specs.Prelude.{◌≡◌, true, false, ◌+◌, ◌-◌, ◌*◌, ◌≤◌, drop, get_or};
 ghost use Rattle.pieces.specs.Classes.{is_blank, is_digit, is_letter, is_name_part, is_ascii};
 ghost use Rattle.pieces.specs.Pieces.{line_end, closes, star_after, comment_end, name_end, number_at};
 ghost use Rattle.pieces.specs.Capped.{capped, capped_number};
 
 use crate::Number;
 
-#[tactic(auto, unfolding(crate::specs::Classes::is_blank, utils::specs::Bytes::pick), using(crate::proofs::Picked::tests))]
+#[tactic(auto, using(crate::proofs::Picked::tests), unfolding(crate::specs::Classes::is_blank))]
 pub(crate) fn is_blank(b: u8) -> bool
     ensures { result ≡ is_blank b }
 {
@@ -51,7 +51,7 @@ pub(crate) fn peek(text: &[u8], at: usize) -> u8
 }
 
 // The place after the newline that ends a comment, or the text's end.
-#[tactic(auto, unfolding(crate::specs::Pieces::line_end, utils::specs::Bytes::pick), using(crate::proofs::Picked::tests))]
+#[tactic(auto, unfolding(crate::specs::Pieces::line_end, utils::specs::Bytes::pick))]
 pub(crate) fn line_end(text: &[u8], at: usize) -> usize
     ensures { result ≡ line_end (drop at text.now) at }
 {

@@ -2,10 +2,10 @@
 ghost use Rattle.std.specs.Prelude.{◌≡◌, [], ◌∷◌, ◌+◌, ◌≤◌, length};
 ghost use Rattle.std.proofs.Math.Seq.{slice};
 ghost use Rattle.utils.specs.Bytes.{same_bytes};
-ghost use Rattle.pieces.specs.Tokens.{kinded_of, value_of};
+ghost use Rattle.pieces.specs.Tokens.{kinded_of, name_kind, value_of};
 ghost use Rattle.pieces.specs.Tokens.{word_in, keyword, symbol};
 
-use crate::{Identifier, Kinded, TokenValue, kinds};
+use crate::{Identifier, Kinded, NameKind, TokenValue, kinds};
 
 // A value of this kind that carries this.
 fn kinded(kind: u32, carried: u32) -> Kinded
@@ -110,6 +110,20 @@ impl From<Kinded> for TokenValue {
     }
 }
 
+impl NameKind {
+    // The value of a name's token.
+    #[tactic(auto, unfolding(crate::specs::Tokens::value_of, utils::specs::Bytes::pick))]
+    pub fn value(self, id: Identifier) -> TokenValue
+        ensures { result ≡ value_of (name_kind self) id.0 }
+    {
+        match self {
+            NameKind::Local => TokenValue::Local(id),
+            NameKind::Global => TokenValue::Global(id),
+            NameKind::Label => TokenValue::Label(id),
+        }
+    }
+}
+
 // Whether n bytes from i of one slice are those from j of another. From the back: names that are numbered differ there.
 pub fn same_bytes(a: &[u8], i: usize, b: &[u8], j: usize, n: usize) -> bool
     requires { (i + n ≤ length a.now) × (j + n ≤ length b.now) }
@@ -124,7 +138,7 @@ pub fn same_bytes(a: &[u8], i: usize, b: &[u8], j: usize, n: usize) -> bool
 }
 
 // The value of a word, where a part of the text is that word.
-#[tactic(auto, using(crate::proofs::Compare::pointwise_same), unfolding(crate::specs::Tokens::word_in, utils::specs::Bytes::pick))]
+#[tactic(auto, using(crate::proofs::Compare::pointwise_same), unfolding(crate::proofs::Words::opened))]
 fn only(part: &[u8], word: &[u8], value: TokenValue) -> Option<TokenValue>
     ensures { result
         ≡ word_in (record { spelling = word.now; value = value } ∷ []) part.now }
@@ -133,7 +147,7 @@ fn only(part: &[u8], word: &[u8], value: TokenValue) -> Option<TokenValue>
 }
 
 // The same of two words.
-#[tactic(auto, using(crate::proofs::Compare::pointwise_same), unfolding(crate::specs::Tokens::word_in, utils::specs::Bytes::pick))]
+#[tactic(auto, using(crate::proofs::Compare::pointwise_same), unfolding(crate::proofs::Words::opened))]
 fn either(
     part: &[u8],
     word: &[u8],
@@ -157,7 +171,7 @@ const SHORTEST: usize = 2;
 const LONGEST: usize = 5;
 
 // The value of a word of the language, or none. No three words share their first letter.
-#[tactic(auto, using(crate::proofs::Words::by_letter), unfolding(crate::specs::Tokens::words, crate::specs::Tokens::word_in, utils::specs::Bytes::same_bytes, utils::specs::Bytes::pick))]
+#[tactic(auto, using(crate::proofs::Words::by_letter), unfolding(crate::proofs::Words::opened))]
 pub(crate) fn get_keyword(part: &[u8]) -> Option<TokenValue>
     ensures { result ≡ keyword part.now }
 {

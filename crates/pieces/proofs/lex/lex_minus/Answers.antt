@@ -23,7 +23,8 @@ returns-then-n-le2147483648 c =
     number-low c.lex_number-n.result (number_at c.args.text.now (c.args.at.place + 1)) 2147483648 (omega arith)
     c.lex_number-n.ensures c.if-n-le2147483648.true in
     let bits : c.wrapping_neg-bits.result ≡ negated c.lex_number-n.result.value =
-    negated-by c.wrapping_neg-bits.result c.lex_number-n.result.value c.wrapping_neg-bits.ensures (omega arith) (omega arith) in
+    negated-by c.wrapping_neg-bits.result c.lex_number-n.result.value c.wrapping_neg-bits.ensures (omega arith)
+    (omega arith) in
     rw (c.token_to.ensures, ← c.peek.ensures, ← c.is_digit.ensures, c.if-not-is_digit.false, low.0, ← low.1, bits)
 
 pub returns : goal.returns
