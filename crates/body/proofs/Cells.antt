@@ -19,7 +19,7 @@ use Rattle.parser.specs.declared.Variable.{Variable}
 use Rattle.parser.specs.declared.Operation.{Operation}
 use Rattle.body.specs.Records.{record_of, items_cells, arguments_cells, arguments_count}
 use Rattle.body.specs.Room.{filled}
-use Rattle.body.specs.Turns.{added, closing, before_next, last_next, Taken}
+use Rattle.body.specs.Turns.{before_number, added, closing, before_next, last_next, Taken}
 use Rattle.body.specs.declared.Going.{Going}
 
 pub items_append : (used : ℕ) (xs ys : List Item)
@@ -139,19 +139,19 @@ ending_filled void before last = ends (lacks_ret void before) (lacks_operation v
 
 module _ {void : Bool} {i : Item} {s s' : Going} {items₀ items arguments₀ arguments : List ℕ}
     (t : Taken void i s s' items₀ items arguments₀ arguments) (is : List Item) where
-  closed_on : closed_from void s.before s.last (i ∷ is)
-      ≡ closing void s.before s.last i ++ closed_from void s'.before s'.last is
-  closed_on = rw (t.before_is, t.last_is) (closed_cons void s.before s.last i is)
+  closed_on : closed_from void (before_number s.before) s.last (i ∷ is)
+      ≡ closing void (before_number s.before) s.last i ++ closed_from void (before_number s'.before) s'.last is
+  closed_on = rw (t.before_is, t.last_is) (closed_cons void (before_number s.before) s.last i is)
 
-  pub items-on : sets items (s'.items * 8) (items_cells s'.arguments (closed_from void s'.before s'.last is))
-      ≡ sets items₀ (s.items * 8) (items_cells s.arguments (closed_from void s.before s.last (i ∷ is)))
+  pub items-on : sets items (s'.items * 8) (items_cells s'.arguments (closed_from void (before_number s'.before) s'.last is))
+      ≡ sets items₀ (s.items * 8) (items_cells s.arguments (closed_from void (before_number s.before) s.last (i ∷ is)))
   items-on =
-      let xs = closing void s.before s.last i in
-      let ys = closed_from void s'.before s'.last is in
+      let xs = closing void (before_number s.before) s.last i in
+      let ys = closed_from void (before_number s'.before) s'.last is in
       let n : s'.items * 8 ≡ s.items * 8 + length (items_cells s.arguments xs) =
       omega (arith, t.items_next, length-items s.arguments xs) in
       let u : s'.arguments ≡ s.arguments + arguments_count xs =
-      omega (arith, t.arguments_next, closing-count void s.before s.last i) in
+      omega (arith, t.arguments_next, closing-count void (before_number s.before) s.last i) in
       rw (closed_on, items_append s.arguments xs ys, t.items_are, n, u)
       (sym (sets_append (items_cells s.arguments xs) (items_cells (s.arguments + arguments_count xs) ys) items₀
       (s.items * 8)))
@@ -165,26 +165,26 @@ module _ {void : Bool} {i : Item} {s s' : Going} {items₀ items arguments₀ ar
       rw (t.arguments_are, n)
       (sym (sets_append (variables_cells (arguments_in i)) (arguments_cells is) arguments₀ (s.arguments * 2)))
 
-  pub items-count-on : s'.items + length (closed_from void s'.before s'.last is)
-      ≡ s.items + length (closed_from void s.before s.last (i ∷ is))
+  pub items-count-on : s'.items + length (closed_from void (before_number s'.before) s'.last is)
+      ≡ s.items + length (closed_from void (before_number s.before) s.last (i ∷ is))
   items-count-on =
       rw closed_on
       (omega (
         arith,
         t.items_next,
-        length-append (closing void s.before s.last i) (closed_from void s'.before s'.last is),
+        length-append (closing void (before_number s.before) s.last i) (closed_from void (before_number s'.before) s'.last is),
       ))
 
   pub arguments_count-on : s'.arguments + arguments_count is ≡ s.arguments + arguments_count (i ∷ is)
   unfolding arguments_count
   arguments_count-on = omega (arith, t.arguments_next)
 
-  pub blocks-on : started s.before i + filled (fresh s'.before)
-      (shapes_of (closed_from void s'.before s'.last is))
-      ≡ filled (fresh s.before) (shapes_of (closed_from void s.before s.last (i ∷ is)))
+  pub blocks-on : started (before_number s.before) i + filled (fresh (before_number s'.before))
+      (shapes_of (closed_from void (before_number s'.before) s'.last is))
+      ≡ filled (fresh (before_number s.before)) (shapes_of (closed_from void (before_number s.before) s.last (i ∷ is)))
   blocks-on =
       rw (closed_on, t.before_is, t.last_is)
-      (sym (closing-filled void s.before s.last i (closed_from void (before_next i) (last_next s.last i) is)))
+      (sym (closing-filled void (before_number s.before) s.last i (closed_from void (before_next i) (last_next s.last i) is)))
 
 module _ (i : Item) (is : List Item) (n n' : ℕ) (next : n' ≡ n + length (labels_of (i ∷ []))) where
   pub labels-on : (labels labels' : List ℕ) → labels' ≡ sets labels n (labels_of (i ∷ []))

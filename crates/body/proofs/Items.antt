@@ -1,13 +1,14 @@
 -- From what the calls gave to an item: its record, its run of arguments, and what stands behind it.
 use Rattle.std.specs.Prelude.{Err, Ok, Result}
-use Prim.Native.Nat.{ℕ, ◌+◌}
-use mathlib.Core.Path.{◌≡◌, refl, ◌∙◌}
+use Prim.Native.Nat.{ℕ, ◌+◌, ◌*◌}
+use mathlib.Core.Path.{◌≡◌, refl, ap, ◌∙◌}
 use mathlib.Core.Bool.{Bool}
 use mathlib.Core.List.{List, [], ◌∷◌}
 use native.Mathlib.Omega.{arith}
 use borrow.Author.Tests.{eq-eqb, ne_eqb}
 use lib.Dec.{eqb}
 use lib.ListN.{length}
+use lib.Seq.{sets}
 use Rattle.pieces.specs.declared.Identifier.{Identifier}
 use Rattle.utils.specs.Bytes.{pick}
 use Rattle.lexer.specs.Decoded.{Tok}
@@ -20,11 +21,13 @@ use Rattle.parser.specs.declared.Refusal.{Refusal}
 use Rattle.parser.specs.declared.Operation.{Operation}
 use Rattle.parser.specs.declared.Operation.TheVariants as O
 use Rattle.parser.specs.declared.Variable.{Variable}
-use Rattle.body.specs.Records.{none, operation_record, record_of, items_cells}
+use Rattle.body.specs.Records.{none, operation_record, record_of, record_cells, items_cells}
 use Rattle.body.specs.Room.{Within}
-use Rattle.body.specs.Turns.{item_read, Put, ItemHeld, call_record, call_read, CallHeld, late_refusal}
+use Rattle.body.specs.Turns.{before_number, item_read, ItemHeld, call_record, call_read, late_refusal}
 use Rattle.body.specs.Turns.{behind_kind, closing, before_next, last_next, item_then, ItemTaken}
 use Rattle.body.specs.declared.ItemRead.{ItemRead}
+use Rattle.body.specs.declared.Before.{Before}
+use Rattle.body.specs.declared.Before.TheVariants as B
 use Rattle.body.specs.declared.Going.{Going}
 use Rattle.body.proofs.Progress.{Operates, ItemOn, item_in}
 
@@ -53,38 +56,32 @@ pub called-refused : (c : Calling) {r : Refusal} → Err r ≡ called_of c → c
 unfolding called_of
 called-refused c h = ended-refused c.arguments.end c.callee (length c.arguments.list) h
 
-called_item_lem : (n used : ℕ) (i : Item) (e : Result ℕ Refusal) (items₀ items arguments₀ arguments : List ℕ)
-    → CallHeld n used (record_of used i) (variables_cells (arguments_in i)) items₀ items arguments₀ arguments e
+called_item_lem : (used : ℕ) (i : Item) (e : Result ℕ Refusal) (arguments₀ arguments : List ℕ)
+    → arguments ≡ sets arguments₀ (used * 2) (variables_cells (arguments_in i))
     → (then_at Err e (λ next.
     Ok (record { item = record_of used i; arguments = used + length (arguments_in i); next = next }))
     ≡ item_read used (then_at refused e (λ at. item i at)))
-    × ItemHeld n used items₀ items arguments₀ arguments (then_at refused e (λ at. item i at))
+    × ItemHeld used arguments₀ arguments (then_at refused e (λ at. item i at))
 unfolding then_at item_read
-called_item_lem n used i (Ok next) items₀ items arguments₀ arguments h = (refl, h)
-called_item_lem n used i (Err e) items₀ items arguments₀ arguments h = (refl, tt)
+called_item_lem used i (Ok next) arguments₀ arguments h = (refl, h)
+called_item_lem used i (Err e) arguments₀ arguments h = (refl, tt)
 
-pub call-item : (w n used : ℕ) (c : Calling) (items₀ items arguments₀ arguments : List ℕ)
-    → CallHeld n used (call_record 5 w none 0 used c)
-    (variables_cells c.arguments.list) items₀ items arguments₀ arguments
-    c.arguments.end
+pub call-item : (w used : ℕ) (c : Calling) (arguments₀ arguments : List ℕ)
+    → arguments ≡ sets arguments₀ (used * 2) (variables_cells c.arguments.list)
     → (call_read 5 w none 0 used c ≡ item_read used (called_item c (λ g xs. call w g xs)))
-    × ItemHeld n used items₀ items arguments₀ arguments (called_item c (λ g xs. call w g xs))
+    × ItemHeld used arguments₀ arguments (called_item c (λ g xs. call w g xs))
 unfolding call_read called_item record_of
-call-item w n used c items₀ items arguments₀ arguments h =
-    called_item_lem n used (call w c.callee c.arguments.list) c.arguments.end items₀ items arguments₀ arguments h
+call-item w used c arguments₀ arguments h =
+    called_item_lem used (call w c.callee c.arguments.list) c.arguments.end arguments₀ arguments h
 
-pub call_into-item : (w n used : ℕ) (v : Variable) (t : ℕ) (c : Calling) (items₀ items arguments₀ arguments : List ℕ)
+pub call_into-item : (w used : ℕ) (v : Variable) (t : ℕ) (c : Calling) (arguments₀ arguments : List ℕ)
     → call_record 6 w v.id t used c ≡ record_of used (call_into w v c.callee c.arguments.list)
-    → CallHeld n used (call_record 6 w v.id t used c) (variables_cells c.arguments.list) items₀ items arguments₀
-    arguments c.arguments.end
+    → arguments ≡ sets arguments₀ (used * 2) (variables_cells c.arguments.list)
     → (call_read 6 w v.id t used c ≡ item_read used (called_item c (λ g xs. call_into w v g xs)))
-    × ItemHeld n used items₀ items arguments₀ arguments (called_item c (λ g xs. call_into w v g xs))
+    × ItemHeld used arguments₀ arguments (called_item c (λ g xs. call_into w v g xs))
 unfolding call_read called_item
-call_into-item w n used v t c items₀ items arguments₀ arguments q h =
-    rw q
-    (called_item_lem n used (call_into w v c.callee c.arguments.list)
-    c.arguments.end items₀ items arguments₀ arguments
-    (rw q at h))
+call_into-item w used v t c arguments₀ arguments q h =
+    rw q (called_item_lem used (call_into w v c.callee c.arguments.list) c.arguments.end arguments₀ arguments h)
 
 -- What an answer says. ----------------------------------------------------------------------------------------------
 
@@ -93,22 +90,19 @@ unfolding item_read
 read-refused used (item i next) h = absurd (let z : ◌≡◌ {A = ℕ} 0 1 = cc in omega arith)
 read-refused used (refused r) h = cc
 
-pub record Read (n used : ℕ) (r : ItemRead) (d : ItemAt)
-    (items₀ items arguments₀ arguments : List ℕ) : Type 0 where
+pub record Read (used : ℕ) (r : ItemRead) (d : ItemAt) (arguments₀ arguments : List ℕ) : Type 0 where
   pub read : Item
   pub is : d ≡ item read r.next
   pub record_is : r.item ≡ record_of used read
   pub then_is : r.arguments ≡ used + length (arguments_in read)
-  pub put : Put n used (record_of used read) (variables_cells (arguments_in read)) items₀ items arguments₀ arguments
+  pub stored : arguments ≡ sets arguments₀ (used * 2) (variables_cells (arguments_in read))
 
-pub read_done : (n used : ℕ) (d : ItemAt) {r : ItemRead} (items₀ items arguments₀ arguments : List ℕ)
-    → Ok r ≡ item_read used d → ItemHeld n used items₀ items arguments₀ arguments d
-    → Read n used r d items₀ items arguments₀ arguments
+pub read_done : (used : ℕ) (d : ItemAt) {r : ItemRead} (arguments₀ arguments : List ℕ)
+    → Ok r ≡ item_read used d → ItemHeld used arguments₀ arguments d → Read used r d arguments₀ arguments
 unfolding item_read
-read_done n used (item i at) items₀ items arguments₀ arguments h k = record
-    { read = i; is = cc; record_is = cc; then_is = cc; put = k }
-read_done n used (refused r) items₀ items arguments₀ arguments h k = absurd
-    (let z : ◌≡◌ {A = ℕ} 0 1 = cc in omega arith)
+read_done used (item i at) arguments₀ arguments h k =
+    record { read = i; is = cc; record_is = cc; then_is = cc; stored = k }
+read_done used (refused r) arguments₀ arguments h k = absurd (let z : ◌≡◌ {A = ℕ} 0 1 = cc in omega arith)
 
 -- What a record says of its operation. ------------------------------------------------------------------------------
 
@@ -124,7 +118,7 @@ operation_token_lem (O.RetValue w x) = refl
 operation_token_lem (O.Print w x) = refl
 operation_token_lem (O.Nop w) = refl
 
-operation-behind : (o : Operation) → behind_kind (operation_record o).kind ≡ behind (plain o)
+operation-behind : (o : Operation) → before_number (behind_kind (operation_record o).kind) ≡ behind (plain o)
 unfolding operation_record behind_kind behind pick
 operation-behind (O.BinaryOp w v x y) = refl
 operation-behind (O.UnaryOp w v x) = refl
@@ -145,7 +139,7 @@ record_token used (call_into w v g xs) = refl
 
 -- what the state needs of an item that is no label
 record Operated (void : Bool) (used before last : ℕ) (i : Item) : Type 0 where
-  kind : behind_kind (record_of used i).kind ≡ before_next i
+  kind : before_number (behind_kind (record_of used i).kind) ≡ before_next i
   same : before_next i ≡ behind i
   none : labels_of (i ∷ []) ≡ []
   one : closing void before last i ≡ i ∷ []
@@ -186,20 +180,26 @@ module _ (ts : List Tok) (before at : ℕ) where
   unfolding item_then then_item pick
   item-goes i next q h k = rw (q, ne_eqb before 3 h)
 
+pub terminator_number : (b : Before) → before_number b ≡ 3 → b ≡ B.Terminator
+terminator_number B.Brace h = absurd (omega (arith, h))
+terminator_number B.Label h = absurd (omega (arith, h))
+terminator_number B.Operation h = absurd (omega (arith, h))
+terminator_number B.Terminator h = refl
+
 pub item-taken : (ts : List Tok) (void : Bool) (s s' : Going) (i : Item) (items₀ items arguments₀ arguments : List ℕ)
-    → Within ts s.at → item_d ts s.at ≡ item i s'.at → (s.before ≡ 3 → ⊥)
+    → Within ts s.at → item_d ts s.at ≡ item i s'.at → ((before_number s.before) ≡ 3 → ⊥)
     → s'.items ≡ s.items + 1 → s'.arguments ≡ s.arguments + length (arguments_in i) → s'.labels ≡ s.labels
     → s'.before ≡ behind_kind (record_of s.arguments i).kind → s'.last ≡ (record_of s.arguments i).token
-    → Put s.items s.arguments (record_of s.arguments i)
-    (variables_cells (arguments_in i)) items₀ items arguments₀ arguments
+    → items ≡ sets items₀ (s.items * 8) (record_cells (record_of s.arguments i))
+    → arguments ≡ sets arguments₀ (s.arguments * 2) (variables_cells (arguments_in i))
     → ItemTaken ts void s s' items₀ items arguments₀ arguments
 unfolding items_cells
-item-taken ts void s s' i items₀ items arguments₀ arguments w q late n used labels before last p =
+item-taken ts void s s' i items₀ items arguments₀ arguments w q late n used labels before last p r =
     let on : ItemOn s.at w.last s'.at i = rw q at (item_in ts w.last w.ends s.at w.reached) in
-    let o = operated void s.arguments s.before s.last i on.operates in
+    let o = operated void s.arguments (before_number s.before) s.last i on.operates in
     record {
       read = i;
-      goes = item-goes ts s.before s.at i s'.at q late;
+      goes = item-goes ts (before_number s.before) s.at i s'.at q late;
       before_same = o.same;
       no_label = o.none;
       labels_next = labels;
@@ -213,9 +213,9 @@ item-taken ts void s s' i items₀ items arguments₀ arguments w q late n used 
           record {
             items_next = rw o.one n;
             arguments_next = used;
-            before_is = before ∙ o.kind;
+            before_is = ap before_number before ∙ o.kind;
             last_is = last ∙ o.token;
-            items_are = rw o.one p.items_are;
-            arguments_are = p.arguments_are;
+            items_are = rw o.one p;
+            arguments_are = r;
           };
     }

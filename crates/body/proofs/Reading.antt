@@ -17,7 +17,8 @@ use Rattle.parser.specs.declared.Refusal.{Refusal}
 use Rattle.body.specs.Records.{items_cells, arguments_cells, arguments_count}
 use Rattle.body.specs.Room.{Within, filled}
 use Rattle.body.specs.Answer.{function_body, body_read, Stored, Held}
-use Rattle.body.specs.Turns.{added, Ready, body_from, Gone, Ended}
+use Rattle.body.specs.Turns.{before_number, added, Ready, body_from, Gone, Ended}
+use Rattle.body.specs.declared.Before.TheVariants as B
 use Rattle.body.specs.declared.Closed.{Closed}
 use Rattle.body.specs.declared.Going.{Going}
 use Rattle.body.proofs.Cells.{fresh, started, items-on, arguments-on, items-count-on, arguments_count-on}
@@ -35,29 +36,29 @@ pub record Reading (ts : List Tok) (void : Bool) (at first used : ℕ) (whole : 
   pub fuel : 4096 ≤ room + s.at
   pub ends : (body_from ts room s labels).end ≡ whole.end
   pub items-rest : sets items (s.items * 8)
-      (items_cells s.arguments (closed_from void s.before s.last (body_from ts room s labels).items))
+      (items_cells s.arguments (closed_from void (before_number s.before) s.last (body_from ts room s labels).items))
       ≡ sets items₀ (first * 8) (items_cells used (closed_items void whole.items))
   pub arguments-rest : sets arguments (s.arguments * 2) (arguments_cells (body_from ts room s labels).items)
       ≡ sets arguments₀ (used * 2) (arguments_cells whole.items)
   pub labels-rest : sets labels s.labels (labels_of (body_from ts room s labels).items)
       ≡ sets labels₀ 0 (labels_of whole.items)
-  pub items-count : s.items + length (closed_from void s.before s.last (body_from ts room s labels).items)
+  pub items-count : s.items + length (closed_from void (before_number s.before) s.last (body_from ts room s labels).items)
       ≡ first + length (closed_items void whole.items)
   pub arguments_count_lem : s.arguments + arguments_count (body_from ts room s labels).items
       ≡ used + arguments_count whole.items
   pub labels-count : s.labels + length (labels_of (body_from ts room s labels).items) ≡ length (labels_of whole.items)
   pub blocks-count : blocks
-      + filled (fresh s.before) (shapes_of (closed_from void s.before s.last (body_from ts room s labels).items))
+      + filled (fresh (before_number s.before)) (shapes_of (closed_from void (before_number s.before) s.last (body_from ts room s labels).items))
       ≡ filled true (shapes_of (closed_items void whole.items))
   pub items_few : at * 3 + s.items * 4 ≤ s.at * 3 + first * 4
-  pub items_spared : s.before ≡ 2 → at * 3 + s.items * 4 + 2 ≤ s.at * 3 + first * 4
+  pub items_spared : before_number s.before ≡ 2 → at * 3 + s.items * 4 + 2 ≤ s.at * 3 + first * 4
   pub arguments_few : at * 16 + s.arguments * 19 ≤ s.at * 16 + used * 19
   pub labels_few : s.labels ≤ 255
   pub blocks_few : at + blocks * 4 ≤ s.at + 2
-  pub blocks_spared : s.before ≤ 1 → at + blocks * 4 ≤ s.at
+  pub blocks_spared : before_number s.before ≤ 1 → at + blocks * 4 ≤ s.at
 
 abbrev pub beginning : ℕ → ℕ → ℕ → Going
-beginning at first used = record { at = at; items = first; arguments = used; labels = 0; before = 0; last = 0 }
+beginning at first used = record { at = at; items = first; arguments = used; labels = 0; before = B.Brace; last = 0 }
 
 pub begin : (ts : List Tok) (void : Bool) (at first used : ℕ) (items arguments labels : List ℕ) → Within ts at
     → Reading ts void at first used (function_body ts at) items arguments labels
@@ -142,12 +143,12 @@ module _ {ts : List Tok} {void : Bool} {at first used : ℕ} {whole : Body} {ite
         let t = g.taken in
         let go = g.goes room in
         let few =
-        items-few-on void s.last i s.before s.items (at * 3) s.at s'.at (first * 4) v.items_few
+        items-few-on void s.last i (before_number s.before) s.items (at * 3) s.at s'.at (first * 4) v.items_few
         v.items_spared g.passed.two in
         let begun =
-        blocks-few-on i s.before blocks at s.at s'.at v.blocks_few v.blocks_spared g.passed.two in (
+        blocks-few-on i (before_number s.before) blocks at s.at s'.at v.blocks_few v.blocks_spared g.passed.two in (
           room,
-          blocks + started s.before i,
+          blocks + started (before_number s.before) i,
           record {
             within = g.passed.within;
             long-items = rw (t.items_are, length-sets) v.long-items;
@@ -192,17 +193,17 @@ module _ {ts : List Tok} {void : Bool} {at first used : ℕ} {whole : Body} {ite
     finish zero blocks v g = absurd (omega (arith, roomy v))
     finish (suc room) blocks {e} v g =
         let go = g.goes room in
-        let lacks = lacks_ret void s.before in
+        let lacks = lacks_ret void (before_number s.before) in
         let n : s.items + length (added lacks s.last) ≡ first + length (closed_items void whole.items) =
         rw go at v.items-count in
         let m : s.arguments + 0 ≡ used + arguments_count whole.items = rw go at v.arguments_count_lem in
         let l : s.labels + 0 ≡ length (labels_of whole.items) = rw go at v.labels-count in
-        let b : blocks + filled (fresh s.before) (shapes_of (added lacks s.last))
+        let b : blocks + filled (fresh (before_number s.before)) (shapes_of (added lacks s.last))
         ≡ filled true (shapes_of (closed_items void whole.items)) =
         rw go at v.blocks-count in
         let few =
-        ending_few lacks s.last s.before s.items (at * 3) s.at e.next (first * 4)
-        (lacks_operation void s.before) v.items_few v.items_spared g.one in (
+        ending_few lacks s.last (before_number s.before) s.items (at * 3) s.at e.next (first * 4)
+        (lacks_operation void (before_number s.before)) v.items_few v.items_spared g.one in (
           sym (rw go at v.ends),
           omega (arith, g.items_next),
           omega (arith, g.arguments_next),
@@ -217,7 +218,7 @@ module _ {ts : List Tok} {void : Bool} {at first used : ℕ} {whole : Body} {ite
                 record {
                   items_few = omega (arith, few, n);
                   arguments_few = omega (arith, v.arguments_few, g.one);
-                  blocks_few = omega (arith, b, ending_filled void s.before s.last, v.blocks_few, g.one);
+                  blocks_few = omega (arith, b, ending_filled void (before_number s.before) s.last, v.blocks_few, g.one);
                 };
           },
         )

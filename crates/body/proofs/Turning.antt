@@ -21,10 +21,10 @@ use Rattle.parser.specs.Step.{opened}
 use Rattle.parser.specs.Runs.{variables_cells}
 use Rattle.parser.specs.Labels.{labelled_d}
 use Rattle.body.specs.Body.{label, body_d, body_then, closes, behind, labels_of, lacks_ret}
-use Rattle.body.specs.Records.{none, item_record, record_of, record_cells, items_cells, arguments_count}
+use Rattle.body.specs.Records.{none, item_record, record_of, record_cells, items_cells}
 use Rattle.body.specs.declared.Last.TheVariants as L
 use Rattle.body.specs.Room.{Within}
-use Rattle.body.specs.Turns.{added, closing, before_next, last_next, item_then, Ready, ItemTurned}
+use Rattle.body.specs.Turns.{before_number, added, closing, before_next, last_next, item_then, Ready, ItemTurned}
 use Rattle.body.specs.Turns.{behind_label, label_put, LabelTaken, LabelTurned, Ended, Turned}
 use Rattle.body.specs.declared.Closed.{Closed}
 use Rattle.body.specs.declared.Going.{Going}
@@ -39,11 +39,6 @@ pub added_short : (t : Bool) (last : ℕ) → length (added t last) ≤ 1
 unfolding added pick
 added_short true last = omega arith
 added_short false last = omega arith
-
-added_none : (t : Bool) (last : ℕ) → arguments_count (added t last) ≡ 0
-unfolding added pick arguments_count
-added_none true last = refl
-added_none false last = refl
 
 module _ (ts : List Tok) (void : Bool) (s : Going) {l : Identifier} {next : ℕ} (labels₀ : List ℕ) (g : Ready ts s)
     (long : 255 ≤ length labels₀) {r : Result (Identifier × ℕ) Refusal} (e : r ≡ labelled_d ts (take s.labels labels₀) s.at)
@@ -76,7 +71,7 @@ module _ (ts : List Tok) (void : Bool) (s : Going) {l : Identifier} {next : ℕ}
     unfolding closing items_cells record_of variables_cells before_next last_next
     at_label items₀ =
         let w = g.within in
-        let t = lacks_ret void s.before in
+        let t = lacks_ret void (before_number s.before) in
         let xs = added t s.last in
         let m : (s.items + length xs) * 8 ≡ s.items * 8 + length (items_cells s.arguments xs) =
         omega (arith, length-items s.arguments xs) in
@@ -126,15 +121,15 @@ closes_kind before kind =
     (λ t h. absurd (let z : ◌≡◌ {A = ℕ} 0 1 = cc in omega arith)) (λ t h. eqb-true kind 28 h)
 
 pub body_ended : (ts : List Tok) (void : Bool) (s : Going) (e : Closed) (items₀ items arguments labels : List ℕ)
-    → Within ts s.at → closes s.before (token_at ts s.at).kind ≡ true
+    → Within ts s.at → closes (before_number s.before) (token_at ts s.at).kind ≡ true
     → e.next ≡ (token_at ts s.at).next
-    → e.items ≡ s.items + length (added (lacks_ret void s.before) s.last)
+    → e.items ≡ s.items + length (added (lacks_ret void (before_number s.before)) s.last)
     → e.arguments ≡ s.arguments → e.labels ≡ s.labels
-    → items ≡ sets items₀ (s.items * 8) (items_cells 0 (added (lacks_ret void s.before) s.last))
+    → items ≡ sets items₀ (s.items * 8) (items_cells 0 (added (lacks_ret void (before_number s.before)) s.last))
     → Ended ts void s e items₀ items arguments arguments labels labels
 unfolding body_d opened
 body_ended ts void s e items₀ items arguments labels w h next n used count f =
-    let k = closes_kind s.before (token_at ts s.at).kind h in
+    let k = closes_kind (before_number s.before) (token_at ts s.at).kind h in
     let m = moves ts w.last w.ends s.at w.reached (λ z. omega (arith, z, k)) in
     let one : e.next ≡ s.at + 1 = next ∙ m.0 in
     record {
@@ -145,7 +140,7 @@ body_ended ts void s e items₀ items arguments labels w h next n used count f =
       arguments_next = used;
       labels_next = count;
       items_are = f ∙ ap (sets items₀ (s.items * 8))
-          (added_cells_lem (lacks_ret void s.before) s.last s.arguments);
+          (added_cells_lem (lacks_ret void (before_number s.before)) s.last s.arguments);
       arguments_are = refl;
       labels_are = refl;
     }
@@ -153,7 +148,7 @@ body_ended ts void s e items₀ items arguments labels w h next n used count f =
 -- The body from a state on. -----------------------------------------------------------------------------------------
 
 module _ (ts : List Tok) (void : Bool) (s : Going) (items₀ items labels₀ : List ℕ)
-    (goes_on : closes s.before (token_at ts s.at).kind ≡ false) (few : s.labels ≤ 255)
+    (goes_on : closes (before_number s.before) (token_at ts s.at).kind ≡ false) (few : s.labels ≤ 255)
     (long : 255 ≤ length labels₀) where
   pub label_turned : (r : Result Turn Refusal) (arguments labels : List ℕ) → eqb (token_at ts s.at).kind 3 ≡ true
       → LabelTurned ts void s items₀ items labels₀ labels r

@@ -13,13 +13,16 @@ use Rattle.parser.specs.Runs.{Calling, variables_cells}
 use Rattle.parser.specs.Labels.{labelled_d}
 use Rattle.body.specs.Body.{Item, label, plain, call, call_into, operation_token, item_token, arguments_in}
 use Rattle.body.specs.Body.{ItemAt, item, refused, then_item, item_d, Body, body_end, body_stop, body_then, body_d}
-use Rattle.body.specs.Body.{after_label, after_operation, after_terminator, behind, labels_of, ret, lacks_ret}
+use Rattle.body.specs.Body.{after_brace, after_label, after_operation, after_terminator, behind, labels_of, ret}
+use Rattle.body.specs.Body.{lacks_ret}
 use Rattle.parser.specs.declared.Refusal.{Refusal}
 use Rattle.body.specs.Records.{none, item_record, record_of, record_cells, items_cells}
 use Rattle.body.specs.Room.{Within}
 use Rattle.body.specs.declared.ItemRecord.{ItemRecord}
 use Rattle.body.specs.declared.Last.TheVariants as L
 use Rattle.body.specs.declared.ItemRead.{ItemRead}
+use Rattle.body.specs.declared.Before.{Before}
+use Rattle.body.specs.declared.Before.TheVariants as B
 use Rattle.body.specs.declared.Closed.{Closed}
 use Rattle.body.specs.declared.Going.{Going}
 use Rattle.body.specs.declared.Turn.{Turn}
@@ -33,16 +36,11 @@ item_read used (item i next) =
     Ok (record { item = record_of used i; arguments = used + length (arguments_in i); next = next })
 item_read used (refused e) = Err e
 
--- a record stored at index n and a run of arguments from `used` on
-pub record Put (n used : ℕ) (r : ItemRecord) (run items₀ items arguments₀ arguments : List ℕ) : Type 0 where
-  pub items_are : items ≡ sets items₀ (n * 8) (record_cells r)
-  pub arguments_are : arguments ≡ sets arguments₀ (used * 2) run
-
--- what an item leaves in the cells; a refusal says nothing of them
-abbrev pub ItemHeld : ℕ → ℕ → List ℕ → List ℕ → List ℕ → List ℕ → ItemAt → Type 0
-ItemHeld n used items₀ items arguments₀ arguments (item i next) =
-    Put n used (record_of used i) (variables_cells (arguments_in i)) items₀ items arguments₀ arguments
-ItemHeld n used items₀ items arguments₀ arguments (refused e) = Unit
+-- the arguments that an item leaves in the cells; a refusal says nothing of them
+abbrev pub ItemHeld : ℕ → List ℕ → List ℕ → ItemAt → Type 0
+ItemHeld used arguments₀ arguments (item i next) =
+    arguments ≡ sets arguments₀ (used * 2) (variables_cells (arguments_in i))
+ItemHeld used arguments₀ arguments (refused e) = Unit
 
 -- a call's record, from its kind, its word, its result and the result's type
 abbrev pub call_record : ℕ → ℕ → Identifier → ℕ → ℕ → Calling → ItemRecord
@@ -58,18 +56,21 @@ call_read kind word dest dty used c =
       next = next;
     }))
 
-abbrev pub CallHeld : ℕ → ℕ → ItemRecord → List ℕ → List ℕ → List ℕ → List ℕ → List ℕ → Result ℕ Refusal → Type 0
-CallHeld n used r run items₀ items arguments₀ arguments (Ok next) = Put n used r run items₀ items arguments₀ arguments
-CallHeld n used r run items₀ items arguments₀ arguments (Err e) = Unit
-
 -- behind a terminator: its own refusal, or 12 with the operation's token
 abbrev pub late_refusal : Result ItemRead Refusal → Refusal
 late_refusal (Ok read) = refusal 12 read.item.token 0
 late_refusal (Err e) = e
 
+-- what stands before an item, as `body_d` numbers it
+abbrev pub before_number : Before → ℕ
+before_number B.Brace = after_brace
+before_number B.Label = after_label
+before_number B.Operation = after_operation
+before_number B.Terminator = after_terminator
+
 -- what stands behind an operation, by its record's kind
-unfoldable pub behind_kind : ℕ → ℕ
-behind_kind kind = pick (leb K.jump kind) after_terminator after_operation
+unfoldable pub behind_kind : ℕ → Before
+behind_kind kind = pick (leb K.jump kind) B.Terminator B.Operation
 
 -- The state. --------------------------------------------------------------------------------------------------------
 
@@ -114,11 +115,11 @@ pub record Passed (ts : List Tok) (at next : ℕ) (i : Item) : Type 0 where
 
 -- the state behind an item, and the cells
 pub record Taken (void : Bool) (i : Item) (s s' : Going) (items₀ items arguments₀ arguments : List ℕ) : Type 0 where
-  pub items_next : s'.items ≡ s.items + length (closing void s.before s.last i)
+  pub items_next : s'.items ≡ s.items + length (closing void (before_number s.before) s.last i)
   pub arguments_next : s'.arguments ≡ s.arguments + length (arguments_in i)
-  pub before_is : s'.before ≡ before_next i
+  pub before_is : before_number s'.before ≡ before_next i
   pub last_is : s'.last ≡ last_next s.last i
-  pub items_are : items ≡ sets items₀ (s.items * 8) (items_cells s.arguments (closing void s.before s.last i))
+  pub items_are : items ≡ sets items₀ (s.items * 8) (items_cells s.arguments (closing void (before_number s.before) s.last i))
   pub arguments_are : arguments ≡ sets arguments₀ (s.arguments * 2) (variables_cells (arguments_in i))
 
 -- an operation, then 12 behind a terminator
@@ -130,7 +131,7 @@ item_then ts before at k =
 pub record ItemTaken (ts : List Tok) (void : Bool) (s s' : Going)
     (items₀ items arguments₀ arguments : List ℕ) : Type 0 where
   pub read : Item
-  pub goes : (k : Item → ℕ → Body) → item_then ts s.before s.at k ≡ k read s'.at
+  pub goes : (k : Item → ℕ → Body) → item_then ts (before_number s.before) s.at k ≡ k read s'.at
   pub before_same : before_next read ≡ behind read
   pub no_label : labels_of (read ∷ []) ≡ []
   pub labels_next : s'.labels ≡ s.labels
@@ -142,23 +143,23 @@ ItemTurned ts s items₀ items arguments₀ arguments (Ok (T.On s')) =
     (void : Bool) → ItemTaken ts void s s' items₀ items arguments₀ arguments
 ItemTurned ts s items₀ items arguments₀ arguments (Ok (T.Done e)) = ⊥
 ItemTurned ts s items₀ items arguments₀ arguments (Err e) =
-    (k : Item → ℕ → Body) → item_then ts s.before s.at k ≡ body_stop e
+    (k : Item → ℕ → Body) → item_then ts (before_number s.before) s.at k ≡ body_stop e
 
 -- the state behind a label, and the items: the `ret` that the block before it may lack, and the label's record
 abbrev pub behind_label : Bool → Going → ℕ → Going
 behind_label void s next =
     record {
       at = next;
-      items = s.items + length (added (lacks_ret void s.before) s.last) + 1;
+      items = s.items + length (added (lacks_ret void (before_number s.before)) s.last) + 1;
       arguments = s.arguments;
       labels = s.labels + 1;
-      before = after_label;
+      before = B.Label;
       last = s.last;
     }
 
 abbrev pub label_put : Bool → Going → Identifier → List ℕ → List ℕ
 label_put void s l items =
-    let ret = added (lacks_ret void s.before) s.last in
+    let ret = added (lacks_ret void (before_number s.before)) s.last in
     sets (sets items (s.items * 8) (items_cells 0 ret)) ((s.items + length ret) * 8)
     (record_cells (item_record K.label s.at none 0 none 0 (L.Name l 0)))
 
@@ -179,7 +180,7 @@ LabelTurned ts void s items₀ items labels₀ labels (Err e) =
 
 -- The body from a state on, with so much room.
 abbrev pub body_from : List Tok → ℕ → Going → List ℕ → Body
-body_from ts room s labels = body_d ts room (take s.labels labels) s.before s.at
+body_from ts room s labels = body_d ts room (take s.labels labels) (before_number s.before) s.at
 
 pub record Gone (ts : List Tok) (void : Bool) (s s' : Going) (items₀ items arguments₀ arguments labels₀ labels : List ℕ)
     : Type 0 where
@@ -197,11 +198,11 @@ pub record Ended (ts : List Tok) (void : Bool) (s : Going) (e : Closed)
   pub goes : (room : ℕ) → body_from ts (suc room) s labels₀ ≡ body_end (Ok e.next)
   pub one : s.at + 1 ≤ e.next
   pub within : Within ts e.next
-  pub items_next : e.items ≡ s.items + length (added (lacks_ret void s.before) s.last)
+  pub items_next : e.items ≡ s.items + length (added (lacks_ret void (before_number s.before)) s.last)
   pub arguments_next : e.arguments ≡ s.arguments
   pub labels_next : e.labels ≡ s.labels
   pub items_are : items ≡ sets items₀ (s.items * 8)
-      (items_cells s.arguments (added (lacks_ret void s.before) s.last))
+      (items_cells s.arguments (added (lacks_ret void (before_number s.before)) s.last))
   pub arguments_are : arguments ≡ arguments₀
   pub labels_are : labels ≡ labels₀
 

@@ -1,10 +1,11 @@
 // One operation, a call with its arguments, as a record.
 ghost use Rattle.std.specs.Prelude.{◌≡◌, ◌+◌, ◌*◌, ◌≤◌, length};
+ghost use Rattle.std.proofs.lemmas.List.Edits.{sets};
 ghost use Rattle.lexer.specs.Decoded.{tokens_of};
 ghost use Rattle.parser.specs.Runs.{variables_cells, call_d};
 ghost use Rattle.body.specs.Body.{item_d};
 ghost use Rattle.body.specs.Room.{Within, arguments_size};
-ghost use Rattle.body.specs.Turns.{item_read, ItemHeld, call_record, call_read, CallHeld};
+ghost use Rattle.body.specs.Turns.{item_read, ItemHeld, call_read};
 
 use crate::{ItemRead, Last, kinds, records};
 use parser::{Called, Parsed, Refusal, VARIABLE_CELLS, runs};
@@ -18,18 +19,14 @@ fn parse_call_item(
     kind: u32,
     dest: Identifier,
     dty: u32,
-    items: &mut [u32],
-    n: usize,
     arguments: &mut [u32],
     used: usize,
 ) -> Result<ItemRead, Refusal>
     requires { Within (tokens_of tokens.now) word
-        × (used ≤ 3448) × (n * 8 + 8 ≤ length items.old) × (arguments_size ≤ length arguments.old) }
+        × (used ≤ 3448) × (arguments_size ≤ length arguments.old) }
     ensures value { result ≡ call_read kind word dest dty used (call_d (tokens_of tokens.now) word) }
-    ensures call_held { CallHeld n used (call_record kind word dest dty used (call_d (tokens_of tokens.now) word))
-        (variables_cells (call_d (tokens_of tokens.now) word).arguments.list)
-        items.old items.new arguments.old arguments.new
-        (call_d (tokens_of tokens.now) word).arguments.end }
+    ensures arguments_after { arguments.new ≡ sets arguments.old (used * 2)
+        (variables_cells (call_d (tokens_of tokens.now) word).arguments.list) }
 {
     let Called {
         callee,
@@ -41,7 +38,6 @@ fn parse_call_item(
         count: count as u32,
     };
     let item = records::record_of(kind, word as u32, dest, dty, callee, run);
-    records::put_record(items, n, item);
     Ok(ItemRead {
         item,
         arguments: used + count,
@@ -49,26 +45,22 @@ fn parse_call_item(
     })
 }
 
-// Stores the item at index n, and its arguments from `used` on.
+// An item; its arguments are stored from `used` on.
 #[tactic(auto, unfolding(crate::specs::Body::item_d, crate::specs::Body::parsed_item, crate::specs::Turns::item_read, crate::specs::Records::record_of))]
 pub(crate) fn parse_item(
     tokens: &[u32],
     at: usize,
-    items: &mut [u32],
-    n: usize,
     arguments: &mut [u32],
     used: usize,
 ) -> Result<ItemRead, Refusal>
     requires { Within (tokens_of tokens.now) at
-        × (used ≤ 3448) × (n * 8 + 8 ≤ length items.old) × (arguments_size ≤ length arguments.old) }
+        × (used ≤ 3448) × (arguments_size ≤ length arguments.old) }
     ensures value { result ≡ item_read used (item_d (tokens_of tokens.now) at) }
-    ensures item_held { ItemHeld n used items.old items.new arguments.old
-        arguments.new (item_d (tokens_of tokens.now) at) }
+    ensures item_held { ItemHeld used arguments.old arguments.new (item_d (tokens_of tokens.now) at) }
 {
     match parser::parse_instruction(tokens, at)? {
         Parsed::Done(o, next) => {
             let item = records::operation_record(o);
-            records::put_record(items, n, item);
             Ok(ItemRead {
                 item,
                 arguments: used,
@@ -81,8 +73,6 @@ pub(crate) fn parse_item(
             kinds::CALL,
             Identifier(0),
             0,
-            items,
-            n,
             arguments,
             used,
         ),
@@ -92,8 +82,6 @@ pub(crate) fn parse_item(
             kinds::CALL_INTO,
             v.id,
             runs::type_cell(v.ty),
-            items,
-            n,
             arguments,
             used,
         ),

@@ -58,15 +58,24 @@ pub struct ItemRead {
     pub next: usize,
 }
 
-// The loop's state: the next token, the next free item and argument, how many labels there are, what stands before
-// (as turns.rt numbers it), and the last operation's token.
+// What stands before an item.
+#[derive(Clone, Copy, PartialEq, Eq)]
+pub enum Before {
+    Brace,
+    Label,
+    Operation,
+    Terminator,
+}
+
+// The loop's state: the next token, the next free item and argument, how many labels there are, what stands before,
+// and the last operation's token.
 #[derive(Clone, Copy)]
 pub struct Going {
     pub at: usize,
     pub items: usize,
     pub arguments: usize,
     pub labels: usize,
-    pub before: u32,
+    pub before: Before,
     pub last: u32,
 }
 
@@ -103,7 +112,7 @@ pub fn parse_body(
         items: first,
         arguments: used,
         labels: 0,
-        before: turns::BRACE,
+        before: Before::Brace,
         last: 0,
     };
     loop {

@@ -6,53 +6,38 @@ ghost use Rattle.utils.specs.Limits.{most_labels};
 ghost use Rattle.body.specs.Room.{items_size, arguments_size};
 ghost use Rattle.body.specs.Body.{closes, lacks_ret};
 ghost use Rattle.body.specs.Records.{items_cells};
-ghost use Rattle.body.specs.Turns.{late_refusal, behind_kind, added, behind_label, label_put, Ready};
+ghost use Rattle.body.specs.Turns.{before_number, late_refusal, behind_kind, added, behind_label, label_put, Ready};
 ghost use Rattle.body.specs.Turns.{ItemTurned, LabelTurned, Turned};
 
-use crate::{Closed, Going, ItemRead, ItemRecord, Last, Turn, item, kinds, records};
+use crate::{Before, Closed, Going, ItemRead, ItemRecord, Last, Turn, item, kinds, records};
 use parser::Refusal;
 use pieces::Identifier;
 use utils::numbers;
 
-// What stands before an item: the body's brace, a label, an operation, a terminator.
-pub(crate) const BRACE: u32 = 0;
-
-const LABEL: u32 = 1;
-
-const OPERATION: u32 = 2;
-
-const TERMINATOR: u32 = 3;
-
 // Right behind a label an operation has to stand.
 #[tactic(auto, unfolding(crate::specs::Body::closes, utils::specs::Bytes::pick))]
-fn closes_body(before: u32, kind: u32) -> bool
-    ensures { result ≡ closes before kind }
+fn closes_body(before: Before, kind: u32) -> bool
+    ensures { result ≡ closes (before_number before) kind }
 {
-    if before == LABEL {
-        return false;
-    }
-    kind == pieces::kinds::RIGHT_BRACE
+    before != Before::Label && kind == pieces::kinds::RIGHT_BRACE
 }
 
 // A void function's block gets a `ret` where it has no terminator.
 #[tactic(auto, unfolding(crate::specs::Body::lacks_ret, utils::specs::Bytes::pick))]
-fn lacks_ret(void: bool, before: u32) -> bool
-    ensures { result ≡ lacks_ret void before }
+fn lacks_ret(void: bool, before: Before) -> bool
+    ensures { result ≡ lacks_ret void (before_number before) }
 {
-    if void {
-        return before == OPERATION;
-    }
-    false
+    void && before == Before::Operation
 }
 
 #[tactic(auto, unfolding(crate::specs::Turns::behind_kind, utils::specs::Bytes::pick))]
-fn behind_kind(kind: u32) -> u32
+fn behind_kind(kind: u32) -> Before
     ensures { result ≡ behind_kind kind }
 {
     if kinds::JUMP <= kind {
-        return TERMINATOR;
+        return Before::Terminator;
     }
-    OPERATION
+    Before::Operation
 }
 
 // The next free item behind the `ret` that is lacking, or where none is.
@@ -99,8 +84,8 @@ fn item_turn(
     ensures { ItemTurned (tokens_of tokens.now) s items.old items.new
         arguments.old arguments.new result }
 {
-    let read = item::parse_item(tokens, s.at, items, s.items, arguments, s.arguments);
-    if s.before == TERMINATOR {
+    let read = item::parse_item(tokens, s.at, arguments, s.arguments);
+    if s.before == Before::Terminator {
         return Err(refuse(read));
     }
     let ItemRead {
@@ -108,6 +93,7 @@ fn item_turn(
         arguments: then,
         next,
     } = read?;
+    records::put_record(items, s.items, item);
     Ok(Turn::On(Going {
         at: next,
         items: s.items + 1,
@@ -146,7 +132,7 @@ fn add_label(
         items: n + 1,
         arguments: s.arguments,
         labels: count + 1,
-        before: LABEL,
+        before: Before::Label,
         last: s.last,
     }
 }

@@ -1,5 +1,5 @@
 -- The call, then its record; it has sixteen arguments at most, so their count fits its cell.
-use Rattle.std.proofs.Common.{refl, sym, ◌∙◌, arith}
+use Rattle.std.proofs.Common.{sym, ◌∙◌, arith}
 use Rattle.std.proofs.lemmas.Result.{err_from_is_err_and}
 use Rattle.lexer.specs.Decoded.{tokens_of}
 use Rattle.parser.specs.Step.{then_at}
@@ -16,23 +16,16 @@ overflow_cast-run-2 c =
     let few = (call_in ts c.requires.0.last c.requires.0.ends c.args.word c.requires.0.reached).few in
     omega (arith, few, d.2)
 
-pub returns-in_err-callee : goal.returns-in_err-callee
+pub returns-in_err-callee-clause-value : goal.returns-in_err-callee-clause-value
 unfolding call_read then_at
-returns-in_err-callee c =
+returns-in_err-callee-clause-value c =
     let ts = tokens_of c.args.tokens.now in
     let p = err_from_is_err_and c.from_residual.result c.from_residual.ensures.1 in
-    let end = called-refused (call_d ts c.args.word) (sym c.in_err-callee.was ∙ c.parse_call.ensures.value) in
-    record { value = rw (p.1, p.2, end) refl; call_held = rw end tt }
+    rw (p.1, p.2, called-refused (call_d ts c.args.word) (sym c.in_err-callee.was ∙ c.parse_call.ensures.value))
 
-pub returns : goal.returns
+pub returns-clause-value : goal.returns-clause-value
 unfolding call_read then_at
-returns c =
+returns-clause-value c =
     let ts = tokens_of c.args.tokens.now in
     let d = called-done (call_d ts c.args.word) (sym c.in_ok-callee.was ∙ c.parse_call.ensures.value) in
-    record {
-      value = rw (d.0, c.record_of-item.ensures, d.1, d.2) refl;
-      call_held = rw (d.0, d.1, d.2) (record {
-        items_are = rw c.record_of-item.ensures at c.put_record.ensures;
-        arguments_are = c.parse_call.ensures.cells_after;
-      });
-    }
+    rw (d.0, c.record_of-item.ensures, d.1, d.2)
