@@ -63,7 +63,7 @@ returns-in_err-n c =
     c.args.predecessors.now
     kept _ (sym c.in_err-n.was ∙ c.parse_alone.ensures.value) _ in
     let p = err_from_is_err_and c.from_residual.result c.from_residual.ensures.1 in
-    record { value = rw (p.1, p.2) w.0; verdict_held = w.1.0; counted = rw (p.1, p.2) w.1.1 }
+    record { value = rw (p.1, p.2) w.0; verdict_held = w.1.0; counted = rw p.1 tt }
 
 pub returns-in_err-type_rows : goal.returns-in_err-type_rows
 returns-in_err-type_rows c =
@@ -88,7 +88,7 @@ returns-in_err-type_rows c =
     c.type_rows.result c.type_rows.new.items c.type_rows.new.arguments c.type_rows.ensures _
     c.in_err-type_rows.was _ in
     let p = err_from_is_err_and c.from_residual-in_err-type_rows.result c.from_residual-in_err-type_rows.ensures.1 in
-    record { value = rw (p.1, p.2) w.0; verdict_held = w.1.0; counted = rw (p.1, p.2) w.1.1 }
+    record { value = rw (p.1, p.2) w.0; verdict_held = w.1.0; counted = rw p.1 tt }
 
 pub returns : goal.returns
 returns c =
