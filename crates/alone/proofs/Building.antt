@@ -137,7 +137,7 @@ module _ (ts : List Tok) (names rows : List ℕ) (count place : ℕ) (g : Functi
     by_end (Ok tt) x y z w = refl
     by_end (Err r) x y z w = refl
 
-    fine_end : (e : Result Unit Refusal) (x y : Done) → e ≡ (Ok tt) → then_row e x
+    fine_end : (e : Result Unit Refusal) (x y : Done) → e ≡ Ok tt → then_row e x
         (λ r. done (Err r) y.items y.arguments) ≡ x
     unfolding then_row
     fine_end e x y h = rw h
@@ -145,7 +145,7 @@ module _ (ts : List Tok) (names rows : List ℕ) (count place : ℕ) (g : Functi
     pub ends : d.end ≡ one.end
     ends = ap (λ (x : Done). x.end) turned ∙ by_end one.end items' args' items args
 
-    fine-done : one.end ≡ (Ok tt) → d ≡ done (Ok tt) items' args'
+    fine-done : one.end ≡ Ok tt → d ≡ done (Ok tt) items' args'
     fine-done h = turned ∙ fine_end one.end (done (Ok tt) items' args') (done (Ok tt) items args) h
 
     pub items-even : length (untyped_items none (g ∷ [])) ≡ length (all_items callees none (g ∷ []) (one.table ∷ []))
@@ -180,10 +180,10 @@ module _ (ts : List Tok) (names rows : List ℕ) (count place : ℕ) (g : Functi
         ap (λ (k : ℕ). typed_arguments_cells one.table g.items ++ drop k A) args_even
         ∙ sym (append_assoc (typed_arguments_cells one.table g.items) [] _)
 
-    pub items-typed_are : one.end ≡ (Ok tt) → d.items ≡ over I (all_items callees none (g ∷ []) (one.table ∷ []))
+    pub items-typed_are : one.end ≡ Ok tt → d.items ≡ over I (all_items callees none (g ∷ []) (one.table ∷ []))
     items-typed_are h = ap (λ (x : Done). x.items) (fine-done h) ∙ items-over
 
-    pub args_typed_are : one.end ≡ (Ok tt) → d.arguments ≡ over A (all_arguments (g ∷ []) (one.table ∷ []))
+    pub args_typed_are : one.end ≡ Ok tt → d.arguments ≡ over A (all_arguments (g ∷ []) (one.table ∷ []))
     args_typed_are h = ap (λ (x : Done). x.arguments) (fine-done h) ∙ args_over
 
 -- What parsing gave. -------------------------------------------------------------------------------------------------
@@ -436,13 +436,13 @@ module _ (old rows : List ℕ) (number : ℕ) (new : List ℕ) (ts : List Tok) (
           pub types-refused : (e : Refusal) → c ≡ Err e → (s : Slices) → Whole (Err e) s
           types-refused e h s = refused-whole (refused_typing e h) s
 
-          fine-end-is : c ≡ (Ok tt) → typing.end ≡ (Ok tt)
+          fine-end-is : c ≡ Ok tt → typing.end ≡ Ok tt
           fine-end-is h = sym ends_is ∙ sym typed-rows.answer ∙ h
 
-          accepted_typing : c ≡ (Ok tt) → verdict ≡ accepts w.read typing.table
+          accepted_typing : c ≡ Ok tt → verdict ≡ accepts w.read typing.table
           accepted_typing h = verdict_typed ∙ ap (after_typing w.read typing.table) (fine-end-is h)
 
-          written_are : c ≡ (Ok tt)
+          written_are : c ≡ Ok tt
               → fronts (counts_from none (w.read ∷ [])) (slices f₂ i₂ a₂ b₁ p₁)
               ≡ verdict_slices ts names callees type (accepts w.read typing.table)
           unfolding counts_from FitsFrom
@@ -466,7 +466,7 @@ module _ (old rows : List ℕ) (number : ℕ) (new : List ℕ) (ts : List Tok) (
               (sym (args_even ts names out r.count r.place g globals callees globals_are callees_are _ stand
               placed_fits i a b))
 
-          pub types-fine : c ≡ (Ok tt) → Whole (Ok n) (slices f₂ i₂ a₂ b₁ p₁)
+          pub types-fine : c ≡ Ok tt → Whole (Ok n) (slices f₂ i₂ a₂ b₁ p₁)
           unfolding counts_from
           types-fine h =
               rw (accepted_typing h, w.counted) (

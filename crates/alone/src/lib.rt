@@ -62,7 +62,9 @@ fn build<'t, 'c>(
         predecessors,
     )?;
     let at = place_alone(functions, old, rows, number, new, names, known, local);
-    types::type_rows(tokens, local, at.count, at.place, 1, items, arguments, blocks)?;
+    types::type_rows(
+        tokens, local, at.count, at.place, 1, items, arguments, blocks,
+    )?;
     Ok(n)
 }
 

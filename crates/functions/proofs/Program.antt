@@ -28,8 +28,9 @@ use Rattle.functions.specs.declared.Counts.{Counts}
 use Rattle.functions.specs.declared.FunctionRead.{FunctionRead}
 use Rattle.functions.proofs.Types.{TypesFew, more-types, types_after_up, function-type-few}
 
-same-read : (r q : FunctionRead) → ◌≡◌ {A = Result FunctionRead Refusal} (Ok r) (Ok q) → r ≡ q
-same-read r q e = cc
+-- equal answers are of equal reads
+pub same-read : {r q : FunctionRead} → ◌≡◌ {A = Result FunctionRead Refusal} (Ok r) (Ok q) → r ≡ q
+same-read e = cc
 
 module _ (ts : List Tok) where
   -- One turn, by what the calls gave; k functions are read.
@@ -205,6 +206,6 @@ module _ (ts : List Tok) (names : List ℕ) (s₀ : Slices) where
         → Going r.next r.types r.counts s' × (n.functions < 64) × (r.counts.functions ≡ n.functions + 1)
     read-on q h (function f) a s' w r e =
         let v : r ≡ record { next = f.next; types = types_after types f.head.type; counts = counts_with n f } =
-        same-read _ _ e in
+        same-read e in
         rw v (onward q h a s' w, w.few, refl)
     read-on q h (no_function e) a s' w r g = absurd (let z : ◌≡◌ {A = ℕ} 0 1 = cc in omega arith)

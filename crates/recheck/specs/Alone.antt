@@ -1,8 +1,7 @@
 -- What the inner functions say of the new function: how much it takes of each slice, and what the slices hold.
-use Rattle.std.specs.Prelude.{Err, Ok, Result}
 use Rattle.functions.specs.declared.Counts.{Counts}
 use Rattle.parser.specs.declared.Refusal.{Refusal}
-use Rattle.std.specs.Prelude.{ℕ, ◌≤◌, ◌≡◌, List, [], ◌∷◌, get_or, set}
+use Rattle.std.specs.Prelude.{ℕ, ◌≤◌, ◌≡◌, List, [], ◌∷◌, get_or, set, Err, Ok, Result}
 use Rattle.std.proofs.lemmas.List.Edits.{sets}
 use Rattle.lexer.specs.Decoded.{Tok}
 use Rattle.functions.specs.Functions.{FunctionAt, function, no_function}

@@ -1,7 +1,6 @@
 -- Recheck (document 01): one new function against the headers of an accepted text. "Given: old text, its header table
 -- as check wrote it, a function number, new text." The parts of an answer are those of check.
-use Rattle.std.specs.Prelude.{Err, Ok, Result}
-use Rattle.std.specs.Prelude.{ℕ, List, [], ◌∷◌, false, eqb, get_or}
+use Rattle.std.specs.Prelude.{ℕ, List, [], ◌∷◌, false, eqb, get_or, Err, Ok, Result}
 use Rattle.utils.specs.Bytes.{pick, same_bytes}
 use Rattle.utils.specs.Message.{reported}
 use Rattle.lexer.specs.Read.{Reading, read_from}

@@ -1,6 +1,7 @@
 -- The header is kept or 41 is answered; what parsing leaves, with the row in its place among the old headers, is what
 -- typing asks; and each return is the verdict: the first refusal, or the function with its types.
 use native.Mathlib.Omega.{arith}
+use Rattle.std.proofs.lemmas.Result.{err_from_is_err_and}
 use Prim.Native.Nat.{◌≤◌}
 use mathlib.Core.Path.{sym, ◌∙◌}
 use lib.ListN.{length}
@@ -37,75 +38,77 @@ pub type_rows-requires : goal.type_rows-requires
 type_rows-requires c =
     let kept = sym c.keeps.ensures ∙ c.if-not-keeps.false in
     let parsed =
-    parsed_is (tokens_of c.args.tokens.now) c.args.names.now c.in-Done.n
+    parsed_is (tokens_of c.args.tokens.now) c.args.names.now c.in_ok-n.n
     (slices c.args.functions.now c.args.items.now c.args.arguments.now c.args.blocks.now c.args.predecessors.now)
     (slices c.parse_alone.new.functions c.parse_alone.new.items c.parse_alone.new.arguments
     c.parse_alone.new.blocks
     c.parse_alone.new.predecessors)
-    (sym c.in-Done.is ∙ c.parse_alone.ensures.value) c.parse_alone.ensures.function_held in
+    (sym c.in_ok-n.was ∙ c.parse_alone.ensures.value) c.parse_alone.ensures.function_held in
     let room : 2881 ≤ length c.keeps.new.local =
     omega (arith, c.requires.5, c.keeps.auto.local) in
     typing_asks c.args.old.now c.args.rows.now c.args.number c.args.new.now (tokens_of c.args.tokens.now)
     c.args.names.now c.args.functions.now c.args.items.now c.args.arguments.now c.args.blocks.now
     c.args.predecessors.now
-    kept c.requires.0 c.args.known c.requires.1 c.requires.3 c.requires.4 c.in-Done.n
+    kept c.requires.0 c.args.known c.requires.1 c.requires.3 c.requires.4 c.in_ok-n.n
     c.parse_alone.new.functions c.parse_alone.new.items c.parse_alone.new.arguments c.parse_alone.new.blocks
     c.parse_alone.new.predecessors parsed
     c.keeps.new.local c.place_alone-at.new.local c.place_alone-at.new.functions c.place_alone-at.result room
     c.place_alone-at.ensures (omega (arith, room, c.place_alone-at.auto.local))
 
-pub returns-in-Refused : goal.returns-in-Refused
-returns-in-Refused c =
+pub returns-in_err-n : goal.returns-in_err-n
+returns-in_err-n c =
     let kept = sym c.keeps.ensures ∙ c.if-not-keeps.false in
     let w = parse_refused c.args.old.now c.args.rows.now c.args.number c.args.new.now (tokens_of c.args.tokens.now)
     c.args.names.now c.args.functions.now c.args.items.now c.args.arguments.now c.args.blocks.now
     c.args.predecessors.now
-    kept _ (sym c.in-Refused.is ∙ c.parse_alone.ensures.value) _ in
-    record { value = w.0; verdict_held = w.1.0; counted = w.1.1 }
+    kept _ (sym c.in_err-n.was ∙ c.parse_alone.ensures.value) _ in
+    let p = err_from_is_err_and c.from_residual.result c.from_residual.ensures.1 in
+    record { value = rw (p.1, p.2) w.0; verdict_held = w.1.0; counted = rw p.1 tt }
 
-pub returns-in-Refused-type_rows : goal.returns-in-Refused-type_rows
-returns-in-Refused-type_rows c =
+pub returns-in_err-type_rows : goal.returns-in_err-type_rows
+returns-in_err-type_rows c =
     let kept = sym c.keeps.ensures ∙ c.if-not-keeps.false in
     let parsed =
-    parsed_is (tokens_of c.args.tokens.now) c.args.names.now c.in-Done.n
+    parsed_is (tokens_of c.args.tokens.now) c.args.names.now c.in_ok-n.n
     (slices c.args.functions.now c.args.items.now c.args.arguments.now c.args.blocks.now c.args.predecessors.now)
     (slices c.parse_alone.new.functions c.parse_alone.new.items c.parse_alone.new.arguments
     c.parse_alone.new.blocks
     c.parse_alone.new.predecessors)
-    (sym c.in-Done.is ∙ c.parse_alone.ensures.value) c.parse_alone.ensures.function_held in
+    (sym c.in_ok-n.was ∙ c.parse_alone.ensures.value) c.parse_alone.ensures.function_held in
     let room : 2881 ≤ length c.keeps.new.local =
     omega (arith, c.requires.5, c.keeps.auto.local) in
     let w = types-refused c.args.old.now c.args.rows.now c.args.number c.args.new.now (tokens_of c.args.tokens.now)
     c.args.names.now c.args.functions.now c.args.items.now c.args.arguments.now c.args.blocks.now
     c.args.predecessors.now
-    kept c.requires.0 c.args.known c.requires.1 c.requires.3 c.requires.4 c.in-Done.n
+    kept c.requires.0 c.args.known c.requires.1 c.requires.3 c.requires.4 c.in_ok-n.n
     c.parse_alone.new.functions c.parse_alone.new.items c.parse_alone.new.arguments c.parse_alone.new.blocks
     c.parse_alone.new.predecessors parsed
     c.keeps.new.local c.place_alone-at.new.local c.place_alone-at.new.functions c.place_alone-at.result room
     c.place_alone-at.ensures
     c.type_rows.result c.type_rows.new.items c.type_rows.new.arguments c.type_rows.ensures _
-    c.in-Refused-type_rows.is _ in
-    record { value = w.0; verdict_held = w.1.0; counted = w.1.1 }
+    c.in_err-type_rows.was _ in
+    let p = err_from_is_err_and c.from_residual-in_err-type_rows.result c.from_residual-in_err-type_rows.ensures.1 in
+    record { value = rw (p.1, p.2) w.0; verdict_held = w.1.0; counted = rw p.1 tt }
 
-pub returns-in-Fine : goal.returns-in-Fine
-returns-in-Fine c =
+pub returns : goal.returns
+returns c =
     let kept = sym c.keeps.ensures ∙ c.if-not-keeps.false in
     let parsed =
-    parsed_is (tokens_of c.args.tokens.now) c.args.names.now c.in-Done.n
+    parsed_is (tokens_of c.args.tokens.now) c.args.names.now c.in_ok-n.n
     (slices c.args.functions.now c.args.items.now c.args.arguments.now c.args.blocks.now c.args.predecessors.now)
     (slices c.parse_alone.new.functions c.parse_alone.new.items c.parse_alone.new.arguments
     c.parse_alone.new.blocks
     c.parse_alone.new.predecessors)
-    (sym c.in-Done.is ∙ c.parse_alone.ensures.value) c.parse_alone.ensures.function_held in
+    (sym c.in_ok-n.was ∙ c.parse_alone.ensures.value) c.parse_alone.ensures.function_held in
     let room : 2881 ≤ length c.keeps.new.local =
     omega (arith, c.requires.5, c.keeps.auto.local) in
     let w = types-fine c.args.old.now c.args.rows.now c.args.number c.args.new.now (tokens_of c.args.tokens.now)
     c.args.names.now c.args.functions.now c.args.items.now c.args.arguments.now c.args.blocks.now
     c.args.predecessors.now
-    kept c.requires.0 c.args.known c.requires.1 c.requires.3 c.requires.4 c.in-Done.n
+    kept c.requires.0 c.args.known c.requires.1 c.requires.3 c.requires.4 c.in_ok-n.n
     c.parse_alone.new.functions c.parse_alone.new.items c.parse_alone.new.arguments c.parse_alone.new.blocks
     c.parse_alone.new.predecessors parsed
     c.keeps.new.local c.place_alone-at.new.local c.place_alone-at.new.functions c.place_alone-at.result room
     c.place_alone-at.ensures
-    c.type_rows.result c.type_rows.new.items c.type_rows.new.arguments c.type_rows.ensures c.in-Fine.is in
+    c.type_rows.result c.type_rows.new.items c.type_rows.new.arguments c.type_rows.ensures c.in_ok-type_rows.was in
     record { value = w.0; verdict_held = w.1.0; counted = w.1.1 }

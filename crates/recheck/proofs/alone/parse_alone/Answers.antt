@@ -1,5 +1,6 @@
 -- The function is read with nothing counted, and the token behind it decides as in `alone_d`.
 use native.Mathlib.Omega.{arith}
+use Rattle.std.proofs.lemmas.Result.{err_from_is_err_and}
 use mathlib.Core.Path.{refl, sym, ◌∙◌}
 use Rattle.lexer.specs.Decoded.{tokens_of}
 use Rattle.functions.specs.Rows.{known_from}
@@ -22,41 +23,42 @@ parse_function-requires c = (
   c.requires.2,
 )
 
-pub returns-then-t-eq-END_OF_FILE : goal.returns-then-t-eq-END_OF_FILE
+pub returns-in-38 : goal.returns-in-38
 unfolding known_from
-returns-then-t-eq-END_OF_FILE c =
+returns-in-38 c =
     let given =
     slices c.args.functions.now c.args.items.now c.args.arguments.now c.args.blocks.now c.args.predecessors.now in
     let w = alone-end (tokens_of c.args.tokens.now) c.args.names.now given _ _ refl
-    (sym c.in-Done.is ∙ c.parse_function.ensures.value) c.parse_function.ensures.function_held c.token_at-t.ensures
-    c.if-t-eq-END_OF_FILE.true in
+    (sym c.in_ok-read.was ∙ c.parse_function.ensures.value) c.parse_function.ensures.function_held c.token_at.ensures
+    c.in-38.is in
     record { value = w.0; function_held = w.1 }
 
-pub returns-then-t-eq-GLOBAL : goal.returns-then-t-eq-GLOBAL
+pub returns-in-2 : goal.returns-in-2
 unfolding known_from
-returns-then-t-eq-GLOBAL c =
+returns-in-2 c =
     let given =
     slices c.args.functions.now c.args.items.now c.args.arguments.now c.args.blocks.now c.args.predecessors.now in
     let w = alone-global (tokens_of c.args.tokens.now) c.args.names.now given _ _ refl
-    (sym c.in-Done.is ∙ c.parse_function.ensures.value) c.token_at-t.ensures c.if-t-eq-END_OF_FILE.false
-    c.if-t-eq-GLOBAL.true c.refuse.ensures in
+    (sym c.in_ok-read.was ∙ c.parse_function.ensures.value) c.token_at.ensures (λ e. omega (arith, e, c.in-2.is))
+    c.in-2.is c.refuse.ensures in
     record { value = w.0; function_held = w.1 }
 
-pub returns-in-Refused : goal.returns-in-Refused
+pub returns-in_err-read : goal.returns-in_err-read
 unfolding known_from
-returns-in-Refused c =
+returns-in_err-read c =
     let given =
     slices c.args.functions.now c.args.items.now c.args.arguments.now c.args.blocks.now c.args.predecessors.now in
     let w = alone-refused (tokens_of c.args.tokens.now) c.args.names.now given _ _ refl
-    (sym c.in-Refused.is ∙ c.parse_function.ensures.value) in
-    record { value = w.0; function_held = w.1 }
+    (sym c.in_err-read.was ∙ c.parse_function.ensures.value) in
+    let p = err_from_is_err_and c.from_residual.result c.from_residual.ensures.1 in
+    record { value = rw (p.1, p.2) w.0; function_held = w.1 }
 
-pub returns-else-t-eq-GLOBAL : goal.returns-else-t-eq-GLOBAL
+pub returns-in_default : goal.returns-in_default
 unfolding known_from
-returns-else-t-eq-GLOBAL c =
+returns-in_default c =
     let given =
     slices c.args.functions.now c.args.items.now c.args.arguments.now c.args.blocks.now c.args.predecessors.now in
     let w = alone-other (tokens_of c.args.tokens.now) c.args.names.now given _ _ refl
-    (sym c.in-Done.is ∙ c.parse_function.ensures.value) c.token_at-t.ensures c.if-t-eq-END_OF_FILE.false
-    c.if-t-eq-GLOBAL.false c.refuse-in-Done.ensures in
+    (sym c.in_ok-read.was ∙ c.parse_function.ensures.value) c.token_at.ensures (λ e. omega (arith, e))
+    (λ e. omega (arith, e)) c.refuse-in_default.ensures in
     record { value = w.0; function_held = w.1 }
