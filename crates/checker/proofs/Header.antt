@@ -113,19 +113,19 @@ unfolding formal_d then_named then_at then_type pick
 formal_good ts full at = named (local_d ts at) full
   where
     typed : (x : Identifier) (t : Result (Ty × ℕ) Refusal) → GoodRead t → GoodDefined
-        (then_type Err t (λ y at3. Ok ((variable x y), at3)))
+        (then_type Err t (λ y at3. Ok (variable x y, at3)))
     typed x (Ok (y, at3)) h = h
     typed x (Err e) h = tt
 
     colon : (x : Identifier) (k : Result ℕ Refusal)
-        → GoodDefined (then_at Err k (λ at2. then_type Err (type_d ts at2) (λ y at3. Ok ((variable x y), at3))))
+        → GoodDefined (then_at Err k (λ at2. then_type Err (type_d ts at2) (λ y at3. Ok (variable x y, at3))))
     colon x (Ok at2) = typed x (type_d ts at2) (type-good ts at2)
     colon x (Err e) = tt
 
     named : (n : Result (Identifier × ℕ) Refusal) (b : Bool)
         → GoodDefined (then_named Err n (λ x at1.
         pick b (Err (refusal 36 at 0))
-        (then_at Err (consume_d ts at1 29) (λ at2. then_type Err (type_d ts at2) (λ y at3. Ok ((variable x y), at3))))))
+        (then_at Err (consume_d ts at1 29) (λ at2. then_type Err (type_d ts at2) (λ y at3. Ok (variable x y, at3))))))
     named (Ok (x, at1)) true = tt
     named (Ok (x, at1)) false = colon x (consume_d ts at1 29)
     named (Err e) b = tt

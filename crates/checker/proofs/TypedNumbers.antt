@@ -20,7 +20,7 @@ use Rattle.sema.specs.Program.{function_typed, type_program_d}
 use Rattle.checker.proofs.ParsedNumbers.{Fine, Is, pick_f}
 
 pub data FineT : Typed → Type 0 where
-  fine : (t : List ℕ) → FineT (typed t (Ok tt)
+  fine : (t : List ℕ) → FineT (typed t (Ok tt))
   refused : (t : List ℕ) (e : Refusal) → Fine e → FineT (typed t (Err e))
 
 -- Steps. ------------------------------------------------------------------------------------------------------------

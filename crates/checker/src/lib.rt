@@ -174,6 +174,7 @@ pub fn check_into(
 }
 
 // How many cells of the header table an answer counts.
+#[tactic(auto, unfolding(utils::specs::Bytes::pick))]
 pub fn rows_used(r: CheckAnswer) -> usize
     ensures { result ≡ rows_used r }
 {
@@ -213,41 +214,23 @@ pub fn finish(
 }
 
 // Whether slices of these lengths, for functions, items, arguments, blocks and predecessors, have their sizes.
+#[tactic(auto, unfolding(crate::specs::Promise::sized_unit, utils::specs::Bytes::pick))]
 pub fn fits_unit(f: usize, i: usize, a: usize, b: usize, p: usize) -> bool
     ensures { (result ≡ sized_unit f i a b p) × (IfSizedUnit result f i a b p) }
 {
-    if f < columns::TABLE {
-        return false;
-    }
-    if i < sizes::ITEMS {
-        return false;
-    }
-    if a < sizes::ARGUMENTS {
-        return false;
-    }
-    if b < sizes::BLOCKS {
-        return false;
-    }
-    if p < sizes::PREDECESSORS {
-        return false;
-    }
-    true
+    columns::TABLE <= f
+        && sizes::ITEMS <= i
+        && sizes::ARGUMENTS <= a
+        && sizes::BLOCKS <= b
+        && sizes::PREDECESSORS <= p
 }
 
 // Whether slices of these lengths have their sizes; `unit`: whether the other five have theirs.
+#[tactic(auto, unfolding(crate::specs::Promise::sized, utils::specs::Bytes::pick))]
 pub fn fits(m: usize, t: usize, n: usize, unit: bool) -> bool
     ensures { (result ≡ sized m t n unit) × (IfSized result unit m t n) }
 {
-    if t < lexer::sizes::TOKENS {
-        return false;
-    }
-    if n < lexer::sizes::NAMES {
-        return false;
-    }
-    if m < limits::MESSAGE {
-        return false;
-    }
-    unit
+    lexer::sizes::TOKENS <= t && lexer::sizes::NAMES <= n && limits::MESSAGE <= m && unit
 }
 
 // Document 01's check of any text: typed functions with blocks and edges as cells, or a refusal and its message.

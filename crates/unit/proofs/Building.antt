@@ -135,7 +135,7 @@ module _ (ts : List Tok) (names : List ℕ) (fs : List Function) (fits : FitsFro
   abbrev d : Done
   d = typed_rows ts rows (length fs) blocks untyped 0 (length fs) items args
 
-  pub typed-slices : d.end ≡ (Ok tt)
+  pub typed-slices : d.end ≡ Ok tt
       → slices rows d.items d.arguments blocks (over P (all_predecessors fs))
       ≡ slices
       (over F (length fs ∷ rows_cells ts names none fs))
@@ -293,16 +293,16 @@ module _ (ts : List Tok) (names f i a b p : List ℕ) where
           let q : (typed_d ts fs fs untyped).end ≡ Err e = sym ends_is ∙ sym typed.answer ∙ h in
           rw (at_end.0.1, q)
 
-      pub types-fine : r ≡ (Ok tt) → unit_d ts ≡ checked fs
+      pub types-fine : r ≡ Ok tt → unit_d ts ≡ checked fs
       unfolding unit_d
       types-fine h =
-          let q : (typed_d ts fs fs untyped).end ≡ (Ok tt) = sym ends_is ∙ sym typed.answer ∙ h in
+          let q : (typed_d ts fs fs untyped).end ≡ Ok tt = sym ends_is ∙ sym typed.answer ∙ h in
           rw (at_end.0.1, q)
 
-      written : r ≡ (Ok tt) → fronts (counts_from none fs) (slices f₁ i₂ a₂ b₁ p₁) ≡ unit_slices ts names (checked fs)
+      written : r ≡ Ok tt → fronts (counts_from none fs) (slices f₁ i₂ a₂ b₁ p₁) ≡ unit_slices ts names (checked fs)
       written h =
           let k = subst (λ (x : Result Unit Refusal). HeldBy x i₂ a₂ done) h typed.held in
-          let z : laid_done.end ≡ (Ok tt) = ap (λ (d : Done). d.end) (sym done-is) ∙ sym typed.answer ∙ h in
+          let z : laid_done.end ≡ Ok tt = ap (λ (d : Done). d.end) (sym done-is) ∙ sym typed.answer ∙ h in
           ap (fronts (counts_from none fs))
           (same-slices f-is (k.0 ∙ ap (λ (d : Done). d.items) done-is) (k.1 ∙ ap (λ (d : Done). d.arguments)
           done-is) b_is p_is
@@ -312,7 +312,7 @@ module _ (ts : List Tok) (names f i a b p : List ℕ) where
           (omega (arith, length-items none fs, length-tables ts fs fs (callee_in fs) none))
           (omega (arith, length-arguments none fs, length-typed ts fs fs none))
 
-      pub fine-whole : r ≡ (Ok tt)
+      pub fine-whole : r ≡ Ok tt
           → (Ok n ≡ unit_read (unit_d ts)) × (UnitHeld ts names (slices f₁ i₂ a₂ b₁ p₁) (unit_d ts) × Counted
           (Ok n))
       fine-whole h =

@@ -53,8 +53,8 @@ module _ (ts : List Tok) (names rows : List ℕ) (all : List Function) (total : 
   -- What the loop over these functions leaves, behind what stands before them: pi, pa; zi, za follow.
   pub record Same (gs : List Function) (n : Counts) (pi pa zi za : List ℕ) (d : Done) : Type 0 where
     pub ends : d.end ≡ (typed_d ts all gs untyped).end
-    pub items_are : d.end ≡ (Ok tt) → d.items ≡ pi ++ (all_items (callee_in all) n gs (tables_of ts all gs) ++ zi)
-    pub arguments_are : d.end ≡ (Ok tt) → d.arguments ≡ pa ++ (all_arguments gs (tables_of ts all gs) ++ za)
+    pub items_are : d.end ≡ Ok tt → d.items ≡ pi ++ (all_items (callee_in all) n gs (tables_of ts all gs) ++ zi)
+    pub arguments_are : d.end ≡ Ok tt → d.arguments ≡ pa ++ (all_arguments gs (tables_of ts all gs) ++ za)
 
   -- one function
   module _ (n : Counts) (f : Function) (gs : List Function) (fits : Fits n f) (pi pa zi za zr zb : List ℕ)

@@ -1,7 +1,6 @@
 -- The functions of a text, parsed and typed, and what the five slices hold then.
 -- "all parsing (with labels and edges of each function) before all typing"
-use Rattle.std.specs.Prelude.{Err, Ok, Result}
-use Rattle.std.specs.Prelude.{ℕ, ◌*◌, ◌≤◌, ◌≡◌, List, [], ◌∷◌, ◌++◌, length, take}
+use Rattle.std.specs.Prelude.{ℕ, ◌*◌, ◌≤◌, ◌≡◌, List, [], ◌∷◌, ◌++◌, length, take, Err, Ok, Result}
 use Rattle.utils.specs.Bytes.{pad_to}
 use Rattle.lexer.specs.Decoded.{Tok}
 use Rattle.utils.specs.Limits.{most_names, most_functions}

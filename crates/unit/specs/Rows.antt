@@ -1,6 +1,5 @@
 -- Typing on the cells of the header table's rows: what the loop over them does.
-use Rattle.std.specs.Prelude.{Err, Ok, Result}
-use Rattle.std.specs.Prelude.{ℕ, zero, suc, ◌+◌, ◌*◌, ◌≤◌, ◌<◌, ◌≡◌, List, get_or}
+use Rattle.std.specs.Prelude.{ℕ, zero, suc, ◌+◌, ◌*◌, ◌≤◌, ◌<◌, ◌≡◌, List, get_or, Err, Ok, Result}
 use Rattle.lexer.specs.Decoded.{Tok}
 use Rattle.functions.specs.Columns.{type_at, first_item_at, item_count_at}
 use Rattle.utils.specs.Limits.{most_functions}

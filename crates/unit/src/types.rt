@@ -36,15 +36,11 @@ fn type_with(
         (typed_rows (tokens_of tokens.now) rows.now n blocks.now
         table.old first more items.old arguments.old) }
 {
-    let mut row = first;
-    let mut left = more;
-    while 0 < left {
+    for row in first..first + more {
         sema::function::analyze(tokens, rows, n, row, table, items, arguments, blocks)?;
         let start = cell(rows, columns::FIRST_ITEM + row * columns::ROW);
         let count = cell(rows, columns::ITEMS + row * columns::ROW);
         elaborate::elaborate(table, rows, n, items, start, count, arguments);
-        row += 1;
-        left -= 1;
     }
     Ok(())
 }

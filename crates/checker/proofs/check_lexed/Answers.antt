@@ -28,21 +28,21 @@ refuse-requires c = (
 
 pub counted-requires : goal.counted-requires
 counted-requires c =
-    let k = subst Counted c.in-Done.is c.unit.ensures.counted in
+    let k = subst Counted c.in-Ok.is c.unit.ensures.counted in
     (omega (arith, k.0), omega (arith, k.1), omega (arith, k.2), omega (arith, k.3), omega (arith, k.4))
 
-pub returns-in-Refused : goal.returns-in-Refused
-returns-in-Refused c =
+pub returns-in-Err : goal.returns-in-Err
+returns-in-Err c =
     ends-refused c.requires.0 c.args.message.now _ _ _ (used_tokens c.requires.0) (used_names c.requires.0)
-    c.in-Refused.e _ _
-    (sym c.in-Refused.is ∙ c.unit.ensures.value) c.refuse.ensures.0 c.refuse.ensures.1
+    c.in-Err.e _ _
+    (sym c.in-Err.is ∙ c.unit.ensures.value) c.refuse.ensures.0 c.refuse.ensures.1
 
-pub returns-in-Done : goal.returns-in-Done
-returns-in-Done c =
+pub returns-in-Ok : goal.returns-in-Ok
+returns-in-Ok c =
     rw c.counted.ensures
     (ends-accepted c.requires.0 c.args.message.now _ _ _ (used_tokens c.requires.0) (used_names c.requires.0)
-    c.in-Done.n _
-    (sym c.in-Done.is ∙ c.unit.ensures.value) c.unit.ensures.unit_held)
+    c.in-Ok.n _
+    (sym c.in-Ok.is ∙ c.unit.ensures.value) c.unit.ensures.unit_held)
 
 pub slice_bounds-unit-end : goal.slice_bounds-unit-end
 slice_bounds-unit-end c =

@@ -1,5 +1,6 @@
 -- The slices that parsing leaves are what typing asks, and each return is the outcome of both: the first refusal, or
 -- all functions with their types.
+use Rattle.std.proofs.lemmas.Result.{err_from_is_err_and}
 use native.Mathlib.Omega.{arith}
 use mathlib.Core.Path.{sym, ◌∙◌}
 use Rattle.lexer.specs.Decoded.{tokens_of}
@@ -8,41 +9,44 @@ use Rattle.unit.proofs.unit.Goals as goal
 
 pub type_rows-requires : goal.type_rows-requires
 type_rows-requires c =
-    let m =
-    few (tokens_of c.args.tokens.now) c.args.names.now c.args.functions.now c.args.items.now c.args.arguments.now
-    c.args.blocks.now c.args.predecessors.now c.requires.1 c.requires.2 c.parse.ensures.all_fit c.in-Done.n
-    (sym c.in-Done.is ∙ c.parse.ensures.value) _ _ _ _ _ c.parse.ensures.held in (
+    let a = c.args in
+    let parsed = sym c.in_ok-n.was ∙ c.parse.ensures.value in
+    let m = few (tokens_of a.tokens.now) a.names.now a.functions.now a.items.now a.arguments.now a.blocks.now
+    a.predecessors.now c.requires.1 c.requires.2 c.parse.ensures.all_fit _ parsed _ _ _ _ _ c.parse.ensures.held in (
       m,
       omega (arith, m),
       omega (arith, c.requires.1, c.parse.auto.functions),
-      rows_fit_lem (tokens_of c.args.tokens.now) c.args.names.now c.args.functions.now c.args.items.now
-          c.args.arguments.now
-          c.args.blocks.now c.args.predecessors.now c.requires.1 c.requires.2 c.parse.ensures.all_fit c.in-Done.n
-          (sym c.in-Done.is ∙ c.parse.ensures.value) _ _ _ _ _ c.parse.ensures.held,
+      rows_fit_lem (tokens_of a.tokens.now) a.names.now a.functions.now a.items.now a.arguments.now a.blocks.now
+          a.predecessors.now c.requires.1 c.requires.2 c.parse.ensures.all_fit _ parsed _ _ _ _ _ c.parse.ensures.held,
     )
 
-pub returns-in-Refused : goal.returns-in-Refused
-returns-in-Refused c =
-    let w = refused-whole (tokens_of c.args.tokens.now) c.args.names.now c.args.functions.now c.args.items.now
-    c.args.arguments.now c.args.blocks.now c.args.predecessors.now
-    (parse_refuses (tokens_of c.args.tokens.now) c.args.names.now c.args.functions.now c.args.items.now
-    c.args.arguments.now c.args.blocks.now c.args.predecessors.now _ (sym c.in-Refused.is ∙ c.parse.ensures.value)) _ in
-    record { value = w.0; unit_held = w.1.0; counted = w.1.1 }
+pub returns-in_err-n : goal.returns-in_err-n
+returns-in_err-n c =
+    let a = c.args in
+    let w = refused-whole (tokens_of a.tokens.now) a.names.now a.functions.now a.items.now a.arguments.now a.blocks.now
+    a.predecessors.now
+    (parse_refuses (tokens_of a.tokens.now) a.names.now a.functions.now a.items.now a.arguments.now a.blocks.now
+    a.predecessors.now _ (sym c.in_err-n.was ∙ c.parse.ensures.value)) _ in
+    let p = err_from_is_err_and c.from_residual.result c.from_residual.ensures.1 in
+    rw (p.1, p.2) (record { value = w.0; unit_held = w.1.0; counted = w.1.1 })
 
-pub returns-in-Refused-type_rows : goal.returns-in-Refused-type_rows
-returns-in-Refused-type_rows c =
-    let w = refused-whole (tokens_of c.args.tokens.now) c.args.names.now c.args.functions.now c.args.items.now
-    c.args.arguments.now c.args.blocks.now c.args.predecessors.now
-    (types_refuse (tokens_of c.args.tokens.now) c.args.names.now c.args.functions.now c.args.items.now
-    c.args.arguments.now c.args.blocks.now c.args.predecessors.now c.requires.1 c.requires.2 c.parse.ensures.all_fit
-    c.in-Done.n (sym c.in-Done.is ∙ c.parse.ensures.value) _ _ _ _ _ c.parse.ensures.held _ _ _ c.type_rows.ensures _
-    c.in-Refused-type_rows.is) _ in
-    record { value = w.0; unit_held = w.1.0; counted = w.1.1 }
+pub returns-in_err-type_rows : goal.returns-in_err-type_rows
+returns-in_err-type_rows c =
+    let a = c.args in
+    let parsed = sym c.in_ok-n.was ∙ c.parse.ensures.value in
+    let w = refused-whole (tokens_of a.tokens.now) a.names.now a.functions.now a.items.now a.arguments.now a.blocks.now
+    a.predecessors.now
+    (types_refuse (tokens_of a.tokens.now) a.names.now a.functions.now a.items.now a.arguments.now a.blocks.now
+    a.predecessors.now c.requires.1 c.requires.2 c.parse.ensures.all_fit _ parsed _ _ _ _ _ c.parse.ensures.held _ _ _
+    c.type_rows.ensures _ c.in_err-type_rows.was) _ in
+    let p = err_from_is_err_and c.from_residual-in_err-type_rows.result c.from_residual-in_err-type_rows.ensures.1 in
+    rw (p.1, p.2) (record { value = w.0; unit_held = w.1.0; counted = w.1.1 })
 
-pub returns-in-Fine : goal.returns-in-Fine
-returns-in-Fine c =
-    let w = fine-whole (tokens_of c.args.tokens.now) c.args.names.now c.args.functions.now c.args.items.now
-    c.args.arguments.now
-    c.args.blocks.now c.args.predecessors.now c.requires.1 c.requires.2 c.parse.ensures.all_fit c.in-Done.n
-    (sym c.in-Done.is ∙ c.parse.ensures.value) _ _ _ _ _ c.parse.ensures.held _ _ _ c.type_rows.ensures c.in-Fine.is in
+pub returns : goal.returns
+returns c =
+    let a = c.args in
+    let parsed = sym c.in_ok-n.was ∙ c.parse.ensures.value in
+    let w = fine-whole (tokens_of a.tokens.now) a.names.now a.functions.now a.items.now a.arguments.now a.blocks.now
+    a.predecessors.now c.requires.1 c.requires.2 c.parse.ensures.all_fit _ parsed _ _ _ _ _ c.parse.ensures.held _ _ _
+    c.type_rows.ensures c.in_ok-type_rows.was in
     record { value = w.0; unit_held = w.1.0; counted = w.1.1 }
