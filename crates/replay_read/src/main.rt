@@ -5,7 +5,8 @@
 
 use lexer::sizes;
 use replay::held::{OLD_BYTE, OLD_CELL, SPARE};
-use replay::{Outcome, Tally, cases, held, input, lists, parts};
+use replay::parts::{Cells, Part};
+use replay::{Outcome, cases, held, input, lists};
 use std::io;
 use utils::limits;
 
@@ -13,16 +14,22 @@ use utils::limits;
 fn compare(
     data: &[u8],
     from: usize,
-    a: lexer::ReadAnswer,
+    answer: lexer::ReadAnswer,
     tokens: &[u32],
     names: &[u32],
     message: &[u8],
 ) -> Outcome {
-    let got = [a.number, a.line, a.place, a.tokens, a.names];
-    let answer = held::holds_numbers(data, from, &got);
-    let t = held::holds_cells(data, answer, parts::TOKENS, tokens);
-    let n = held::holds_cells(data, t, parts::NAMES, names);
-    held::holds_bytes(data, n, parts::MESSAGE, message)
+    let numbers = [
+        (Part::Number, answer.number),
+        (Part::Line, answer.line),
+        (Part::Place, answer.place),
+        (Part::Count(Cells::Tokens), answer.tokens),
+        (Part::Count(Cells::Names), answer.names),
+    ];
+    let a = held::holds_numbers(data, from, &numbers);
+    let t = held::holds(data, a, Part::Cells(Cells::Tokens), tokens);
+    let n = held::holds(data, t, Part::Cells(Cells::Names), names);
+    held::holds(data, n, Part::Message, message)
 }
 
 // The call itself, and all that came of it held to the file.
@@ -34,8 +41,8 @@ fn ask(
     names: &mut [u32],
     message: &mut [u8],
 ) -> Outcome {
-    let a = read::read(text, tokens, names, message);
-    compare(data, from, a, tokens, names, message)
+    let answer = read::read(text, tokens, names, message);
+    compare(data, from, answer, tokens, names, message)
 }
 
 // A case with its text: the slices are made anew, longer than their sizes, and hold the old pattern. As much of each
@@ -46,24 +53,20 @@ fn with_slices(data: &[u8], from: usize, text: &[u8]) -> Outcome {
     let mut tokens = [OLD_CELL; sizes::TOKENS + SPARE];
     let mut names = [OLD_CELL; sizes::NAMES + SPARE];
     let mut message = [OLD_BYTE; limits::MESSAGE + SPARE];
-    let t = lists::lent(lengths[0], tokens.len());
-    let n = lists::lent(lengths[1], names.len());
-    let m = lists::lent(lengths[2], message.len());
     ask(
         data,
         next,
         text,
-        &mut tokens[..t],
-        &mut names[..n],
-        &mut message[..m],
+        lists::lend(&mut tokens, lengths[0]),
+        lists::lend(&mut names, lengths[1]),
+        lists::lend(&mut message, lengths[2]),
     )
 }
 
 // A case with room for its text.
 fn with_text(data: &[u8], from: usize, text: &mut [u8]) -> Outcome {
     let list = lists::load_text(data, from, text);
-    let n = list.count;
-    with_slices(data, list.next, &text[..n])
+    with_slices(data, list.next, &text[..list.count])
 }
 
 fn run_case(data: &[u8], from: usize) -> Outcome {
@@ -71,20 +74,10 @@ fn run_case(data: &[u8], from: usize) -> Outcome {
     with_text(data, from, &mut text)
 }
 
-// A list of cases, behind so many.
-fn replay(rt: &impl Print, data: &[u8], from: usize, index: u64) -> io::Result<Tally> {
-    let mut list = cases::begin(data, from, index);
-    while 0 < list.left {
-        let case = run_case(data, list.next);
-        list = cases::report_step(rt, data, list, case)?;
-    }
-    Ok(list)
-}
-
 // The two lists of cases.
 fn run(rt: &impl Print, data: &[u8]) -> io::Result<()> {
-    let texts = replay(rt, data, 0, 0)?;
-    let shorts = replay(rt, data, texts.next, texts.index)?;
+    let texts = cases::replay(rt, data, 0, 0, run_case)?;
+    let shorts = cases::replay(rt, data, texts.next, texts.index, run_case)?;
     if !cases::report_whole(rt, data, shorts)? {
         return Ok(());
     }
