@@ -1,5 +1,5 @@
 -- A function's name as a token: it was read there, and the text has the name's bytes there.
-use Rattle.std.specs.Prelude.{Err, Ok}
+use Rattle.std.specs.Prelude.{Result, Ok, Err}
 use Prim.Native.Nat.{ℕ, ◌+◌, ◌*◌, ◌-◌, ◌≤◌, ◌<◌}
 use mathlib.Core.Path.{◌≡◌, refl, sym, ap, ◌∙◌}
 use mathlib.Core.List.{List}
@@ -12,6 +12,7 @@ use lib.Seq.{slice}
 use Rattle.utils.specs.Bytes.{pick, pad_to}
 use Rattle.pieces.specs.Tokens.{kind_of, carried}
 use Rattle.pieces.specs.declared.Identifier.{Identifier}
+use Rattle.parser.specs.declared.Refusal.{Refusal}
 use Rattle.pieces.specs.declared.Token.{Token}
 use Rattle.lexer.specs.Numbered.{Part, tokens_cells, names_cells}
 use Rattle.lexer.specs.Sound.{Sound, no_token}
@@ -36,9 +37,12 @@ unfolding named_d pick
 global-read ts i g next = by (eqb (token_at ts i).kind 2) refl
   where
     by : (b : Bool) → eqb (token_at ts i).kind 2 ≡ b
-        → pick b (Ok ((token_at ts i).name, (token_at ts i).next)) (Err (refusal 7 i 0)) ≡ Ok (g, next)
+        → pick {A = Result (Identifier × ℕ) Refusal} b (Ok ((token_at ts i).name, (token_at ts i).next))
+        (Err (refusal 7 i 0)) ≡ Ok (g, next)
         → ((token_at ts i).kind ≡ 2) × ((token_at ts i).name ≡ g)
-    by true e h = (eqb-true _ _ e, cc)
+    by true e h =
+        let p : ◌≡◌ {A = Identifier × ℕ} ((token_at ts i).name, (token_at ts i).next) (g, next) = cc in
+        (eqb-true _ _ e, ap (λ (a : Identifier × ℕ). a.0) p)
     by false e h = let z : ◌≡◌ {A = ℕ} 0 1 = cc in absurd (omega arith)
 
 -- each function that was read has its name there

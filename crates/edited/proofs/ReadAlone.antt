@@ -1,6 +1,6 @@
 -- A function that is read behind others is read with nothing known, too, and from its own tokens alone: the same
 -- function, but for the number of its function type.
-use Rattle.std.specs.Prelude.{Err, Ok}
+use Rattle.std.specs.Prelude.{Result, Ok, Err}
 use Prim.Native.Nat.{ℕ, ◌+◌, ◌<◌}
 use mathlib.Core.Path.{◌≡◌, refl, sym, ap, subst, ◌∙◌}
 use mathlib.Core.Bool.{false}
@@ -13,6 +13,7 @@ use Rattle.pieces.specs.declared.Identifier.{Identifier}
 use Rattle.parser.specs.Step.{look}
 use Rattle.parser.specs.Moved.{Move, Sim, Each, Rel}
 use Rattle.parser.specs.declared.Ty.{Ty}
+use Rattle.parser.specs.declared.Refusal.{Refusal}
 use Rattle.parser.specs.declared.Variable.{Variable}
 use Rattle.functions.specs.Known.{Known}
 use Rattle.functions.specs.Functions.{Function, FunctionAt, function, no_function, then_function, optional_formals}
@@ -39,16 +40,19 @@ record SameEntry (g g' : Identifier) (vs vs' : List Variable) (ret ret' : Ty) : 
 same_entry : {ts : List Tok} {at : ℕ} {g g' : Identifier} {vs vs' : List Variable} {ret ret' : Ty}
     → UpToEntry ts at g vs ret → UpToEntry ts at g' vs' ret' → SameEntry g g' vs vs' ret ret'
 same_entry {ts} {g = g} {g'} {ret = ret} {ret'} u w =
-    let name : g ≡ g' = cc (u.named, w.named) in
-    let at1 : u.at1 ≡ w.at1 = cc (u.named, w.named) in
+    let named : ◌≡◌ {A = Identifier × ℕ} (g, u.at1) (g', w.at1) = cc (u.named, w.named) in
+    let name : g ≡ g' = ap (λ (a : Identifier × ℕ). a.0) named in
+    let at1 : u.at1 ≡ w.at1 = ap (λ (a : Identifier × ℕ). a.1) named in
     let closed : Ok u.at2 ≡ Ok w.at2 =
     sym u.closed ∙ ap (λ (i : ℕ). (optional_formals ts i).end) at1 ∙ w.closed in
     let at2 : u.at2 ≡ w.at2 = cc in
-    let typed : Ok (ret, u.at3) ≡ Ok (ret', w.at3) = sym u.typed ∙ ap (optional_type ts) at2 ∙ w.typed in
+    let typed : ◌≡◌ {A = Result (Ty × ℕ) Refusal} (Ok (ret, u.at3)) (Ok (ret', w.at3)) =
+    sym u.typed ∙ ap (optional_type ts) at2 ∙ w.typed in
+    let found : ◌≡◌ {A = Ty × ℕ} (ret, u.at3) (ret', w.at3) = cc (typed) in
     record {
       name = name;
       formals = sym u.listed ∙ ap (λ (i : ℕ). (optional_formals ts i).list) at1 ∙ w.listed;
-      result = cc;
+      result = ap (λ (a : Ty × ℕ). a.0) found;
     }
 
 pub record ReadFree (ts : List Tok) (at : ℕ) (f : Function) : Type 0 where

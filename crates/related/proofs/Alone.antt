@@ -61,8 +61,17 @@ record MovedName (m : Move) (n : ℕ) (c' : Result (Identifier × ℕ) Refusal) 
 name-moved : {m : Move} {n : ℕ} {c c' : Result (Identifier × ℕ) Refusal} (g : Identifier) (at : ℕ) → Rel m n SimN c c' → c ≡ Ok (g, at)
     → MovedName m n c' g at
 name-moved {m} g at (Rel.is (SimN.at {x} {x'} q i h)) e =
-    let z : x ≡ g = cc in
-    record { g' = x'; at' = i; is = refl; same = subst (λ (y : Identifier). SimName m y x') z q; moved = cc; below = h }
+    let p : ◌≡◌ {A = Identifier × ℕ} (x, m.by + i) (g, at) = cc in
+    let z : x ≡ g = ap (λ (a : Identifier × ℕ). a.0) p in
+    let moved : at ≡ m.by + i = sym (ap (λ (a : Identifier × ℕ). a.1) p) in
+    record {
+      g' = x';
+      at' = i;
+      is = refl;
+      same = subst (λ (y : Identifier). SimName m y x') z q;
+      moved = moved;
+      below = h;
+    }
 name-moved g at (Rel.is (SimN.refused x x' r)) e = let z : ◌≡◌ {A = ℕ} 0 1 = cc in absurd (omega arith)
 
 record MovedAt (m : Move) (n : ℕ) (c' : Result ℕ Refusal) (at : ℕ) : Type 0 where
@@ -77,7 +86,9 @@ at_moved at (SimC.refused x x' r) e = let z : ◌≡◌ {A = ℕ} 0 1 = cc in ab
 
 type-moved : {m : Move} {n : ℕ} {c c' : Result (Ty × ℕ) Refusal} (ret : Ty) (at : ℕ) → Rel m n SimR c c' → c ≡ Ok (ret, at)
     → (at' : ℕ) × (c' ≡ Ok (ret, at'))
-type-moved ret at (Rel.is (SimR.at t i h)) e = (i, cc)
+type-moved {m} ret at (Rel.is (SimR.at t i h)) e =
+    let p : ◌≡◌ {A = Ty × ℕ} (t, m.by + i) (ret, at) = cc in
+    (i, ap (λ (a : Ty × ℕ). Ok (a.0, i)) p)
 type-moved ret at (Rel.is (SimR.refused x x' r)) e = let z : ◌≡◌ {A = ℕ} 0 1 = cc in absurd (omega arith)
 
 run-list : {m : Move} {n : ℕ} {r r' : Variables} → Rel m n SimVs r r' → SimVs m n r r'
