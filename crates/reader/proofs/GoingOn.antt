@@ -19,7 +19,7 @@ module _ (source : Bor (List ℕ)) where
   -- what a step holds whose piece is p
   abbrev with_piece : Cursor → Result Lexed Refusal → Step
   with_piece at p =
-      record { source = source; place = (behind at p).place; line = (behind at p).line; piece = p }
+      record { reader = lexer source (behind at p).place (behind at p).line; piece = p }
 
   on_step_lem : (more : Lexer → Pieces) (more' : Cursor → Pieces)
       → ((c : Cursor) → more (lexer source c.place c.line) ≡ more' c)

@@ -26,10 +26,7 @@ unfoldable pub step_of : Lexer → Step
 step_of l =
     let piece = piece_at l.source.now l.place l.line in
     let next = behind (cursor l.place l.line) piece in
-    record { source = l.source; place = next.place; line = next.line; piece = piece }
-
-abbrev pub reader_behind : Step → Lexer
-reader_behind r = lexer r.source r.place r.line
+    record { reader = lexer l.source next.place next.line; piece = piece }
 
 -- how many bytes of the text are left
 abbrev pub left_of : List ℕ → ℕ → ℕ
@@ -37,10 +34,10 @@ left_of s place = length s - place
 
 -- Going on with the step until the end or a refusal.
 unfoldable pub on_step : (Lexer → Pieces) → Step → Result Lexed Refusal → Pieces
-on_step more r (Ok (L.Skipped c)) = more (reader_behind r)
-on_step more r (Ok (L.Name n c)) = Pieces.spelled n (more (reader_behind r))
-on_step more r (Ok (L.Token t c)) = Pieces.plain t (more (reader_behind r))
-on_step more r (Ok (L.End c)) = Pieces.end (cursor r.place r.line)
+on_step more r (Ok (L.Skipped c)) = more r.reader
+on_step more r (Ok (L.Name n c)) = Pieces.spelled n (more r.reader)
+on_step more r (Ok (L.Token t c)) = Pieces.plain t (more r.reader)
+on_step more r (Ok (L.End c)) = Pieces.end (cursor r.reader.place r.reader.line)
 on_step more r (Err e) = Pieces.refused e
 
 unfoldable pub going_on : ℕ → Lexer → Pieces

@@ -17,9 +17,7 @@ pub struct Lexer<'src> {
 // A piece, and the reader behind it.
 #[derive(Clone, Copy)]
 pub struct Step<'src> {
-    pub source: &'src [u8],
-    pub place: usize,
-    pub line: u32,
+    pub reader: Lexer<'src>,
     pub piece: Result<Lexed, Refusal>,
 }
 
@@ -61,12 +59,8 @@ impl<'src> Lexer<'src> {
         };
         let piece = here.lex(self.source);
         let next = behind(here, piece);
-        Step {
-            source: self.source,
-            place: next.place,
-            line: next.line,
-            piece,
-        }
+        let reader = Lexer::new(self.source, next.place, next.line);
+        Step { reader, piece }
     }
 
     // How many bytes are left; where none is, the Rust's is_at_end holds.
