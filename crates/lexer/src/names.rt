@@ -42,55 +42,52 @@ fn same_name(text: &[u8], a: usize, m: usize, b: usize, n: usize) -> bool
     tokens::same_bytes(text, a, text, b, n)
 }
 
-// Whether name k is spelled as the `len` bytes from `place`, of which `print` is kept.
-fn is_name(
-    text: &[u8],
-    names: &[u32],
-    prints: &[u32],
+// The names that a text has so far: their cells, their prints, and how many there are.
+#[derive(Clone, Copy)]
+struct Known<'a> {
+    text: &'a [u8],
+    names: &'a [u32],
+    prints: &'a [u32],
     count: usize,
-    k: usize,
-    place: usize,
-    len: usize,
-    print: u32,
-) -> bool
-    requires { (k < count) × Table text.now names.now count × Prints text.now names.now count prints.now
-        × (get_or names.now (k * 2) 0 + get_or names.now (k * 2 + 1) 0 ≤ length text.now)
-        × (place + len ≤ length text.now) × (print ≡ print_of (slice place (place + len) text.now)) }
-    ensures { result
-        ≡ same_bytes (spelled_at text.now names.now k)
-        (slice place (place + len) text.now) }
-{
-    if prints[k] != print {
-        return false;
-    }
-    let p = k * NAME_CELLS;
-    let q = p + 1;
-    let a = names[p] as usize;
-    let n = names[q] as usize;
-    same_name(text, a, n, place, len)
 }
 
-// The number of the first of `count` names that is spelled as the `len` bytes from `place`.
-fn lookup(
-    text: &[u8],
-    names: &[u32],
-    prints: &[u32],
-    count: usize,
-    place: usize,
-    len: usize,
-    print: u32,
-) -> Option<Identifier>
-    requires { Table text.now names.now count × Prints text.now names.now count prints.now
-        × (place + len ≤ length text.now) × (print ≡ print_of (slice place (place + len) text.now)) }
-    ensures { result ≡ index_of (slice place (place + len) text.now)
-        (spellings text.now (first_names count names.now)) 0 }
-{
-    for k in 0..count {
-        if is_name(text, names, prints, count, k, place, len, print) {
-            return Some(Identifier(k as u32));
+impl<'a> Known<'a> {
+    // Whether name k is spelled as the `len` bytes from `place`, of which `print` is kept.
+    fn is_name(self, k: usize, place: usize, len: usize, print: u32) -> bool
+        requires { (k < self.count) × Table self.text.now self.names.now self.count
+            × Prints self.text.now self.names.now self.count self.prints.now
+            × (get_or self.names.now (k * 2) 0 + get_or self.names.now (k * 2 + 1) 0 ≤ length self.text.now)
+            × (place + len ≤ length self.text.now)
+            × (print ≡ print_of (slice place (place + len) self.text.now)) }
+        ensures { result
+            ≡ same_bytes (spelled_at self.entry.text.now self.entry.names.now k)
+            (slice place (place + len) self.entry.text.now) }
+    {
+        if self.prints[k] != print {
+            return false;
         }
+        let p = k * NAME_CELLS;
+        let a = self.names[p] as usize;
+        let n = self.names[p + 1] as usize;
+        same_name(self.text, a, n, place, len)
     }
-    None
+
+    // The number of the first that is spelled as the `len` bytes from `place`.
+    fn lookup(self, place: usize, len: usize, print: u32) -> Option<Identifier>
+        requires { Table self.text.now self.names.now self.count
+            × Prints self.text.now self.names.now self.count self.prints.now
+            × (place + len ≤ length self.text.now)
+            × (print ≡ print_of (slice place (place + len) self.text.now)) }
+        ensures { result ≡ index_of (slice place (place + len) self.entry.text.now)
+            (spellings self.entry.text.now (first_names self.entry.count self.entry.names.now)) 0 }
+    {
+        for k in 0..self.count {
+            if self.is_name(k, place, len, print) {
+                return Some(Identifier(k as u32));
+            }
+        }
+        None
+    }
 }
 
 // A name's number; a new name is stored behind the `count` that there are.
@@ -117,7 +114,13 @@ pub fn get_identifier(
         return Err(Refusal::NameTooLong(at));
     }
     let print = print_of(&text[place..place + len]);
-    match lookup(text, names, prints, count, place, len, print) {
+    let known = Known {
+        text,
+        names,
+        prints,
+        count,
+    };
+    match known.lookup(place, len, print) {
         Some(i) => Ok(Identified::Known(i)),
         None => {
             if limits::NAMES <= count {

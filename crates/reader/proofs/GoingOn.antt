@@ -10,7 +10,7 @@ use Rattle.pieces.specs.Pieces.{cursor, piece_at, Pieces, on_piece, pieces_from,
 use Rattle.pieces.specs.declared.Cursor.{Cursor}
 use Rattle.pieces.specs.declared.Lexed.{Lexed}
 use Rattle.pieces.specs.declared.Lexed.TheVariants as L
-use Rattle.reader.specs.Reader.{lexer, behind, stepped_at, step_of, on_step, going_on, reader_pieces}
+use Rattle.reader.specs.Reader.{lexer, behind, step_of, on_step, going_on, reader_pieces}
 use Rattle.reader.specs.declared.Lexer.{Lexer}
 use Rattle.reader.specs.declared.Step.{Step}
 use Rattle.pieces.specs.declared.Refusal.{Refusal}
@@ -19,7 +19,7 @@ module _ (source : Bor (List ℕ)) where
   -- what a step holds whose piece is p
   abbrev with_piece : Cursor → Result Lexed Refusal → Step
   with_piece at p =
-      record { source = source; place = (behind at p).place; line = (behind at p).line; piece = p }
+      record { reader = lexer source (behind at p).place (behind at p).line; piece = p }
 
   on_step_lem : (more : Lexer → Pieces) (more' : Cursor → Pieces)
       → ((c : Cursor) → more (lexer source c.place c.line) ≡ more' c)
@@ -33,7 +33,7 @@ module _ (source : Bor (List ℕ)) where
 
   going_on_lem : (turns place line : ℕ)
       → going_on turns (lexer source place line) ≡ pieces_from turns source.now place line
-  unfolding going_on step_of stepped_at pieces_from
+  unfolding going_on step_of pieces_from
   going_on_lem zero place line = refl
   going_on_lem (suc turns) place line =
       on_step_lem (going_on turns) (λ c. pieces_from turns source.now c.place c.line)

@@ -8,7 +8,6 @@ use Rattle.pieces.specs.declared.Lexed.{Lexed}
 use Rattle.pieces.specs.declared.Lexed.TheVariants as L
 use Rattle.reader.specs.declared.Lexer.{Lexer}
 use Rattle.reader.specs.declared.Step.{Step}
-use Rattle.reader.specs.declared.Stepped.{Stepped}
 use Rattle.pieces.specs.declared.Refusal.{Refusal}
 
 abbrev pub lexer : Bor (List ℕ) → ℕ → ℕ → Lexer
@@ -22,20 +21,12 @@ behind at (Ok (L.Token t c)) = c
 behind at (Ok (L.End c)) = c
 behind at (Err r) = at
 
-unfoldable pub stepped_at : List ℕ → ℕ → ℕ → Stepped
-stepped_at s place line =
-    let piece = piece_at s place line in
-    let next = behind (cursor place line) piece in
-    record { place = next.place; line = next.line; piece = piece }
-
 -- The step: the piece at the reader's position, and the reader behind it, on the same text.
 unfoldable pub step_of : Lexer → Step
 step_of l =
-    let r = stepped_at l.source.now l.place l.line in
-    record { source = l.source; place = r.place; line = r.line; piece = r.piece }
-
-abbrev pub reader_behind : Step → Lexer
-reader_behind r = lexer r.source r.place r.line
+    let piece = piece_at l.source.now l.place l.line in
+    let next = behind (cursor l.place l.line) piece in
+    record { reader = lexer l.source next.place next.line; piece = piece }
 
 -- how many bytes of the text are left
 abbrev pub left_of : List ℕ → ℕ → ℕ
@@ -43,10 +34,10 @@ left_of s place = length s - place
 
 -- Going on with the step until the end or a refusal.
 unfoldable pub on_step : (Lexer → Pieces) → Step → Result Lexed Refusal → Pieces
-on_step more r (Ok (L.Skipped c)) = more (reader_behind r)
-on_step more r (Ok (L.Name n c)) = Pieces.spelled n (more (reader_behind r))
-on_step more r (Ok (L.Token t c)) = Pieces.plain t (more (reader_behind r))
-on_step more r (Ok (L.End c)) = Pieces.end (cursor r.place r.line)
+on_step more r (Ok (L.Skipped c)) = more r.reader
+on_step more r (Ok (L.Name n c)) = Pieces.spelled n (more r.reader)
+on_step more r (Ok (L.Token t c)) = Pieces.plain t (more r.reader)
+on_step more r (Ok (L.End c)) = Pieces.end (cursor r.reader.place r.reader.line)
 on_step more r (Err e) = Pieces.refused e
 
 unfoldable pub going_on : ℕ → Lexer → Pieces

@@ -7,7 +7,7 @@ use lib.ListN.{length, take, length-take, drop_of_length-le}
 use Rattle.lexer.proofs.Parts.{name-within, names-within, name-here, name-later}
 use Rattle.lexer.specs.Steps.{parts_of}
 use Rattle.lexer.specs.Numbered.{index_of, spellings}
-use Rattle.lexer.proofs.names.lookup.Goals as goal
+use Rattle.lexer.proofs.names.Known.lookup.Goals as goal
 
 pub loop-k-init : goal.loop-k-init
 loop-k-init c =
@@ -23,8 +23,8 @@ loop-k-preserved c = (search name-later, search names-within)
 pub returns : goal.returns
 unfolding index_of spellings parts_of
 returns c =
-    let z : length (take (c.args.count * 2) c.args.names.now) ≤ c.loop-k.k * 2 = rw length-take (omega arith) in
-    rw (← c.loop-k.invariant.0, drop_of_length-le (take (c.args.count * 2) c.args.names.now) z)
+    let z : length (take (c.args.self.count * 2) c.args.self.names.now) ≤ c.loop-k.k * 2 = rw length-take (omega arith) in
+    rw (← c.loop-k.invariant.0, drop_of_length-le (take (c.args.self.count * 2) c.args.self.names.now) z)
 
 pub returns-then-is_name : goal.returns-then-is_name
 returns-then-is_name c = search name-here
