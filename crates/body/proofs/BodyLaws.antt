@@ -24,7 +24,7 @@ use Rattle.body.specs.Shapes.{shapes_of, names_in}
 use Rattle.parser.specs.declared.Refusal.{Refusal}
 use Rattle.parser.specs.declared.Parsed.{Parsed}
 use Rattle.parser.specs.declared.Parsed.TheVariants as P
-use Rattle.body.proofs.SimItems.{lacks_behind}
+use Rattle.body.proofs.Cells.{lacks_operation}
 
 abbrev pub is_label : Item → Bool
 is_label (label w l) = true
@@ -40,7 +40,7 @@ after (call w g xs) = after_operation
 after (call_into w v g xs) = after_operation
 
 never : true ≡ false → ⊥
-never e = let z : ◌≡◌ {A = ℕ} 0 1 = cc in omega arith
+never e = cc
 
 -- Behind a terminator comes a label, or nothing.
 unfoldable pub TerminatorsLast : ℕ → List Item → Type 0
@@ -113,7 +113,7 @@ Ordered before r =
     (next : ℕ) → r.end ≡ Ok next → TerminatorsLast before r.items × LabelsFollowed before r.items
 
 stopped : (before : ℕ) (e : Refusal) → Ordered before (body_stop e)
-stopped before e next h = absurd (let z : ◌≡◌ {A = ℕ} 0 1 = cc in omega arith)
+stopped before e next h = absurd (cc)
 
 -- the brace closes, and not behind a label
 closed : (before kind next : ℕ) → closes before kind ≡ true → Ordered before (body_end (Ok next))
@@ -154,12 +154,6 @@ terminator_last ts room ls before at {next} h = (ordered ts room ls before at ne
 pub labels_followed : (ts : List Tok) (room : ℕ) (ls : List ℕ) (before at : ℕ) {next : ℕ}
     → (body_d ts room ls before at).end ≡ Ok next → LabelsFollowed before (body_d ts room ls before at).items
 labels_followed ts room ls before at {next} h = (ordered ts room ls before at next h).1
-
--- What is accepted behind a label has a first item.
-pub first-item : (ts : List Tok) (room : ℕ) (ls : List ℕ) (at : ℕ) {next : ℕ}
-    → (body_d ts room ls after_label at).end ≡ Ok next → (body_d ts room ls after_label at).items ≡ [] → ⊥
-unfolding LabelsFollowed
-first-item ts room ls at h e = (rw e at (labels_followed ts room ls after_label at h)) refl
 
 -- How many labels. ----------------------------------------------------------------------------------------------------
 
@@ -251,11 +245,11 @@ pub closed_terminator_last : (void : Bool) (before last : ℕ) (is : List Item) 
 unfolding closed_from TerminatorsLast behind pick
 closed_terminator_last void before last [] t =
     added (TerminatorsLast before) (lacks_ret void before) last []
-    (λ q. ((λ _ e. omega (arith, lacks_behind void before q, e)), tt)) (λ _. tt)
+    (λ q. ((λ _ e. omega (arith, lacks_operation void before q, e)), tt)) (λ _. tt)
 closed_terminator_last void before last (label w l ∷ is) t =
     let more = closed_terminator_last void after_label last is t.1 in
     added (TerminatorsLast before) (lacks_ret void before) last (label w l ∷ closed_from void after_label last is)
-    (λ q. ((λ _ e. omega (arith, lacks_behind void before q, e)), (λ e. absurd (never e), more)))
+    (λ q. ((λ _ e. omega (arith, lacks_operation void before q, e)), (λ e. absurd (never e), more)))
     (λ _. (t.0, more))
 closed_terminator_last void before last (plain o ∷ is) t = (t.0, closed_terminator_last void _ _ is t.1)
 closed_terminator_last void before last (call w g xs ∷ is) t = (t.0, closed_terminator_last void _ _ is t.1)

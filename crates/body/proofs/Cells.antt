@@ -15,31 +15,12 @@ use Rattle.parser.specs.Runs.{variables_cells}
 use Rattle.body.specs.Body.{Item, label, plain, call, call_into, terminates, arguments_in}
 use Rattle.body.specs.Body.{behind, labels_of, ret, lacks_ret, closed_from}
 use Rattle.body.specs.Shapes.{shapes_of}
-use Rattle.parser.specs.declared.Variable.{Variable}
 use Rattle.parser.specs.declared.Operation.{Operation}
 use Rattle.body.specs.Records.{record_of, items_cells, arguments_cells, arguments_count}
 use Rattle.body.specs.Room.{filled}
 use Rattle.body.specs.Turns.{before_number, added, closing, before_next, last_next, Taken}
 use Rattle.body.specs.declared.Going.{Going}
-
-pub items_append : (used : ℕ) (xs ys : List Item)
-    → items_cells used (xs ++ ys) ≡ items_cells used xs ++ items_cells (used + arguments_count xs) ys
-unfolding items_cells arguments_count
-items_append used [] ys = rw add-zero
-items_append used (x ∷ xs) ys =
-    let e : used + (length (arguments_in x) + arguments_count xs) ≡ used + length (arguments_in x) + arguments_count xs =
-    omega arith in
-    rw (e, items_append (used + length (arguments_in x)) xs ys)
-
-pub length-items : (used : ℕ) (xs : List Item) → length (items_cells used xs) ≡ length xs * 8
-unfolding items_cells
-length-items used [] = refl
-length-items used (x ∷ xs) = omega (arith, length-items (used + length (arguments_in x)) xs)
-
-length_variables : (vs : List Variable) → length (variables_cells vs) ≡ length vs * 2
-unfolding variables_cells
-length_variables [] = refl
-length_variables (v ∷ vs) = omega (arith, length_variables vs)
+use Rattle.body.proofs.Lay.{length-items_cells, length-variables_cells, items_cells_append}
 
 -- no argument in an added `ret`
 pub added_cells_lem : (t : Bool) (last used : ℕ) → items_cells 0 (added t last) ≡ items_cells used (added t last)
@@ -94,10 +75,11 @@ started before (plain o) = pick (fresh before) 1 0
 started before (call w g xs) = pick (fresh before) 1 0
 started before (call_into w v g xs) = pick (fresh before) 1 0
 
+-- a `ret` is added only behind an operation
 pub lacks_operation : (void : Bool) (before : ℕ) → lacks_ret void before ≡ true → before ≡ 2
 unfolding lacks_ret pick
 lacks_operation true before h = eqb-true before 2 h
-lacks_operation false before h = absurd (let z : ◌≡◌ {A = ℕ} 0 1 = cc in omega arith)
+lacks_operation false before h = absurd (cc)
 
 added-filled : (t : Bool) (before last : ℕ) (is : List Item) → (t ≡ true → before ≡ 2)
     → filled (fresh before) (shapes_of (added t last ++ is)) ≡ filled (pick t false (fresh before)) (shapes_of is)
@@ -149,10 +131,10 @@ module _ {void : Bool} {i : Item} {s s' : Going} {items₀ items arguments₀ ar
       let xs = closing void (before_number s.before) s.last i in
       let ys = closed_from void (before_number s'.before) s'.last is in
       let n : s'.items * 8 ≡ s.items * 8 + length (items_cells s.arguments xs) =
-      omega (arith, t.items_next, length-items s.arguments xs) in
+      omega (arith, t.items_next, length-items_cells s.arguments xs) in
       let u : s'.arguments ≡ s.arguments + arguments_count xs =
       omega (arith, t.arguments_next, closing-count void (before_number s.before) s.last i) in
-      rw (closed_on, items_append s.arguments xs ys, t.items_are, n, u)
+      rw (closed_on, items_cells_append s.arguments xs ys, t.items_are, n, u)
       (sym (sets_append (items_cells s.arguments xs) (items_cells (s.arguments + arguments_count xs) ys) items₀
       (s.items * 8)))
 
@@ -161,7 +143,7 @@ module _ {void : Bool} {i : Item} {s s' : Going} {items₀ items arguments₀ ar
   unfolding arguments_cells
   arguments-on =
       let n : s'.arguments * 2 ≡ s.arguments * 2 + length (variables_cells (arguments_in i)) =
-      omega (arith, t.arguments_next, length_variables (arguments_in i)) in
+      omega (arith, t.arguments_next, length-variables_cells (arguments_in i)) in
       rw (t.arguments_are, n)
       (sym (sets_append (variables_cells (arguments_in i)) (arguments_cells is) arguments₀ (s.arguments * 2)))
 

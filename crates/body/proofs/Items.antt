@@ -38,13 +38,13 @@ ended-done : (e : Result ℕ Refusal) (f : Identifier) (m : ℕ) {d : Called}
     → (e ≡ Ok d.next) × (f ≡ d.callee) × (m ≡ d.count)
 unfolding then_at
 ended-done (Ok j) f m h = (cc, cc, cc)
-ended-done (Err r) f m h = absurd (let z : ◌≡◌ {A = ℕ} 0 1 = cc in omega arith)
+ended-done (Err r) f m h = absurd (cc)
 
 ended-refused : (e : Result ℕ Refusal) (f : Identifier) (m : ℕ) {r : Refusal}
     → ◌≡◌ {A = Result Called Refusal} (Err r) (then_at Err e (λ j. Ok (record { callee = f; count = m; next = j })))
     → e ≡ Err r
 unfolding then_at
-ended-refused (Ok j) f m h = absurd (let z : ◌≡◌ {A = ℕ} 0 1 = cc in omega arith)
+ended-refused (Ok j) f m h = absurd (cc)
 ended-refused (Err q) f m h = cc
 
 pub called-done : (c : Calling) {d : Called} → Ok d ≡ called_of c
@@ -87,7 +87,7 @@ call_into-item w used v t c arguments₀ arguments q h =
 
 pub read-refused : (used : ℕ) (d : ItemAt) {e : Refusal} → Err e ≡ item_read used d → d ≡ refused e
 unfolding item_read
-read-refused used (item i next) h = absurd (let z : ◌≡◌ {A = ℕ} 0 1 = cc in omega arith)
+read-refused used (item i next) h = absurd (cc)
 read-refused used (refused r) h = cc
 
 pub record Read (used : ℕ) (r : ItemRead) (d : ItemAt) (arguments₀ arguments : List ℕ) : Type 0 where
@@ -102,7 +102,7 @@ pub read_done : (used : ℕ) (d : ItemAt) {r : ItemRead} (arguments₀ arguments
 unfolding item_read
 read_done used (item i at) arguments₀ arguments h k =
     record { read = i; is = cc; record_is = cc; then_is = cc; stored = k }
-read_done used (refused r) arguments₀ arguments h k = absurd (let z : ◌≡◌ {A = ℕ} 0 1 = cc in omega arith)
+read_done used (refused r) arguments₀ arguments h k = absurd (cc)
 
 -- What a record says of its operation. ------------------------------------------------------------------------------
 

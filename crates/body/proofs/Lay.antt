@@ -2,7 +2,7 @@
 -- has no arguments.
 use Prim.Native.Nat.{ℕ, ◌+◌, ◌*◌}
 use mathlib.Core.Path.{◌≡◌, refl, ◌∙◌}
-use mathlib.Core.List.{List, [], ◌∷◌, ◌++◌, append_assoc}
+use mathlib.Core.List.{List, [], ◌∷◌, ◌++◌}
 use mathlib.Core.Bool.{Bool, true, false}
 use native.Mathlib.Omega.{arith}
 use native.Mathlib.Nat.{add-zero, zero-add}
@@ -13,7 +13,7 @@ use Rattle.body.specs.Body.{Item, label, plain, call, call_into, arguments_in, a
 use Rattle.body.specs.Body.{ret}
 use Rattle.body.specs.Body.{closed_from, closed_items}
 use Rattle.parser.specs.declared.Variable.{Variable}
-use Rattle.body.specs.Records.{record_of, record_cells, items_cells, arguments_cells, arguments_count}
+use Rattle.body.specs.Records.{items_cells, arguments_cells, arguments_count}
 
 -- an item takes eight cells
 pub length-items_cells : (used : ℕ) (is : List Item) → length (items_cells used is) ≡ length is * 8
@@ -21,7 +21,7 @@ unfolding items_cells
 length-items_cells used [] = refl
 length-items_cells used (i ∷ is) = omega (arith, length-items_cells (used + length (arguments_in i)) is)
 
-length-variables_cells : (vs : List Variable) → length (variables_cells vs) ≡ length vs * 2
+pub length-variables_cells : (vs : List Variable) → length (variables_cells vs) ≡ length vs * 2
 unfolding variables_cells
 length-variables_cells [] = refl
 length-variables_cells (v ∷ vs) = omega (arith, length-variables_cells vs)
@@ -35,16 +35,6 @@ length-arguments_cells (i ∷ is) =
 
 -- One run of items behind another. ------------------------------------------------------------------------------------
 
-pub arguments_count_append : (is js : List Item) → arguments_count (is ++ js) ≡ arguments_count is + arguments_count js
-unfolding arguments_count
-arguments_count_append [] js = omega arith
-arguments_count_append (i ∷ is) js = omega (arith, arguments_count_append is js)
-
-pub arguments_cells_append : (is js : List Item) → arguments_cells (is ++ js) ≡ arguments_cells is ++ arguments_cells js
-unfolding arguments_cells
-arguments_cells_append [] js = refl
-arguments_cells_append (i ∷ is) js = rw (arguments_cells_append is js, append_assoc)
-
 pub items_cells_append : (used : ℕ) (is js : List Item)
     → items_cells used (is ++ js) ≡ items_cells used is ++ items_cells (used + arguments_count is) js
 unfolding items_cells arguments_count
@@ -53,12 +43,6 @@ items_cells_append used (i ∷ is) js =
     let e : used + (length (arguments_in i) + arguments_count is) ≡ used + length (arguments_in i) + arguments_count is =
     omega arith in
     rw (e, items_cells_append (used + length (arguments_in i)) is js)
-
--- one item more
-pub items_cells_snoc : (used : ℕ) (is : List Item) (i : Item)
-    → items_cells used (is ++ (i ∷ [])) ≡ items_cells used is ++ record_cells (record_of (used + arguments_count is) i)
-unfolding items_cells
-items_cells_snoc used is i = items_cells_append used is (i ∷ [])
 
 -- An added `ret`. -----------------------------------------------------------------------------------------------------
 

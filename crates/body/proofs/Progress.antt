@@ -170,7 +170,7 @@ module _ (ts : List Tok) (last : ℕ) (ends : (token_at ts last).kind ≡ 38) wh
     const_in v =
         pick_either (ParsedIn from last) (is_constant (token_at ts (word + 1)).kind) _ _
         (λ t.
-        let m = moves (word + 1) inside (λ z. let f = rw z at t in let o : ◌≡◌ {A = ℕ} 0 1 = cc in omega arith) in
+        let m = moves (word + 1) inside (λ z. let f = rw z at t in cc) in
         rw m.0 (semicolon from (word + 1 + 1) _ m.1 (λ g. (omega arith, g, omega arith))))
         (λ t. tt)
 
@@ -189,11 +189,11 @@ module _ (ts : List Tok) (last : ℕ) (ends : (token_at ts last).kind ≡ 38) wh
 
   not-unary : (k : ℕ) → is_unary k ≡ true → k ≡ 38 → ⊥
   unfolding is_unary pick
-  not-unary k t z = let f = rw z at t in let o : ◌≡◌ {A = ℕ} 0 1 = cc in omega arith
+  not-unary k t z = let f = rw z at t in cc
 
   not-binary : (k : ℕ) → is_binary k ≡ true → k ≡ 38 → ⊥
   unfolding is_binary pick
-  not-binary k t z = let f = rw z at t in let o : ◌≡◌ {A = ℕ} 0 1 = cc in omega arith
+  not-binary k t z = let f = rw z at t in cc
 
   value_in : (from at : ℕ) (v : Variable) → from ≤ at → at ≤ last → ParsedIn from last (value_d ts v at)
   unfolding value_d look

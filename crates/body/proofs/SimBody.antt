@@ -1,11 +1,10 @@
 -- The simulation of demand 3 for a body: its items are the other's, moved and renamed, and it ends or is refused alike.
-use Rattle.std.specs.Prelude.{Err, Ok, Result}
+use Rattle.std.specs.Prelude.{Ok, Result}
 use Prim.Native.Nat.{ℕ, zero, suc, ◌+◌, ◌≤◌, ◌<◌}
 use mathlib.Core.Path.{◌≡◌, refl, ap}
 use mathlib.Core.List.{List, [], ◌∷◌, ◌++◌}
 use mathlib.Core.Bool.{Bool, true, false}
 use native.Mathlib.Omega.{arith}
-use borrow.Author.Tests.{eqb-true}
 use lib.Dec.{eqb, ltb}
 use lib.ListN.{length, get_or}
 use Rattle.lexer.specs.Decoded.{Tok, token_at, past, index_behind, with_next}
@@ -14,12 +13,13 @@ use Rattle.parser.specs.Step.{refusal, look, then_at}
 use Rattle.parser.specs.Runs.{Calling}
 use Rattle.utils.specs.Bytes.{pick}
 use Rattle.body.specs.Body.{Item, ItemAt, Body, item_token, is_terminator, body_end, body_stop, body_then}
-use Rattle.body.specs.Body.{called_item, parsed_item, item_d, then_item, behind, closes, body_d, after_label}
+use Rattle.body.specs.Body.{called_item, parsed_item, item_d, then_item, behind, closes, body_d}
 use Rattle.parser.specs.Moved.{Move, Sim, SimName, SimE, SimC, SimO, SimV, SimP, SimCalling, Each, SimNumber, Rel}
 use Rattle.body.specs.Moved.{SimItem, SimItemAt, SimBrace, SimBody}
 use Rattle.parser.specs.declared.Refusal.{Refusal}
 use Rattle.parser.specs.declared.Variable.{Variable}
 use Rattle.parser.specs.declared.Parsed.{Parsed}
+use Rattle.body.proofs.Turning.{closes_kind}
 use Rattle.parser.proofs.Sim.{pick_s, test_s, then_named_s, labelled_s, instruction_s, call_s}
 
 -- an item's token is moved ..
@@ -85,14 +85,6 @@ brace-past ts at = by (ltb at (length ts)) (get_or ts at past)
         → 1 ≤ (pick b (with_next t (index_behind t.kind at)) (with_next past at)).next
     by true t e = rw e (omega arith)
     by false t e = absurd (omega (arith, e))
-
-closing-brace : (before kind : ℕ) → closes before kind ≡ true → kind ≡ 28
-unfolding closes pick
-closing-brace before kind = by (eqb before after_label)
-  where
-    by : (b : Bool) → pick b false (eqb kind 28) ≡ true → kind ≡ 28
-    by true e = let z : ◌≡◌ {A = ℕ} 0 1 = cc in absurd (omega arith)
-    by false e = eqb-true kind 28 e
 
 module _ {m : Move} {n : ℕ} where
   ended : (i : ℕ) → i ≤ n → 1 ≤ i → Rel m n SimBody (body_end (Ok (m.by + i))) (body_end (Ok i))
@@ -171,7 +163,7 @@ module _ {m : Move} {n : ℕ} {ts ts' : List Tok} (s : Sim m n ts ts') where
   body_s (suc room) {before = before} {before' = before'} i r c h =
       look-closing i _ _ h (λ kind next near past.
       test_s SimBody m n (closes before kind) (closes before' kind) _ _ _ _ (ap (λ (b : ℕ). closes b kind) c)
-      (λ e. ended next near (past (closing-brace before' kind e)))
+      (λ e. ended next near (past (closes_kind before' kind e)))
       (pick_s SimBody m n _ _ _ _ _
       (λ _. then_named_s SimBody m n body_stop body_stop _ _ (labelled_s s r i h) stopped (λ l l' q at1 g.
       with_item _ _ (SimItem.label i q h) (body_s room at1 (each_snoc r q) refl g)))

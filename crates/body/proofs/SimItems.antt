@@ -5,14 +5,14 @@ use mathlib.Core.Path.{◌≡◌, refl, ap}
 use mathlib.Core.List.{List, ◌∷◌}
 use mathlib.Core.Bool.{Bool, true, false}
 use native.Mathlib.Omega.{arith}
-use borrow.Author.Tests.{eqb-true}
 use lib.ListN.{length}
 use Rattle.utils.specs.Bytes.{pick}
-use Rattle.body.specs.Body.{Item, operation_token, after_brace, after_label, after_operation, behind, labels_of, ret}
+use Rattle.body.specs.Body.{Item, operation_token, after_brace, after_label, after_operation, behind, ret}
 use Rattle.body.specs.Body.{lacks_ret, closed_from, closed_items}
 use Rattle.body.specs.Shapes.{shape_of, shapes_of}
-use Rattle.parser.specs.Moved.{Move, SimO, Each, SimNumber}
+use Rattle.parser.specs.Moved.{Move, SimO, Each}
 use Rattle.body.specs.Moved.{SimItem, SimShape}
+use Rattle.body.proofs.Cells.{lacks_operation}
 use Rattle.body.proofs.SimBody.{token-moved, token-below, terminator_kept, number_of}
 
 -- related lists are equally long
@@ -20,23 +20,7 @@ pub count_s : {A : Type 0} {R : A → A → Type 0} {xs xs' : List A} → Each R
 count_s Each.none = refl
 count_s (Each.more q r) = ap suc (count_s r)
 
--- a body's labels are renamed
-pub labels_s : {m : Move} {n : ℕ} {is is' : List Item} → Each (SimItem m n) is is'
-    → Each (SimNumber m) (labels_of is) (labels_of is')
-unfolding labels_of
-labels_s Each.none = Each.none
-labels_s (Each.more (SimItem.label w q h) r) = Each.more (number_of q) (labels_s r)
-labels_s (Each.more (SimItem.plain q) r) = labels_s r
-labels_s (Each.more (SimItem.call w g xs h) r) = labels_s r
-labels_s (Each.more (SimItem.call_into w v g xs h) r) = labels_s r
-
 -- Closed items. -------------------------------------------------------------------------------------------------------
-
--- a `ret` is added only behind an operation
-pub lacks_behind : (void : Bool) (before : ℕ) → lacks_ret void before ≡ true → before ≡ after_operation
-unfolding lacks_ret pick
-lacks_behind true before e = eqb-true before after_operation e
-lacks_behind false before e = let z : ◌≡◌ {A = ℕ} 0 1 = cc in absurd (omega arith)
 
 added_s : {m : Move} {n : ℕ} (lacks : Bool) (last last' : ℕ) {xs xs' : List Item}
     → (lacks ≡ true → (last ≡ m.by + last') × (last' < n))
@@ -51,9 +35,9 @@ pub closed_s : {m : Move} {n : ℕ} (void : Bool) (before last last' : ℕ) {is 
     → Each (SimItem m n) (closed_from void before last is) (closed_from void before last' is')
 unfolding closed_from behind
 closed_s void before last last' e Each.none =
-    added_s (lacks_ret void before) last last' (λ h. e (lacks_behind void before h)) Each.none
+    added_s (lacks_ret void before) last last' (λ h. e (lacks_operation void before h)) Each.none
 closed_s void before last last' e (Each.more (SimItem.label w q h) r) =
-    added_s (lacks_ret void before) last last' (λ h. e (lacks_behind void before h))
+    added_s (lacks_ret void before) last last' (λ h. e (lacks_operation void before h))
     (Each.more (SimItem.label w q h) (closed_s void after_label last last' (λ h. absurd (omega (arith, h))) r))
 closed_s {m} {n} void before last last' e (Each.more {xs = is} {xs' = is'} (SimItem.plain {o} {o'} q) r) =
     let more : Each (SimItem m n) (closed_from void (behind (Item.plain o)) (operation_token o) is)

@@ -30,7 +30,8 @@ use Rattle.body.specs.declared.Closed.{Closed}
 use Rattle.body.specs.declared.Going.{Going}
 use Rattle.body.specs.declared.Turn.{Turn}
 use Rattle.body.specs.declared.Turn.TheVariants as T
-use Rattle.body.proofs.Cells.{items_append, length-items, added_cells_lem}
+use Rattle.body.proofs.Cells.{added_cells_lem}
+use Rattle.body.proofs.Lay.{length-items_cells, items_cells_append}
 use Rattle.body.proofs.Progress.{LabelIn, label_in, moves}
 
 -- A label. ----------------------------------------------------------------------------------------------------------
@@ -74,7 +75,7 @@ module _ (ts : List Tok) (void : Bool) (s : Going) {l : Identifier} {next : ℕ}
         let t = lacks_ret void (before_number s.before) in
         let xs = added t s.last in
         let m : (s.items + length xs) * 8 ≡ s.items * 8 + length (items_cells s.arguments xs) =
-        omega (arith, length-items s.arguments xs) in
+        omega (arith, length-items_cells s.arguments xs) in
         record {
           name = l;
           goes = sym e ∙ f;
@@ -97,7 +98,7 @@ module _ (ts : List Tok) (void : Bool) (s : Going) {l : Identifier} {next : ℕ}
                     rw (
                       added_cells_lem t s.last s.arguments,
                       m,
-                      items_append s.arguments xs (label s.at l ∷ []),
+                      items_cells_append s.arguments xs (label s.at l ∷ []),
                     )
                     (sym
                     (sets_append (items_cells s.arguments xs)
@@ -118,7 +119,7 @@ pub closes_kind : (before kind : ℕ) → closes before kind ≡ true → kind �
 unfolding closes
 closes_kind before kind =
     pick_either (λ (b : Bool). b ≡ true → kind ≡ 28) (eqb before 1) _ _
-    (λ t h. absurd (let z : ◌≡◌ {A = ℕ} 0 1 = cc in omega arith)) (λ t h. eqb-true kind 28 h)
+    (λ t h. absurd (cc)) (λ t h. eqb-true kind 28 h)
 
 pub body_ended : (ts : List Tok) (void : Bool) (s : Going) (e : Closed) (items₀ items arguments labels : List ℕ)
     → Within ts s.at → closes (before_number s.before) (token_at ts s.at).kind ≡ true

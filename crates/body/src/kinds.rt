@@ -1,4 +1,5 @@
-// The kinds of items (docs/INTERFACE.md), by the Rust's names. A kind from `JUMP` on is a terminator's.
+// The kinds of items (docs/INTERFACE.md), by the Rust's names. A kind from `JUMP` on is a terminator's. Numbers, and no
+// enum: a record is read from cells, and those may hold any number.
 pub const LABEL: u32 = 1;
 
 pub const BINARY: u32 = 2;

@@ -53,11 +53,7 @@ fn last_of(kind: u32, first: u32, second: u32) -> Last
     ensures { result ≡ last_of kind first second }
 {
     match kind {
-        kinds::CALL => Last::Run {
-            first,
-            count: second,
-        },
-        kinds::CALL_INTO => Last::Run {
+        kinds::CALL | kinds::CALL_INTO => Last::Run {
             first,
             count: second,
         },
@@ -135,15 +131,15 @@ fn operation_token(o: Operation) -> usize
     ensures { result ≡ operation_token o }
 {
     match o {
-        Operation::BinaryOp { token: w, .. } => w,
-        Operation::UnaryOp { token: w, .. } => w,
-        Operation::Const(w, _) => w,
-        Operation::Print(w, _) => w,
-        Operation::Nop(w) => w,
-        Operation::Jump(w, _) => w,
-        Operation::Branch { token: w, .. } => w,
-        Operation::Ret(w) => w,
-        Operation::RetValue(w, _) => w,
+        Operation::BinaryOp { token, .. }
+        | Operation::UnaryOp { token, .. }
+        | Operation::Const(token, _)
+        | Operation::Print(token, _)
+        | Operation::Nop(token)
+        | Operation::Jump(token, _)
+        | Operation::Branch { token, .. }
+        | Operation::Ret(token)
+        | Operation::RetValue(token, _) => token,
     }
 }
 

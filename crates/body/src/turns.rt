@@ -9,7 +9,7 @@ ghost use Rattle.body.specs.Records.{items_cells};
 ghost use Rattle.body.specs.Turns.{before_number, late_refusal, behind_kind, added, behind_label, label_put, Ready};
 ghost use Rattle.body.specs.Turns.{ItemTurned, LabelTurned, Turned};
 
-use crate::{Before, Closed, Going, ItemRead, ItemRecord, Last, Turn, item, kinds, records};
+use crate::{Before, Closed, Going, ItemRead, Last, Turn, item, kinds, records};
 use parser::Refusal;
 use pieces::Identifier;
 use utils::numbers;
@@ -48,15 +48,8 @@ fn add_ret(items: &mut [u32], n: usize, lacks: bool, last: u32) -> usize
     ensures after { items.new ≡ sets items.old (n * 8) (items_cells 0 (added lacks last)) }
 {
     if lacks {
-        let r = ItemRecord {
-            kind: kinds::RET,
-            token: last,
-            dest: Identifier(0),
-            dty: 0,
-            left: Identifier(0),
-            lty: 0,
-            last: Last::Name(Identifier(0), 0),
-        };
+        let none = Identifier(0);
+        let r = records::record_of(kinds::RET, last, none, 0, none, Last::Name(none, 0));
         records::put_record(items, n, r);
         return n + 1;
     }

@@ -104,7 +104,7 @@ beyond_at cells (suc m) from n h = by (record_part (record_at cells from)) h (be
 operation-is : (t : Bool) (a w w' : ℕ) (g g' : List ℕ) → pick t (name a) (operation w' g') ≡ operation w g
     → (w ≡ w') × (g ≡ g')
 unfolding pick
-operation-is true a w w' g g' h = let z : ◌≡◌ {A = ℕ} 0 1 = cc in absurd (omega arith)
+operation-is true a w w' g g' h = absurd (cc)
 operation-is false a w w' g g' h = (cc, cc)
 
 -- what a block has of the last of its n operations

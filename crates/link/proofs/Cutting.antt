@@ -8,7 +8,7 @@ use native.Mathlib.Omega.{arith}
 use native.Mathlib.Nat.{add-zero, zero-add, sub-zero}
 use borrow.Author.Tests.{eq-eqb, ne_eqb, eqb-true, eqb-false}
 use lib.Dec.{eqb}
-use lib.ListN.{length, take, drop}
+use lib.ListN.{length, drop}
 use lib.Seq.{sets, length-sets}
 use Rattle.utils.specs.Bytes.{pick}
 use Rattle.graph.specs.Records.{block_record, cells_of}
@@ -107,7 +107,7 @@ cut-start items first count before base named cells e few room =
 -- A turn. -----------------------------------------------------------------------------------------------------------
 
 counted-refused : (k : ℕ) (g : Result Goes Refusal) (e : Refusal) → counted_by k g ≡ Err e → g ≡ Err e
-counted-refused k (Ok g) e h = let z : ◌≡◌ {A = ℕ} 0 1 = cc in absurd (omega arith)
+counted-refused k (Ok g) e h = absurd (cc)
 counted-refused k (Err e') e h = cc
 
 module _ (items : List ℕ) (all : List Block) (named first end base : ℕ) (cells₀ cells : List ℕ) (from k : ℕ)
@@ -219,8 +219,8 @@ module _ (items : List ℕ) (all : List Block) (named first end base : ℕ) (cel
       → (m ≡ k + 1) × (from < stop)
       × Left all named first base cells₀ (pick t cells (put_goes cells k from (stop - from) g)) (k + 1) more
   unfolding pick
-  done-by m true g q h u = let z : ◌≡◌ {A = ℕ} 0 1 = cc in absurd (omega arith)
-  done-by m false (Err e) q h u = let z : ◌≡◌ {A = ℕ} 0 1 = cc in absurd (omega arith)
+  done-by m true g q h u = absurd (cc)
+  done-by m false (Err e) q h u = absurd (cc)
   done-by m false (Ok to) q h u =
       let n : k + 1 ≡ m = cc in
       (sym n, above_of (eqb-false stop from q), went (above_of (eqb-false stop from q)) to h)

@@ -124,7 +124,7 @@ labels-fine all token [] rest h = (h, refl)
 labels-fine all token (l ∷ ls) rest h =
     let s = labels_step (place_of all l 0) (resolve_labels all token ls rest) (refused (missing token l)) ls
     (places all ls)
-    (λ e. (labels-fine all token ls rest e).1) h (λ e. let z : ◌≡◌ {A = ℕ} 0 1 = cc in omega arith) in
+    (λ e. (labels-fine all token ls rest e).1) h (λ e. cc) in
     ((labels-fine all token ls rest s.0).0, s.1)
 
 block_step : (t : Bool) (e rest : Resolved) → pick t e rest ≡ fine → (e ≡ fine → ⊥) → (t ≡ false) × (rest ≡ fine)
@@ -139,7 +139,7 @@ blocks-fine all named [] h = (tt, tt)
 blocks-fine all named (b ∷ bs) h =
     let s = block_step (eqb b.operations 0) (refused (refusal 22 named 0))
     (resolve_labels all b.token b.goes (resolve_from all named bs)) h
-    (λ e. let z : ◌≡◌ {A = ℕ} 0 1 = cc in omega arith) in
+    (λ e. cc) in
     let l = labels-fine all b.token b.goes (resolve_from all named bs) s.1 in
     let n : b.operations ≡ 0 → ⊥ = eqb-false b.operations 0 s.0 in
     let more = blocks-fine all named bs l.0 in

@@ -22,12 +22,12 @@ use Rattle.link.proofs.Laws.{blocks-counted, at_most_256}
 use Rattle.link.proofs.Whole.{links_back, records-whole, entries_are}
 
 numbered-refused : (bs : List Block) (x : Resolved) (e : Refusal) → Err e ≡ numbered_by bs x → x ≡ refused e
-numbered-refused bs fine e h = let z : ◌≡◌ {A = ℕ} 0 1 = cc in absurd (omega arith)
+numbered-refused bs fine e h = absurd (cc)
 numbered-refused bs (refused e') e h = cc
 
 numbered-done : (bs : List Block) (x : Resolved) (n : ℕ) → Ok n ≡ numbered_by bs x → (x ≡ fine) × (n ≡ length bs)
 numbered-done bs fine n h = (refl, cc)
-numbered-done bs (refused e) n h = let z : ◌≡◌ {A = ℕ} 0 1 = cc in absurd (omega arith)
+numbered-done bs (refused e) n h = absurd (cc)
 
 pub link_refused : (ps : List Shape) (named : ℕ) (e : Refusal)
     → Err e ≡ numbered_by (blocks_of ps) (resolve_d named (blocks_of ps)) → Err e ≡ link_d named ps

@@ -50,7 +50,7 @@ no_label-more : (ops : List Shape) (w : ℕ) (goes : List ℕ) → names_in ops 
     → names_in (ops ++ (operation w goes ∷ [])) ≡ []
 unfolding names_in
 no_label-more [] w goes h = refl
-no_label-more (name l ∷ ops) w goes h = absurd (let z : ◌≡◌ {A = ℕ} 0 1 = cc in omega arith)
+no_label-more (name l ∷ ops) w goes h = absurd (cc)
 no_label-more (operation v g ∷ ops) w goes h = no_label-more ops w goes h
 
 holds_more : (labels : List ℕ) (at : ℕ) (ops : List Shape) (b : Block) (w : ℕ) (goes : List ℕ) → Holds labels at ops b

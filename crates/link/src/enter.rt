@@ -18,10 +18,7 @@ use utils::limits;
 fn enters(count: u32, i: u32, target: BlockId, j: BlockId) -> bool
     ensures { result ≡ enters_d count i target.0 j.0 }
 {
-    if count <= i {
-        return false;
-    }
-    target.0 == j.0
+    i < count && target.0 == j.0
 }
 
 // Block k goes to the place `at`, if it is a source. The place after it.
@@ -93,13 +90,7 @@ fn enter_edges(
 fn dead_mark(j: BlockId, count: usize) -> u32
     ensures { result ≡ mark_of j.0 count }
 {
-    if j.0 == 0 {
-        return 0;
-    }
-    if count == 0 {
-        return 1;
-    }
-    0
+    u32::from(j.0 != 0 && count == 0)
 }
 
 // Block j, whose record is record i, gets its predecessors and its dead mark.
