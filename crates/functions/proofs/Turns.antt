@@ -1,6 +1,6 @@
 -- One turn of each loop over the rows: what stands from here on is the first of it and the rest, or nothing.
 use Rattle.std.specs.Prelude.{None, Option, Some}
-use Prim.Native.Nat.{ℕ, zero, suc, ◌+◌, ◌-◌, ◌≤◌, ◌<◌}
+use Prim.Native.Nat.{ℕ, zero, suc, ◌+◌, ◌*◌, ◌-◌, ◌≤◌, ◌<◌}
 use mathlib.Core.Path.{◌≡◌, refl}
 use mathlib.Core.Bool.{Bool, true, false}
 use mathlib.Core.List.{List, [], ◌∷◌}
@@ -9,7 +9,7 @@ use borrow.Author.Tests.{eq-eqb, ne_eqb}
 use lib.Dec.{eqb}
 use lib.ListN.{get_or}
 use Rattle.utils.specs.Bytes.{pick}
-use Rattle.functions.specs.Columns.{name_at, type_at}
+use Rattle.functions.specs.Columns.{name_at, type_at, formals_at, formal_type_at}
 use Rattle.functions.specs.Known.{expected_type}
 use Rattle.functions.specs.Rows.{types_at, known_at, known_from, row_from, type_found}
 
@@ -22,14 +22,20 @@ pub known-none : (cells : List ℕ) (i n : ℕ) → n ≤ i → known_from cells
 unfolding known_from
 known-none cells i n h = let m : n - i ≡ 0 = omega arith in rw m
 
-pub types_more : (cells : List ℕ) (at k n : ℕ) → k < n
-    → types_at cells at (n - k) ≡ get_or cells (at + 1) 0 ∷ types_at cells (at + 2) (n - (k + 1))
+-- the types of row i's formals from formal k on
+pub types_more : (cells : List ℕ) (i k n : ℕ) → k < n
+    → types_at cells (formals_at i + k * 2) (n - k)
+    ≡ get_or cells (formal_type_at i k) 0 ∷ types_at cells (formals_at i + (k + 1) * 2) (n - (k + 1))
 unfolding types_at
-types_more cells at k n h = let m : n - k ≡ suc (n - (k + 1)) = omega arith in rw m
+types_more cells i k n h =
+    let m : n - k ≡ suc (n - (k + 1)) = omega arith in
+    let e : formals_at i + k * 2 + 1 ≡ formal_type_at i k = omega arith in
+    let g : formals_at i + k * 2 + 2 ≡ formals_at i + (k + 1) * 2 = omega arith in
+    rw (m, e, g)
 
-pub types-none : (cells : List ℕ) (at k n : ℕ) → n ≤ k → types_at cells at (n - k) ≡ []
+pub types-none : (cells : List ℕ) (i k n : ℕ) → n ≤ k → types_at cells (formals_at i + k * 2) (n - k) ≡ []
 unfolding types_at
-types-none cells at k n h = let m : n - k ≡ 0 = omega arith in rw m
+types-none cells i k n h = let m : n - k ≡ 0 = omega arith in rw m
 
 module _ (rows : List ℕ) (i n name : ℕ) where
   pub row_here : i < n → get_or rows (name_at i) 0 ≡ name → row_from rows i (n - i) name ≡ Some i

@@ -16,16 +16,12 @@ fn same_formals(rows: &[u32], a: usize, b: usize, count: usize) -> bool
     ensures { result ≡ same_bytes (types_at rows.now (formals_at a) count)
         (types_at rows.now (formals_at b) count) }
 {
-    let mut k: usize = 0;
-    let mut i = columns::FORMALS + a * columns::ROW;
-    let mut j = columns::FORMALS + b * columns::ROW;
-    while k < count {
-        if rows[i + 1] != rows[j + 1] {
+    for k in 0..count {
+        let i = columns::FORMAL_TYPE + a * columns::ROW + k * VARIABLE_CELLS;
+        let j = columns::FORMAL_TYPE + b * columns::ROW + k * VARIABLE_CELLS;
+        if rows[i] != rows[j] {
             return false;
         }
-        i += VARIABLE_CELLS;
-        j += VARIABLE_CELLS;
-        k += 1;
     }
     true
 }
@@ -51,12 +47,10 @@ pub fn type_number(rows: &[u32], n: usize, ret: u32, count: usize, types: u32) -
     ensures { result ≡ type_number (known_from rows.now 0 n)
         (ret ∷ count ∷ types_at rows.now (formals_at n) count) types }
 {
-    let mut i: usize = 0;
-    while i < n {
+    for i in 0..n {
         if same_type(rows, i, ret, count, n) {
             return rows[columns::TYPE + i * columns::ROW];
         }
-        i += 1;
     }
     types
 }
@@ -67,12 +61,10 @@ pub fn find_function(rows: &[u32], n: usize, name: Identifier) -> Option<usize>
     ensures value { result ≡ row_from rows.now 0 n name.0 }
     ensures found_in { FoundIn rows.now n result }
 {
-    let mut i: usize = 0;
-    while i < n {
+    for i in 0..n {
         if rows[columns::NAME + i * columns::ROW] == name.0 {
             return Some(i);
         }
-        i += 1;
     }
     None
 }

@@ -336,7 +336,7 @@ module _ (old rows new names : List ℕ) (known number : ℕ) (out₀ : List ℕ
 
     -- and with those behind it
     abbrev all : Brought
-    all = brought_from old rows new names known (number + 1) (get_or rows 0 0 - number - 1) with_it
+    all = brought_from old rows new names known (number + 1) (get_or rows 0 0 - (number + 1)) with_it
 
     all-brought : headers_brought old rows new names known out₀ ≡ all
     all-brought =
@@ -345,7 +345,7 @@ module _ (old rows new names : List ℕ) (known number : ℕ) (out₀ : List ℕ
         ap (λ (n : ℕ). brought_from old rows new names known 0 n (brought out₀ 0)) m
         ∙ brought-both old rows new names known 0 number (get_or rows 0 0 - number) (brought out₀ 0)
         ∙ ap (λ (i : ℕ). brought_from old rows new names known i (get_or rows 0 0 - number) before) (zero-add number)
-        ∙ brought-more old rows new names known number (get_or rows 0 0 - number) before (omega arith)
+        ∙ brought-more old rows new names known number (get_or rows 0 0) before (omega arith)
         ∙ rw found
 
     -- If the new text has its name, the row stands at its place, with the name's number.
@@ -362,8 +362,8 @@ module _ (old rows new names : List ℕ) (known number : ℕ) (out₀ : List ℕ
         let l : length before.cells ≡ length out₀ = length-brought old rows new names known number 0
         (brought out₀ 0) in
         let fits : row_at (before.count + 1) ≤ length before.cells = omega arith in
-        let more = grows old rows new names known (get_or rows 0 0 - number - 1) (number + 1) with_it in
-        let keeps = kept old rows new names known (get_or rows 0 0 - number - 1) (number + 1) with_it in
+        let more = grows old rows new names known (get_or rows 0 0 - (number + 1)) (number + 1) with_it in
+        let keeps = kept old rows new names known (get_or rows 0 0 - (number + 1)) (number + 1) with_it in
         record {
           below = omega arith;
           name =

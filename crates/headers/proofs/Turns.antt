@@ -15,28 +15,24 @@ use Rattle.headers.specs.Table.{between, formals_fit, row_fits, rows_fit}
 use Rattle.headers.specs.Spelled.{row_name, name_spelled}
 use Rattle.headers.specs.Brought.{cells_from, Brought, brought_as, brought_from}
 
-pub formals-more : (rows : List ℕ) (i k n : ℕ) → 0 < n
-    → formals_fit rows i k n
-    ≡ pick (between 1 2 (get_or rows (formal_type_at i k) 0)) (formals_fit rows i (k + 1) (n - 1)) false
+pub formals-more : (rows : List ℕ) (i k n : ℕ) → k < n
+    → formals_fit rows i k (n - k)
+    ≡ pick (between 1 2 (get_or rows (formal_type_at i k) 0)) (formals_fit rows i (k + 1) (n - (k + 1))) false
 unfolding formals_fit
-formals-more rows i k zero h = absurd (omega arith)
-formals-more rows i k (suc n) h = let m : suc n - 1 ≡ n = omega arith in rw m
+formals-more rows i k n h = let m : n - k ≡ suc (n - (k + 1)) = omega arith in rw m
 
-pub formals-none : (rows : List ℕ) (i k n : ℕ) → n ≤ 0 → formals_fit rows i k n ≡ true
+pub formals-none : (rows : List ℕ) (i k n : ℕ) → n ≤ k → formals_fit rows i k (n - k) ≡ true
 unfolding formals_fit
-formals-none rows i k zero h = refl
-formals-none rows i k (suc n) h = absurd (omega arith)
+formals-none rows i k n h = let m : n - k ≡ 0 = omega arith in rw m
 
-pub rows_more : (old rows : List ℕ) (i n : ℕ) → 0 < n
-    → rows_fit old rows i n ≡ pick (row_fits old rows i) (rows_fit old rows (i + 1) (n - 1)) false
+pub rows_more : (old rows : List ℕ) (i n : ℕ) → i < n
+    → rows_fit old rows i (n - i) ≡ pick (row_fits old rows i) (rows_fit old rows (i + 1) (n - (i + 1))) false
 unfolding rows_fit
-rows_more old rows i zero h = absurd (omega arith)
-rows_more old rows i (suc n) h = let m : suc n - 1 ≡ n = omega arith in rw m
+rows_more old rows i n h = let m : n - i ≡ suc (n - (i + 1)) = omega arith in rw m
 
-pub rows_none : (old rows : List ℕ) (i n : ℕ) → n ≤ 0 → rows_fit old rows i n ≡ true
+pub rows_none : (old rows : List ℕ) (i n : ℕ) → n ≤ i → rows_fit old rows i (n - i) ≡ true
 unfolding rows_fit
-rows_none old rows i zero h = refl
-rows_none old rows i (suc n) h = absurd (omega arith)
+rows_none old rows i n h = let m : n - i ≡ 0 = omega arith in rw m
 
 pub names_more : (new names : List ℕ) (x n : ℕ) (name : List ℕ) → 0 < n
     → name_spelled new names x n name
@@ -61,24 +57,21 @@ cells-more cells out to from k n h =
     let f : from + (k + 1) ≡ from + k + 1 = omega arith in
     rw (m, t, f)
 
-pub cells-none : (cells : List ℕ) (at n : ℕ) → n ≤ 0 → cells_from cells at n ≡ []
+pub cells-none : (cells : List ℕ) (at k n : ℕ) → n ≤ k → cells_from cells at (n - k) ≡ []
 unfolding cells_from
-cells-none cells at zero h = refl
-cells-none cells at (suc n) h = absurd (omega arith)
+cells-none cells at k n h = let m : n - k ≡ 0 = omega arith in rw m
 
-pub brought-more : (old rows new names : List ℕ) (known i n : ℕ) (b : Brought) → 0 < n
-    → brought_from old rows new names known i n b
-    ≡ brought_from old rows new names known (i + 1) (n - 1)
+pub brought-more : (old rows new names : List ℕ) (known i n : ℕ) (b : Brought) → i < n
+    → brought_from old rows new names known i (n - i) b
+    ≡ brought_from old rows new names known (i + 1) (n - (i + 1))
     (brought_as b rows i (name_spelled new names 0 known (row_name old rows i)))
 unfolding brought_from
-brought-more old rows new names known i zero b h = absurd (omega arith)
-brought-more old rows new names known i (suc n) b h = let m : suc n - 1 ≡ n = omega arith in rw m
+brought-more old rows new names known i n b h = let m : n - i ≡ suc (n - (i + 1)) = omega arith in rw m
 
-pub brought-none : (old rows new names : List ℕ) (known i n : ℕ) (b : Brought) → n ≤ 0
-    → brought_from old rows new names known i n b ≡ b
+pub brought-none : (old rows new names : List ℕ) (known i n : ℕ) (b : Brought) → n ≤ i
+    → brought_from old rows new names known i (n - i) b ≡ b
 unfolding brought_from
-brought-none old rows new names known i zero b h = refl
-brought-none old rows new names known i (suc n) b h = absurd (omega arith)
+brought-none old rows new names known i n b h = let m : n - i ≡ 0 = omega arith in rw m
 
 -- the first a rows, and then b more
 pub brought-both : (old rows new names : List ℕ) (known i a b : ℕ) (x : Brought)

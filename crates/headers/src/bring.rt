@@ -19,11 +19,8 @@ pub fn copy_row(out: &mut [u32], n: usize, rows: &[u32], i: usize)
 {
     let to = columns::TOKEN + n * columns::ROW;
     let from = columns::TOKEN + i * columns::ROW;
-    let mut k: usize = 0;
-    while k < columns::ROW {
-        let cell = cell_at(rows, from + k);
-        out[to + k] = cell;
-        k += 1;
+    for k in 0..columns::ROW {
+        out[to + k] = cell_at(rows, from + k);
     }
 }
 
@@ -83,12 +80,8 @@ fn bring_rows<'t, 'c>(
     ensures lower_bound { (n ≤ result) × (result ≤ n + left) }
 {
     let mut at = n;
-    let mut from = i;
-    let mut more = left;
-    while 0 < more {
+    for from in i..i + left {
         at = bring_row(out, at, old, rows, from, new, names, known);
-        from += 1;
-        more -= 1;
     }
     at
 }

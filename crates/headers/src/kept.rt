@@ -15,32 +15,17 @@ use parser::runs;
 use pieces::{Identifier, kinds};
 use utils::numbers;
 
-// The last token but one of n, the one before the end token.
-fn before_end(n: usize) -> usize
-    ensures { result ≡ n - 2 }
-{
-    if n < 2 {
-        return 0;
-    }
-    n - 2
-}
-
 // Whether the first byte begins a global, and the last is a `}`.
+#[tactic(auto, unfolding(crate::specs::Kept::is_whole, utils::specs::Bytes::pick), using(crate::proofs::Against::last_token))]
 pub fn is_whole(new: &[u8], tokens: &[u32]) -> bool
     ensures { result ≡ is_whole new.now (tokens_of tokens.now) }
 {
     let first = lexer::token_at(tokens, 0);
-    if first.kind != kinds::GLOBAL {
-        return false;
-    }
-    if first.place != 0 {
-        return false;
-    }
-    let last = lexer::token_at(tokens, before_end(tokens.len() / TOKEN_CELLS));
-    if last.kind != kinds::RIGHT_BRACE {
-        return false;
-    }
-    last.place as usize + 1 == new.len()
+    let last = lexer::token_at(tokens, (tokens.len() / TOKEN_CELLS).saturating_sub(2));
+    first.kind == kinds::GLOBAL
+        && first.place == 0
+        && last.kind == kinds::RIGHT_BRACE
+        && last.place as usize + 1 == new.len()
 }
 
 // Whether the name and what stands behind it, from `at` on, are row i's. In `local` that row is copied to row 0, and

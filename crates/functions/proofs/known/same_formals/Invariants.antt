@@ -2,14 +2,12 @@
 use Rattle.functions.specs.Rows.{types_at}
 use Rattle.functions.specs.Columns.{formals_at}
 use Rattle.utils.specs.Bytes.{same_bytes}
-use Prim.Native.Nat.{◌+◌, ◌-◌, ◌*◌, ◌≤◌}
+use Prim.Native.Nat.{◌+◌, ◌-◌, ◌*◌}
 use mathlib.Core.Path.{◌≡◌}
 use Rattle.functions.proofs.known.same_formals.Given as goal
 
 abbrev pub invariant-loop-k : goal.invariant-loop-k
-invariant-loop-k l = (l.k ≤ l.count) × (l.i ≡ 14 + l.a * 45 + l.k * 2) × (l.j ≡ 14 + l.b * 45 + l.k * 2)
-    × (same_bytes (types_at l.rows l.i (l.count - l.k)) (types_at l.rows l.j (l.count - l.k))
-    ≡ same_bytes (types_at l.rows (formals_at l.a) l.count) (types_at l.rows (formals_at l.b) l.count))
-
-abbrev pub decreases-loop-k : goal.decreases-loop-k
-decreases-loop-k l = l.count - l.k
+invariant-loop-k l =
+    same_bytes (types_at l.rows (formals_at l.a + l.k * 2) (l.count - l.k))
+    (types_at l.rows (formals_at l.b + l.k * 2) (l.count - l.k))
+    ≡ same_bytes (types_at l.rows (formals_at l.a) l.count) (types_at l.rows (formals_at l.b) l.count)

@@ -11,28 +11,26 @@ pub returns-then-same_type : goal.returns-then-same_type
 unfolding type_number pick
 returns-then-same_type c =
     rw (
-      ← c.loop-i.invariant.1,
-      known_more c.args.rows.now c.loop-i.i c.args.n c.loop-i-test.true,
+      ← c.loop-i.invariant,
+      known_more c.args.rows.now c.loop-i.i c.args.n (omega arith),
       ← c.same_type.ensures,
       c.if-same_type.true,
     )
 
 pub loop-i-preserved : goal.loop-i-preserved
 unfolding type_number pick
-loop-i-preserved c = (
-  omega arith,
-  rw (
-    ← c.loop-i.invariant.1,
-    known_more c.args.rows.now c.loop-i.i c.args.n c.loop-i-test.true,
-    ← c.same_type.ensures,
-    c.if-same_type.false,
-  ),
-)
+loop-i-preserved c =
+    rw (
+      ← c.loop-i.invariant,
+      known_more c.args.rows.now c.loop-i.i c.args.n (omega arith),
+      ← c.same_type.ensures,
+      c.if-same_type.false,
+    )
 
 pub returns : goal.returns
 unfolding type_number
 returns c =
-    rw (← c.loop-i.invariant.1, known-none c.args.rows.now c.loop-i.i c.args.n c.loop-i-test.false)
+    rw (← c.loop-i.invariant, known-none c.args.rows.now c.loop-i.i c.args.n (omega arith))
 
 pub loop-i-init : goal.loop-i-init
-loop-i-init c = (omega arith, rw sub-zero)
+loop-i-init c = rw sub-zero
