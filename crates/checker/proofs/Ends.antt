@@ -21,8 +21,8 @@ use Rattle.functions.specs.declared.Counts.{Counts}
 use Rattle.unit.specs.Outcome.{UnitOutcome, checked, refused, unit_d, unit_read, unit_slices, as_long, fronts, none}
 use Rattle.unit.specs.Outcome.{UnitHeld}
 use Rattle.checker.specs.Check.{Checking, accepted, check_refusal, refusing, refused_at, checked_or, check_of}
-use Rattle.checker.specs.Promise.{checking, padded, sized, sized_unit, all_sized, check_def, Lexed, Sizes}
-use Rattle.checker.specs.Promise.{IfSized, IfSizedUnit, gated, Gives, Checks, ChecksInto, Finishes}
+use Rattle.checker.specs.Promise.{checking, padded, sized, sized_unit, all_sized, check_def, Lexed}
+use Rattle.checker.specs.Promise.{gated, Gives, Checks, ChecksInto, Finishes}
 use Rattle.checker.specs.declared.CheckAnswer.{CheckAnswer}
 use Rattle.checker.specs.Numbers.{Listed}
 use Rattle.checker.proofs.Lexed.{within}
@@ -216,28 +216,6 @@ module _ (o : Checking) (m t n : List ℕ) (u : Slices) (unit ok : Bool)
   pub shorts : ok ≡ false → (r : CheckAnswer) → r ≡ check_refusal 30 0 0 → Gives (gated m t n u o) r m t n u
   unfolding pick
   shorts h r e = by_parts (rw (← sized-is, h, e))
-
-pub seen_by : (unit : Bool) (m t n : ℕ) → 512 ≤ m → 16384 ≤ t → 2048 ≤ n → IfSized unit unit m t n
-seen_by true m t n a b d = (a, b, d, refl)
-seen_by false m t n a b d = tt
-
--- what the gate has seen
-pub sizes_seen : (m t n : List ℕ) (u : Slices) (unit ok : Bool) → ok ≡ true
-    → IfSized ok unit (length m) (length t) (length n)
-    → IfSizedUnit unit (length u.functions) (length u.items) (length u.arguments) (length u.blocks)
-    (length u.predecessors)
-    → Sizes m t n u
-sizes_seen m t n u unit ok h a b =
-    let a' = subst (λ (x : Bool). IfSized x unit (length m) (length t) (length n)) h a in
-    let b' = subst (λ (x : Bool). IfSizedUnit x (length u.functions) (length u.items) (length u.arguments)
-    (length u.blocks) (length u.predecessors)) a'.3 b in
-    record {
-      message_long = a'.0;
-      tokens_long = a'.1;
-      names_long = a'.2;
-      functions_long = b'.0;
-      long = record { items_long = b'.1; arguments_long = b'.2; blocks_long = b'.3; predecessors_long = b'.4 };
-    }
 
 -- what one definition permits is equal
 pub gives_equal : {d : Checking} {r r' : CheckAnswer} {m t n m' t' n' : List ℕ} {u u' : Slices}

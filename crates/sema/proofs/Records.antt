@@ -8,8 +8,7 @@ use borrow.Author.Tests.{ne_eqb, eqb-true, eqb-false}
 use lib.Dec.{eqb}
 use lib.ListN.{get_or}
 use Rattle.utils.specs.Bytes.{pick}
-use Rattle.lexer.specs.Decoded.{Tok, token_at}
-use Rattle.lexer.specs.declared.TokenAt.{TokenAt}
+use Rattle.lexer.specs.Decoded.{Tok}
 use Rattle.pieces.specs.declared.Identifier.{Identifier}
 use Rattle.parser.specs.Step.{refusal}
 use Rattle.parser.specs.Runs.{type_cell}
@@ -21,7 +20,7 @@ use Rattle.body.specs.declared.ItemRecord.{ItemRecord}
 use Rattle.body.specs.declared.Last.{Last}
 use Rattle.body.specs.declared.Last.TheVariants as L
 use Rattle.sema.specs.Symbols.{on, stop}
-use Rattle.sema.specs.Typing.{Global, type_binary_d, type_unary_d, type_const_d, type_ret_d, type_ret_value_d, type_call_d}
+use Rattle.sema.specs.Typing.{Global, type_call_d}
 use Rattle.sema.specs.Typing.{type_call_into_d, type_plain_d, type_item_d}
 use Rattle.sema.specs.Items.{typed, ty_of, variables_at, operation_of, item_by, item_of, item_at}
 use Rattle.sema.specs.Blocks.{items_at, type_end_d}
@@ -44,30 +43,6 @@ cell_of (suc (suc (suc (suc n)))) =
     (let m : k - 4 + 4 ≡ k = omega arith in m)
 
 module _ (ts : List Tok) (ret : ℕ) (t : List ℕ) (r : ItemRecord) (right : Identifier) where
-  pub plain-binary : {x : TokenAt} → x ≡ token_at ts r.token → r.kind ≡ 2
-      → type_binary_d t x.kind r.token r.dest r.dty r.left right ≡ type_plain_d ts ret t
-      (operation_of r right)
-  unfolding type_plain_d operation_of pick
-  plain-binary e h = rw (h, cell_of r.dty, e)
-
-  pub plain-unary : {x : TokenAt} → x ≡ token_at ts r.token → r.kind ≡ 3
-      → type_unary_d t x.kind r.token r.dest r.dty r.left ≡ type_plain_d ts ret t (operation_of r right)
-  unfolding type_plain_d operation_of pick
-  plain-unary e h = rw (h, cell_of r.dty, e)
-
-  pub plain-const : {x : TokenAt} → x ≡ token_at ts r.token → r.kind ≡ 4
-      → type_const_d t x.kind r.token r.dest r.dty ≡ type_plain_d ts ret t (operation_of r right)
-  unfolding type_plain_d operation_of pick
-  plain-const e h = rw (h, cell_of r.dty, e)
-
-  pub plain-ret : r.kind ≡ 11 → type_ret_d t ret r.token ≡ type_plain_d ts ret t (operation_of r right)
-  unfolding type_plain_d operation_of pick
-  plain-ret h = rw h
-
-  pub plain_value : r.kind ≡ 12 → type_ret_value_d t ret r.token r.left ≡ type_plain_d ts ret t (operation_of r right)
-  unfolding type_plain_d operation_of pick
-  plain_value h = rw h
-
   pub plain_other : (r.kind ≡ 2 → ⊥) → (r.kind ≡ 3 → ⊥) → (r.kind ≡ 4 → ⊥) → (r.kind ≡ 11 → ⊥) → (r.kind ≡ 12 → ⊥)
       → on t ≡ type_plain_d ts ret t (operation_of r right)
   unfolding type_plain_d operation_of pick

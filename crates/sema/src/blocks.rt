@@ -19,6 +19,7 @@ use utils::numbers;
 
 // A record that is neither a call nor a `br`; x is the name in its last two cells. Labels, and operations that look
 // nothing up and enter nothing, are fine.
+#[tactic(auto, using(crate::proofs::Records::cell_of), unfolding(crate::specs::Typing::type_plain_d, crate::specs::Items::operation_of, utils::specs::Bytes::pick))]
 fn analyze_plain(
     tokens: &[u32],
     ret: u32,

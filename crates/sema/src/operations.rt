@@ -1,6 +1,5 @@
 // Operations that call nothing, each in document 01's order of look-ups, entries and comparisons.
-ghost use Rattle.std.specs.Prelude.{◌≡◌, List, ℕ, eqb, leb};
-ghost use Rattle.utils.specs.Bytes.{pick};
+ghost use Rattle.std.specs.Prelude.{◌≡◌, List, ℕ};
 ghost use Rattle.sema.specs.Symbols.{typed, on, then_same};
 ghost use Rattle.sema.specs.Typing.{then_three, operands_d, type_binary_d, operand_d, type_unary_d, type_const_d};
 ghost use Rattle.sema.specs.Typing.{type_ret_d, type_ret_value_d};
@@ -42,29 +41,17 @@ fn expect_three(
     expect_both(token, left, of_operands, right, of_operands)
 }
 
-// The other comparisons, of integers, and `and` and `or`.
-#[tactic(auto, unfolding(utils::specs::Bytes::pick))]
-fn expect_bool(kind: u32, token: usize, res: u32, left: u32, right: u32) -> Result<(), Refusal>
-    ensures { (t : List ℕ) → typed t result ≡ pick (leb kind 16) (then_three t token res left right 2 1)
-        (then_three t token res left right 2 2) }
-{
-    if kind <= kinds::GE {
-        return expect_three(token, res, left, right, types::BOOL, types::INT);
-    }
-    expect_three(token, res, left, right, types::BOOL, types::BOOL)
-}
-
-#[tactic(auto, unfolding(utils::specs::Bytes::pick, crate::specs::Typing::operands_d))]
+// Integers; `eq`, of one type; the other comparisons, of integers; `and` and `or`.
+#[tactic(auto, unfolding(crate::specs::Typing::operands_d, utils::specs::Bytes::pick))]
 fn expect_operands(kind: u32, token: usize, res: u32, left: u32, right: u32) -> Result<(), Refusal>
     ensures { (t : List ℕ) → typed t result ≡ operands_d t kind token res left right }
 {
-    if kind <= kinds::MOD {
-        return expect_three(token, res, left, right, types::INT, types::INT);
+    match kind {
+        0..=kinds::MOD => expect_three(token, res, left, right, types::INT, types::INT),
+        kinds::EQ => expect_both(token, right, left, res, types::BOOL),
+        0..=kinds::GE => expect_three(token, res, left, right, types::BOOL, types::INT),
+        _ => expect_three(token, res, left, right, types::BOOL, types::BOOL),
     }
-    if kind == kinds::EQ {
-        return expect_both(token, right, left, res, types::BOOL);
-    }
-    expect_bool(kind, token, res, left, right)
 }
 
 // Operands are looked up before the result is entered.
@@ -113,16 +100,6 @@ pub fn analyze_unary_op(
     expect_operand(kind, token, ty, found)
 }
 
-#[tactic(auto, unfolding(utils::specs::Bytes::pick))]
-fn constant_type(kind: u32) -> u32
-    ensures { result ≡ pick (eqb kind 4) 1 2 }
-{
-    if kind == kinds::INTEGER {
-        return types::INT;
-    }
-    types::BOOL
-}
-
 // Compared before it is entered.
 #[tactic(auto, unfolding(crate::specs::Symbols::opened, crate::specs::Typing::type_const_d))]
 pub fn analyze_const(
@@ -134,7 +111,12 @@ pub fn analyze_const(
 ) -> Result<(), Refusal>
     ensures { typed table.new result ≡ type_const_d table.old kind token res ty }
 {
-    symbols::expect_type(token, constant_type(kind), ty)?;
+    let found = if kind == kinds::INTEGER {
+        types::INT
+    } else {
+        types::BOOL
+    };
+    symbols::expect_type(token, found, ty)?;
     symbols::insert(table, token, res, ty)
 }
 

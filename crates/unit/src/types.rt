@@ -1,5 +1,5 @@
 // Typing, function by function: the types of a function's operands are written while the table still has its names.
-ghost use Rattle.std.specs.Prelude.{◌≡◌, [], ◌+◌, ◌*◌, ◌≤◌, ◌<◌, length, get_or};
+ghost use Rattle.std.specs.Prelude.{◌≡◌, [], ◌+◌, ◌*◌, ◌≤◌, ◌<◌, length};
 ghost use Rattle.utils.specs.Bytes.{pad_to};
 ghost use Rattle.lexer.specs.Decoded.{tokens_of};
 ghost use Rattle.functions.specs.Columns.{table_size};
@@ -9,14 +9,6 @@ ghost use Rattle.unit.specs.Rows.{RowsFit, typed_rows, RowsHeld};
 use functions::columns;
 use parser::Refusal;
 use utils::limits;
-
-// A cell of a row, as an index or a count.
-fn cell(rows: &[u32], at: usize) -> usize
-    requires { at < length rows.now }
-    ensures { result ≡ get_or rows.now at 0 }
-{
-    rows[at] as usize
-}
 
 // The `more` functions from row `first` on, of n, in text order.
 fn type_with(
@@ -38,8 +30,8 @@ fn type_with(
 {
     for row in first..first + more {
         sema::function::analyze(tokens, rows, n, row, table, items, arguments, blocks)?;
-        let start = cell(rows, columns::FIRST_ITEM + row * columns::ROW);
-        let count = cell(rows, columns::ITEMS + row * columns::ROW);
+        let start = rows[columns::FIRST_ITEM + row * columns::ROW] as usize;
+        let count = rows[columns::ITEMS + row * columns::ROW] as usize;
         elaborate::elaborate(table, rows, n, items, start, count, arguments);
     }
     Ok(())

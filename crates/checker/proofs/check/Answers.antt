@@ -1,4 +1,4 @@
--- The gate is that of `check_def`: behind it every slice is known to have its size (`sizes_seen`, `works`), and where it
+-- The gate is that of `check_def`: behind it every slice is known to have its size (`works`), and where it
 -- answers 30 nothing has been written (`shorts`).
 use Rattle.functions.specs.Answer.{slices}
 use Rattle.checker.proofs.Ends.{works, shorts, finished, same-long}

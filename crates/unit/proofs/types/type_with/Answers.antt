@@ -29,8 +29,6 @@ elaborate-requires c = (
   omega (
     arith,
     c.requires.3.items_fit c.loop-row.row (omega arith) (omega arith),
-    c.cell-start.ensures,
-    c.cell-count.ensures,
     c.loop-row.invariant.items_long,
   ),
 )
@@ -44,7 +42,7 @@ loop-row-preserved c =
       arguments_long = c.elaborate.auto.arguments ∙ l.invariant.arguments_long;
       same = rw (c.elaborate.ensures.after, c.elaborate.ensures.arguments_after)
           (rows-fine _ _ _ _ _ _ _ _ _ l.invariant.same (omega arith) l.table l.invariant.table_long
-          c.analyze.ensures c.in_ok-analyze.was _ _ c.cell-start.ensures c.cell-count.ensures);
+          c.analyze.ensures c.in_ok-analyze.was _ _ refl refl);
     }
 
 pub returns : goal.returns
