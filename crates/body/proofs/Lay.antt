@@ -9,8 +9,7 @@ use native.Mathlib.Nat.{add-zero, zero-add}
 use lib.ListN.{length, length-append}
 use Rattle.utils.specs.Bytes.{pick}
 use Rattle.parser.specs.Runs.{variables_cells}
-use Rattle.body.specs.Body.{Item, label, plain, call, call_into, arguments_in, after_brace, after_label, lacks_ret}
-use Rattle.body.specs.Body.{ret}
+use Rattle.body.specs.Body.{Item, label, plain, call, call_into, arguments_in, after_brace, after_label, lacks_ret, ret}
 use Rattle.body.specs.Body.{closed_from, closed_items}
 use Rattle.parser.specs.declared.Variable.{Variable}
 use Rattle.body.specs.Records.{items_cells, arguments_cells, arguments_count}

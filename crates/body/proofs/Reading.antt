@@ -21,8 +21,7 @@ use Rattle.body.specs.Turns.{before_number, added, Ready, body_from, Gone, Ended
 use Rattle.body.specs.declared.Before.TheVariants as B
 use Rattle.body.specs.declared.Closed.{Closed}
 use Rattle.body.specs.declared.Going.{Going}
-use Rattle.body.proofs.Cells.{fresh, started, items-on, arguments-on, items-count-on, arguments_count-on}
-use Rattle.body.proofs.Cells.{blocks-on}
+use Rattle.body.proofs.Cells.{fresh, started, items-on, arguments-on, items-count-on, arguments_count-on, blocks-on}
 use Rattle.body.proofs.Cells.{labels-on, labels-count-on, items-few-on, blocks-few-on, ending_filled, ending_few}
 use Rattle.body.proofs.Cells.{lacks_operation}
 

@@ -6,8 +6,7 @@ use Rattle.body.specs.Shapes.{Shape}
 use Rattle.parser.specs.declared.Refusal.{Refusal}
 use Rattle.parser.specs.declared.Variable.{Variable}
 use Rattle.parser.specs.declared.Operation.{Operation}
-use Rattle.parser.specs.Moved.{Move, SimName, SimE}
-use Rattle.parser.specs.Moved.{SimV, SimO, Each, SimNumber}
+use Rattle.parser.specs.Moved.{Move, SimName, SimE, SimV, SimO, Each, SimNumber}
 
 -- the same item, with its token, one of the first n, moved and its names renamed
 pub data SimItem (m : Move) (n : ℕ) : Item → Item → Type 0 where

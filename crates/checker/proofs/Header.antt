@@ -37,11 +37,9 @@ use Rattle.functions.specs.Known.{Known, signature, types_after}
 use Rattle.functions.specs.Functions.{Header, HeaderAt, header, no_header, then_header, then_formals, then_entered}
 use Rattle.functions.specs.Functions.{optional_formals}
 use Rattle.functions.specs.Functions.{optional_type, entered_d, signature_d, header_d, BuiltAt, built, not_built}
-use Rattle.functions.specs.Functions.{then_built, built_d}
-use Rattle.functions.specs.Functions.{blocks_in, resolved_items}
+use Rattle.functions.specs.Functions.{then_built, built_d, blocks_in, resolved_items}
 use Rattle.functions.specs.Functions.{is_void, Function, FunctionAt, function, no_function, then_function, function_d}
-use Rattle.functions.specs.Functions.{functions_d, program_d}
-use Rattle.functions.specs.Functions.{Program, program_end, program_stop, known_of}
+use Rattle.functions.specs.Functions.{functions_d, program_d, Program, program_end, program_stop, known_of}
 use Rattle.functions.specs.Columns.{row_at, formals_at, block_count_at, place_at, length_at, line_at, formal_type_at}
 use Rattle.functions.specs.Rows.{row_cells}
 use Rattle.functions.specs.Answer.{counts_with, Slices}

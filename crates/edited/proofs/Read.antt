@@ -46,8 +46,7 @@ use Rattle.edited.proofs.Closing.{function_spans}
 use Rattle.edited.proofs.Replacing.{token_at_lem}
 use Rattle.edited.proofs.Accepted.{tokens_are}
 use Rattle.edited.proofs.Rows.{its_row}
-use Rattle.edited.proofs.Lexing.{edited, alone_in, lengths, front-name, inside-name, old_back_name}
-use Rattle.edited.proofs.Lexing.{new_back_name}
+use Rattle.edited.proofs.Lexing.{edited, alone_in, lengths, front-name, inside-name, old_back_name, new_back_name}
 use Rattle.edited.proofs.Lexing.{inside-tokens, front_fits}
 use Rattle.edited.proofs.Decides.{spells_of}
 use Rattle.edited.proofs.Cutting.{Cutting}

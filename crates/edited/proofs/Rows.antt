@@ -1,6 +1,6 @@
 -- The header table of an accepted text holds its functions, row by row: what recheck reads in a row is the function
 -- that was parsed, and what it finds by a name's spelling among the rows is found so among the functions.
-use Rattle.std.specs.Prelude.{None, Option, Some}
+use Rattle.std.specs.Prelude.{Option, Some}
 use Prim.Native.Nat.{ℕ, suc, ◌+◌, ◌*◌, ◌-◌, ◌≤◌, ◌<◌}
 use mathlib.Core.Path.{◌≡◌, refl, sym, ap, subst, ◌∙◌}
 use mathlib.Core.List.{List, [], ◌∷◌, ◌++◌}

@@ -6,8 +6,7 @@ use native.Mathlib.Omega.{arith}
 use lib.ListN.{get_or, set}
 use lib.Seq.{sets}
 use Rattle.body.specs.Records.{record_at, record_cells}
-use Rattle.elaborate.specs.Types.{type_of, typed_record, typed_run, typed_arguments, typed_items}
-use Rattle.elaborate.specs.Types.{typed_calls}
+use Rattle.elaborate.specs.Types.{type_of, typed_record, typed_run, typed_arguments, typed_items, typed_calls}
 
 less : (i end : ℕ) → i < end → end - i ≡ suc (end - (i + 1))
 less i end h = omega arith

@@ -17,8 +17,7 @@ use Rattle.checker.specs.Promise.{rows_used, fronts_of, ChecksInto}
 use Rattle.checker.specs.Promise as cells
 use Rattle.checker.specs.declared.CheckAnswer.{CheckAnswer}
 use Rattle.exports.specs.Bytes.{le32s}
-use Rattle.exports.specs.CheckBytes.{cell_bytes, front_bytes, Export, export, exported, gated}
-use Rattle.exports.specs.CheckBytes.{export_def, Sizes}
+use Rattle.exports.specs.CheckBytes.{cell_bytes, front_bytes, Export, export, exported, gated, export_def, Sizes}
 use Rattle.exports.specs.CheckBytes.{Gives, Exports}
 use Rattle.exports.proofs.Cells.{length-le32s, length_front}
 use Rattle.lexer.proofs.Promise.{message_finished}

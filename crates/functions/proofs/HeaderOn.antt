@@ -18,8 +18,7 @@ use Rattle.parser.specs.declared.Variable.{Variable}
 use Rattle.body.proofs.Progress.{DefinedIn, moved, consume_step, named_step, type_step}
 use Rattle.functions.specs.Known.{Known}
 use Rattle.functions.specs.Functions.{HeaderAt, header, no_header, then_formals, then_entered, optional_formals}
-use Rattle.functions.specs.Functions.{optional_type}
-use Rattle.functions.specs.Functions.{entered_d, signature_d, header_d}
+use Rattle.functions.specs.Functions.{optional_type, entered_d, signature_d, header_d}
 
 abbrev pub HeaderIn : ℕ → ℕ → HeaderAt → Type 0
 HeaderIn from last (header h next) = (from + 2 ≤ next) × (next ≤ last)

@@ -20,8 +20,7 @@ use Rattle.functions.specs.Known.{Known, types_after}
 use Rattle.functions.specs.Functions.{Function, Program, program_end, program_stop, program_then, known_of, program_d}
 use Rattle.functions.specs.Functions.{FunctionAt, function, no_function, then_function, function_d, functions_d}
 use Rattle.functions.specs.Rows.{known_from}
-use Rattle.functions.specs.Answer.{counts, counts_with, counts_from, Room, Slices}
-use Rattle.functions.specs.Answer.{stored_from}
+use Rattle.functions.specs.Answer.{counts, counts_with, counts_from, Room, Slices, stored_from}
 use Rattle.functions.specs.Answer.{Taken, function_read, FunctionHeld, with_count, Held, program_read}
 use Rattle.functions.specs.Laid.{Fits, FitsFrom, AllFit}
 use Rattle.functions.specs.declared.Counts.{Counts}

@@ -17,8 +17,7 @@ use Rattle.graph.specs.declared.walk.State.{State}
 use Rattle.graph.proofs.Steps.{New, is_new_lem, get_d_any, walk_again}
 use Rattle.graph.proofs.Counts.{waiting-set}
 use Rattle.graph.proofs.Depth.{enough_on}
-use Rattle.graph.proofs.Stack.{frame-low, frame_high, resume-top, marks-top}
-use Rattle.graph.proofs.Stack.{Pushed, pushed_none, pushed-all}
+use Rattle.graph.proofs.Stack.{frame-low, frame_high, resume-top, marks-top, Pushed, pushed_none, pushed-all}
 
 waiting_most : (flags : List ℕ) → waiting flags ≤ length flags
 unfolding pick

@@ -16,15 +16,13 @@ use Rattle.pieces.proofs.Progress.{pick_either}
 use Rattle.pieces.specs.declared.Identifier.{Identifier}
 use Rattle.lexer.specs.Decoded.{name_of}
 use Rattle.functions.specs.Columns.{row_at, name_at, ret_at, count_at, formals_at, place_at, length_at}
-use Rattle.functions.specs.Rows.{at_most16, types_at}
+use Rattle.functions.specs.Rows.{at_most16, types_at, row_from}
 use Rattle.functions.proofs.Stores.{get_or-sets-below}
 use Rattle.functions.proofs.Seen.{get_or-sets-at}
-use Rattle.functions.specs.Rows.{row_from}
 use Rattle.sema.specs.Globals.{global_of, globals_in}
 use Rattle.elaborate.specs.Types.{type_cell_of, callee_of}
 use Rattle.headers.specs.Ranges.{RowInRange}
-use Rattle.headers.specs.Spelled.{row_name, name_spelled, row_spelled, callee_row, globals_spelled}
-use Rattle.headers.specs.Spelled.{callees_spelled}
+use Rattle.headers.specs.Spelled.{row_name, name_spelled, row_spelled, callee_row, globals_spelled, callees_spelled}
 use Rattle.headers.specs.Spelled.{Named}
 use Rattle.headers.specs.Brought.{cells_from, row_put, Brought, brought, brought_as, brought_from, headers_brought}
 use Rattle.headers.specs.Brought.{Brings}

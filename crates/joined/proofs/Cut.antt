@@ -18,8 +18,7 @@ use Rattle.pieces.specs.declared.TokenValue.TheVariants as T
 use Rattle.pieces.specs.declared.Lexed.TheVariants as L
 use Rattle.pieces.proofs.Progress.{pick_either}
 use Rattle.joined.specs.Runs.{Begins, Item, move_item, move_items, Run}
-use Rattle.joined.proofs.Runs.{run_join, run_shift, run-front, run_back, Back, stop-at}
-use Rattle.joined.proofs.Runs.{start-at, end-at}
+use Rattle.joined.proofs.Runs.{run_join, run_shift, run-front, run_back, Back, stop-at, start-at, end-at}
 
 -- a token of one byte, in any text
 pub symbol_piece : (s : List ℕ) (at line : ℕ) (v : TokenValue) → at < length s → symbol (get_or s at 0) ≡ Some v

@@ -27,12 +27,11 @@ use Rattle.joined.proofs.Cut.{symbol_piece, run-symbol, post_alone, post_run, ed
 use Rattle.joined.proofs.Names.{names-distinct, both-length, both_parted, Grown, entered_append, entered-grown}
 use Rattle.joined.proofs.Names.{entered_all, all_grown, entered_only}
 use Rattle.joined.proofs.Names.{words_append, words-moved, words-front, same-tokens}
-use Rattle.joined.proofs.Names.{grown-few, grown-at, stands_first, Chosen, chosen, all_chosen}
+use Rattle.joined.proofs.Names.{grown-few, grown-at, stands_first, Chosen, chosen, all_chosen, renamed-apart}
 use Rattle.lexer.proofs.Same.{length-spellings}
 use Rattle.joined.proofs.Tokens.{run_inside, slice-part, Alone, alone, part_sim}
 use Rattle.joined.proofs.Parts.{Lexes, lexes-of, run-first, run-all, Placed, placed, placed_last, stands_fit}
 use Rattle.joined.proofs.Parts.{part_related, rest_related}
-use Rattle.joined.proofs.Names.{renamed-apart}
 use Rattle.joined.specs.Names.{move_of, still}
 use Rattle.joined.proofs.Places.{CutAt, cut_at, run-behind, both_at, no_item}
 

@@ -3,19 +3,16 @@ use Rattle.std.specs.Prelude.{Option, Some, None}
 use Prim.Native.Nat.{ℕ, zero, suc, ◌+◌, ◌≤◌, ◌<◌}
 use mathlib.Core.Path.{◌≡◌, refl, sym, ap, ◌∙◌}
 use mathlib.Core.Bool.{Bool, true, false}
-use mathlib.Core.List.{List, [], ◌∷◌, ◌++◌}
+use mathlib.Core.List.{List, [], ◌∷◌, ◌++◌, append-nil, append_assoc}
 use native.Mathlib.Omega.{arith}
 use borrow.Author.Tests.{ltb-true, ltb-false}
 use lib.Dec.{ltb}
-use lib.ListN.{length, get_or, length-append}
+use lib.ListN.{length, get_or, length-append, get_or-append}
 use Rattle.pieces.specs.declared.Token.{Token}
-use Rattle.lexer.specs.Numbered.{Part, spellings, index_of}
+use Rattle.lexer.specs.Numbered.{Part, spellings, index_of, spelling_of, named}
 use Rattle.lexer.specs.Sound.{Pairs, Differ, no_part, spelling}
 use Rattle.lexer.proofs.Same.{length-spellings, spelling-at, FoundIn, index_of-found}
-use lib.ListN.{get_or-append}
 use lib.Seq.{slice, get_or_at, take-append-le}
-use mathlib.Core.List.{append-nil, append_assoc}
-use Rattle.lexer.specs.Numbered.{spelling_of, named}
 use Rattle.joined.specs.Runs.{Item, move_items}
 use Rattle.joined.specs.Names.{Both, Stands, Distinct, found_or, renamed, words_of, with_word, entered, In, AllIn}
 use Rattle.joined.specs.Names.{AllInside}

@@ -7,26 +7,23 @@ use native.Mathlib.Nat.{add-zero, zero-add}
 use lib.ListN.{length, get_or, drop, length-append, get_or-append}
 use lib.Seq.{drop-cons, get_or-append-add}
 use Rattle.pieces.specs.declared.Token.{Token}
-use Rattle.lexer.specs.Numbered.{Part, Outcome}
+use Rattle.lexer.specs.Numbered.{Part, Outcome, spellings, tokens_cells}
 use Rattle.lexer.specs.Read.{lexed_from, reading_of}
 use Rattle.joined.proofs.Limits.{edited_lexes}
 use Rattle.joined.specs.Edits.{Edit, Replaced}
-use Rattle.joined.proofs.Parts.{Lexes, lexes-of}
+use Rattle.joined.proofs.Parts.{Lexes, lexes-of, length_moved}
 use Rattle.joined.proofs.Bytes.{token-says}
-use Rattle.lexer.specs.Numbered.{spellings, tokens_cells}
 use Rattle.lexer.specs.Decoded.{Tok, tokens_of}
 use Rattle.lexer.proofs.Same.{length-spellings}
 use Rattle.parser.specs.Moved.{Sim}
 use Rattle.joined.specs.Runs.{move_items}
 use Rattle.joined.specs.Names.{Apart, move_of}
 use Rattle.joined.proofs.Names.{renamed-spelled, renamed-apart, both-length}
-use Rattle.joined.proofs.Parts.{length_moved}
 use Rattle.joined.specs.Readings.{held, Readings}
 use Rattle.joined.proofs.Edits.{Known, known, tail, end_of, new-distinct, new_related, rest-table, rest-distinct}
 use Rattle.joined.proofs.Edits.{rest-alone, rest_in_old, front-table, front-known, front-spelled}
 use Rattle.joined.proofs.Edits.{edited_distinct, rest_in_edited, pre_same, pre_related, new-named}
-use Rattle.joined.proofs.Edits.{rest-named, upto, new_items}
-use Rattle.joined.proofs.Edits.{old_items}
+use Rattle.joined.proofs.Edits.{rest-named, upto, new_items, old_items}
 
 -- a list by its first byte
 pub begins_with : (s : List ℕ) (b : ℕ) → 0 < length s → get_or s 0 0 ≡ b → s ≡ b ∷ drop 1 s

@@ -19,8 +19,7 @@ use Rattle.lexer.specs.Numbered.{Part, part, spellings, spelling_of, index_of, o
 use Rattle.lexer.specs.Numbered.{then_identified, then_room, numbered_from, numbered}
 use Rattle.lexer.specs.Read.{lexed_from}
 use Rattle.lexer.specs.Sound.{Each, Pairs, no_token, no_part, spelling, Sound, SoundRefusal, HasNumber}
-use Rattle.lexer.specs.Sound.{HasSpelling, HasLetter}
-use Rattle.lexer.specs.Sound.{InRange, Rises, InText, Differ}
+use Rattle.lexer.specs.Sound.{HasSpelling, HasLetter, InRange, Rises, InText, Differ}
 use Rattle.pieces.specs.declared.Cursor.{Cursor}
 use Rattle.pieces.specs.declared.Token.{Token}
 use Rattle.pieces.specs.declared.TokenValue.TheVariants as T

@@ -12,8 +12,7 @@ use Rattle.parser.specs.Step.{refusal}
 use Rattle.parser.specs.Labels.{has}
 use Rattle.body.specs.Shapes.{Shape, name, operation, names_in}
 use Rattle.link.specs.Blocks.{Block, fresh, grown, blocks_from, blocks_after, blocks_of}
-use Rattle.link.specs.Edges.{Place, at, nowhere, place_of, then_place, Resolved, fine, refused, missing}
-use Rattle.link.specs.Edges.{resolve_labels}
+use Rattle.link.specs.Edges.{Place, at, nowhere, place_of, then_place, Resolved, fine, refused, missing, resolve_labels}
 use Rattle.link.specs.Edges.{resolve_from, resolve_d, places, successors}
 use Rattle.body.specs.Room.{filled}
 use Rattle.link.specs.Table.{leading}

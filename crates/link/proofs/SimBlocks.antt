@@ -8,8 +8,7 @@ use borrow.Author.Tests.{eqb-false}
 use lib.Dec.{eqb}
 use Rattle.utils.specs.Bytes.{pick}
 use Rattle.parser.specs.Step.{refusal}
-use Rattle.body.specs.Body.{Item}
-use Rattle.body.specs.Body.{closed_items}
+use Rattle.body.specs.Body.{Item, closed_items}
 use Rattle.body.specs.Shapes.{Shape, shapes_of}
 use Rattle.link.specs.Blocks.{Block, fresh, grown, blocks_from, blocks_after, blocks_of}
 use Rattle.link.specs.Edges.{Place, place_of, then_place, Resolved, resolve_labels, resolve_from, resolve_d}

@@ -1,8 +1,7 @@
 -- A function's block records, eight cells each (docs/INTERFACE.md): the index of its first operation among all items,
 -- how many operations it has, how many successors and the pair of them, where its predecessors begin, how many they
 -- are, and the dead mark. Blocks are numbered from the function's first.
-use Rattle.std.specs.Prelude.{ℕ, ◌+◌, ◌*◌, ◌≡◌, List, [], ◌∷◌, ◌++◌, Bool, true, false, length, get_or, Result, Ok}
-use Rattle.std.specs.Prelude.{Err}
+use Rattle.std.specs.Prelude.{ℕ, ◌+◌, ◌*◌, ◌≡◌, List, [], ◌∷◌, ◌++◌, Bool, true, false, length, get_or, Result, Ok, Err}
 use Rattle.parser.specs.declared.Refusal.{Refusal}
 use Rattle.std.proofs.lemmas.List.Edits.{sets}
 use Rattle.graph.specs.Records.{block_record, cells_of}

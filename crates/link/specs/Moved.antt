@@ -3,8 +3,7 @@ use Rattle.std.specs.Prelude.{ℕ, ◌+◌, ◌<◌, ◌≡◌}
 use Rattle.link.specs.Blocks.{Block}
 use Rattle.link.specs.Edges.{Resolved}
 use Rattle.parser.specs.declared.Refusal.{Refusal}
-use Rattle.parser.specs.Moved.{Move, SimE}
-use Rattle.parser.specs.Moved.{Each, SimNumber}
+use Rattle.parser.specs.Moved.{Move, SimE, Each, SimNumber}
 
 -- The same block, with its names renamed. The token is moved where there is one: a block without operation has none.
 pub record SimBlock (m : Move) (l : ℕ) (b b' : Block) : Type 0 where

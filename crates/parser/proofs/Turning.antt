@@ -9,11 +9,10 @@ use mathlib.Core.Bool.{Bool, true, false}
 use mathlib.Core.Logic.{⊎_elim}
 use native.Mathlib.Omega.{arith}
 use native.Mathlib.Nat.{eq-or-lt_of_le}
-use native.Mathlib.Numerals.{add-one}
 use borrow.Author.Tests.{le-leb, lt-leb, eq-eqb, ne_eqb}
 use lib.Dec.{eqb, leb}
-use lib.ListN.{length, drop, take, get_or}
-use lib.Seq.{drop-cons, get_or-take, length-take-le, sets}
+use lib.ListN.{length, take}
+use lib.Seq.{length-take-le, sets}
 use Rattle.utils.specs.Bytes.{pick}
 use Rattle.lexer.specs.Decoded.{Tok, token_at}
 use Rattle.lexer.specs.declared.TokenAt.{TokenAt}

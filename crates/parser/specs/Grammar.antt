@@ -1,10 +1,9 @@
 -- The grammar of one operation (parse_instruction and parse_type of parser.rs), over the tokens and an index. `T.int`
 -- and so on are the kinds of tokens (Kinds.antt).
-use Rattle.std.specs.Prelude.{Err, Ok, Result}
+use Rattle.std.specs.Prelude.{Err, Ok, Result, ℕ, List, Bool, true, false, leb, eqb}
 use Rattle.pieces.specs.declared.Identifier.{Identifier}
 use Rattle.parser.specs.declared.Refusal.{Refusal}
 use Rattle.parser.specs.declared.Ty.{Ty}
-use Rattle.std.specs.Prelude.{ℕ, List, Bool, true, false, leb, eqb}
 use Rattle.utils.specs.Bytes.{pick}
 use Rattle.lexer.specs.Decoded.{Tok, token_at}
 use Rattle.pieces.specs.Kinds as T

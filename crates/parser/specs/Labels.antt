@@ -1,10 +1,9 @@
 -- A label in a body (document 01: "38 once the label's colon is read and before 13"): its name, its colon, then the
 -- limit of 255 label definitions a function, then whether this function has it already. Labels are compared by
 -- equality alone.
-use Rattle.std.specs.Prelude.{Err, Ok, Result}
+use Rattle.std.specs.Prelude.{Err, Ok, Result, ℕ, List, [], ◌∷◌, Bool, true, false, leb, eqb, length}
 use Rattle.pieces.specs.declared.Identifier.{Identifier}
 use Rattle.parser.specs.declared.Refusal.{Refusal}
-use Rattle.std.specs.Prelude.{ℕ, List, [], ◌∷◌, Bool, true, false, leb, eqb, length}
 use Rattle.utils.specs.Bytes.{pick}
 use Rattle.lexer.specs.Decoded.{Tok}
 use Rattle.pieces.specs.Kinds as T

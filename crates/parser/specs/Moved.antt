@@ -2,8 +2,7 @@
 -- other, moved: tokens go on by `by`, lines by `down`, bytes by `on`, and names, of which there are `names`, are
 -- renamed and stay apart. The parser's definitions give related answers on related tokens; `proofs/Sim.antt` shows it
 -- of each.
-use Rattle.std.specs.Prelude.{Err, Ok, Result}
-use Rattle.std.specs.Prelude.{ℕ, ◌+◌, ◌≤◌, ◌<◌, ◌≡◌, List, [], ◌∷◌, true}
+use Rattle.std.specs.Prelude.{Err, Ok, Result, ℕ, ◌+◌, ◌≤◌, ◌<◌, ◌≡◌, List, [], ◌∷◌, true}
 use Rattle.utils.specs.Bytes.{pick}
 use Rattle.lexer.specs.Decoded.{Tok, is_name, token_at}
 use Rattle.lexer.specs.declared.TokenAt.{TokenAt}

@@ -1,7 +1,6 @@
 -- Runs: the formals of a header and the arguments of a call, each as the list that was read and where it ended. The
 -- bound is document 01's limit, so that the one too many is refused once its local is read (36, 37).
-use Rattle.std.specs.Prelude.{Err, Ok, Result}
-use Rattle.std.specs.Prelude.{ℕ, zero, suc, ◌+◌, List, [], ◌∷◌, Bool, true, false, eqb, length}
+use Rattle.std.specs.Prelude.{Err, Ok, Result, ℕ, zero, suc, ◌+◌, List, [], ◌∷◌, Bool, true, false, eqb, length}
 use Rattle.utils.specs.Bytes.{pick}
 use Rattle.lexer.specs.Decoded.{Tok, token_at}
 use Rattle.utils.specs.Limits.{most_formals, most_arguments}

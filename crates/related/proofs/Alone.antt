@@ -31,8 +31,7 @@ use Rattle.functions.proofs.SimFunctions.{optional_formals_s, optional_type_s, f
 use Rattle.sema.specs.Program.{globals_of, function_typed}
 use Rattle.sema.specs.Symbols.{Typed}
 use Rattle.unit.specs.Outcome.{refused, after_typing, unit_d, untyped}
-use Rattle.recheck.specs.Recheck.{refuses, after_typing as as_typed, typed_as, alone_d, function_alone}
-use Rattle.recheck.specs.Recheck.{retyped}
+use Rattle.recheck.specs.Recheck.{refuses, after_typing as as_typed, typed_as, alone_d, function_alone, retyped}
 use Rattle.related.specs.Tables.{SameGlobals, SimChecked, SimTyped, SameHead}
 use Rattle.related.specs.Runs.{Place, start, behind_one, behind_all, function_here, functions_here, all_then}
 use Rattle.related.specs.Entry.{retyped_function_at, UpToEntry, Enters}
@@ -45,8 +44,7 @@ use Rattle.related.proofs.SimRuns.{Found, found-by}
 use Rattle.related.proofs.Typings.{fine-from}
 use Rattle.related.proofs.Edited.{SameKnown, known-front, types-length, then_end_lem, refused-unit, untyped_s}
 use Rattle.related.proofs.Edited.{heads_before, heads_behind, each_append, its_turn, stands, in_front, begun}
-use Rattle.related.proofs.Edited.{read-front}
-use Rattle.related.proofs.Edited.{refused_there, read_there}
+use Rattle.related.proofs.Edited.{read-front, refused_there, read_there}
 
 -- A header as far as it is read before the name is entered, moved. ---------------------------------------------------
 

@@ -19,8 +19,7 @@ use Rattle.functions.specs.Known.{Known, signature, type_number, expected_type}
 use Rattle.functions.specs.Functions.{Header, HeaderAt, header, no_header, BuiltAt, built, not_built, Function}
 use Rattle.functions.specs.Functions.{FunctionAt, function}
 use Rattle.functions.specs.Functions.{no_function, then_header, then_formals, then_entered, then_built, optional_formals}
-use Rattle.functions.specs.Functions.{optional_type}
-use Rattle.functions.specs.Functions.{entered_d, signature_d, header_d, built_d, is_void, function_d}
+use Rattle.functions.specs.Functions.{optional_type, entered_d, signature_d, header_d, built_d, is_void, function_d}
 use Rattle.related.specs.Entry.{retyped_head, retyped_header, retyped_function_at, UpToEntry, Enters}
 
 -- the parts of a header, from its end

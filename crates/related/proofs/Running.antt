@@ -1,5 +1,5 @@
 -- Reading all functions is reading some of them, and then the others from where these end.
-use Rattle.std.specs.Prelude.{Err, Ok}
+use Rattle.std.specs.Prelude.{Ok}
 use Prim.Native.Nat.{ℕ, zero, suc, ◌+◌, ◌≤◌}
 use mathlib.Core.Path.{◌≡◌, refl, sym, ap, subst, ◌∙◌}
 use mathlib.Core.List.{List, [], ◌∷◌, ◌++◌}
@@ -13,8 +13,7 @@ use Rattle.lexer.specs.Decoded.{Tok, token_at}
 use Rattle.parser.specs.Step.{look}
 use Rattle.parser.specs.declared.Refusal.{Refusal}
 use Rattle.functions.specs.Functions.{Function, FunctionAt, function, no_function, Program, program_end, program_stop}
-use Rattle.functions.specs.Functions.{program_then}
-use Rattle.functions.specs.Functions.{then_function, function_d, functions_d}
+use Rattle.functions.specs.Functions.{program_then, then_function, function_d, functions_d}
 use Rattle.related.specs.Runs.{Place, behind_one, behind_all, function_here, functions_here, Run, all_then}
 use Rattle.related.proofs.Onward.{FunctionOn, function-on}
 

@@ -1,7 +1,6 @@
 -- A function read with nothing known, and what the functions known before it change: the number of its function type,
 -- where its name may be entered.
-use Rattle.std.specs.Prelude.{Err, Ok}
-use Rattle.std.specs.Prelude.{ℕ, ◌≡◌, List}
+use Rattle.std.specs.Prelude.{Ok, ℕ, ◌≡◌, List}
 use Rattle.lexer.specs.Decoded.{Tok}
 use Rattle.pieces.specs.declared.Identifier.{Identifier}
 use Rattle.parser.specs.Grammar.{global_d}

@@ -1,8 +1,7 @@
 -- Two typings of one function under a `Move` (demand 3): the tables of names agree at renamed names, and the answers
 -- are the same but for moved tokens and renamed names. `proofs/SimTyping.antt` shows that the definitions of typing
 -- give related answers on related tables and items.
-use Rattle.std.specs.Prelude.{Err, Ok, Result}
-use Rattle.std.specs.Prelude.{ℕ, ◌≤◌, ◌<◌, ◌≡◌, List, [], ◌∷◌, eqb, length, get_or}
+use Rattle.std.specs.Prelude.{Err, Ok, Result, ℕ, ◌≤◌, ◌<◌, ◌≡◌, List, [], ◌∷◌, eqb, length, get_or}
 use Rattle.parser.specs.Moved.{Move, SimE}
 use Rattle.parser.specs.declared.Refusal.{Refusal}
 use Rattle.functions.specs.Known.{formal_types}

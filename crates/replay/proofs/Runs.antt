@@ -23,8 +23,7 @@ use Rattle.replay.specs.declared.Number.{Number}
 use Rattle.replay.specs.declared.Loaded.{Loaded}
 use Rattle.replay.specs.declared.lists.Kind.{Kind}
 use Rattle.replay.specs.declared.lists.Kind.TheVariants.{Numbers, Bytes}
-use Rattle.replay.proofs.Rows.{values-none, values_length, stepped-length, repeated-more, repeated-length}
-use Rattle.replay.proofs.Rows.{sets-behind}
+use Rattle.replay.proofs.Rows.{values-none, values_length, stepped-length, repeated-more, repeated-length, sets-behind}
 
 repeated_empty : (n : ℕ) → repeated n [] [] ≡ []
 unfolding repeated stepped

@@ -20,8 +20,7 @@ use Rattle.body.specs.declared.ItemRecord.{ItemRecord}
 use Rattle.body.specs.declared.Last.{Last}
 use Rattle.body.specs.declared.Last.TheVariants as L
 use Rattle.sema.specs.Symbols.{on, stop}
-use Rattle.sema.specs.Typing.{Global, type_call_d}
-use Rattle.sema.specs.Typing.{type_call_into_d, type_plain_d, type_item_d}
+use Rattle.sema.specs.Typing.{Global, type_call_d, type_call_into_d, type_plain_d, type_item_d}
 use Rattle.sema.specs.Items.{typed, ty_of, variables_at, operation_of, item_by, item_of, item_at}
 use Rattle.sema.specs.Blocks.{items_at, type_end_d}
 

@@ -1,5 +1,5 @@
 -- One turn of each loop that threads the table: what is left, typed from the table as it is, gives the whole answer.
-use Rattle.std.specs.Prelude.{Err, Ok, Result}
+use Rattle.std.specs.Prelude.{Err, Ok, Result, Some, None}
 use Prim.Native.Nat.{ℕ, zero, suc, ◌+◌, ◌*◌, ◌-◌, ◌≤◌, ◌<◌}
 use mathlib.Core.Path.{◌≡◌, refl, sym, ap, ◌∙◌}
 use mathlib.Core.List.{List, ◌∷◌}
@@ -15,7 +15,6 @@ use Rattle.graph.specs.Records.{recorded, at_most256}
 use Rattle.graph.specs.Worklist.{worklist, remaining, popped, after_pop}
 use Rattle.graph.specs.declared.BlockId.{BlockId}
 use Rattle.graph.specs.declared.RPOWorklist.{RPOWorklist}
-use Rattle.std.specs.Prelude.{Some, None}
 use Rattle.graph.proofs.Callers.{blocks_most, new-remaining, popped-block, popped_empty}
 use Rattle.sema.specs.Symbols.{Typed, typed, on, then_typed, enter_d}
 use Rattle.sema.specs.Typing.{Global, type_item_d}

@@ -23,11 +23,9 @@ use Rattle.parser.specs.declared.Operation.TheVariants as O
 use Rattle.functions.specs.Functions.{Function}
 use Rattle.sema.specs.Symbols.{Typed, on, stop, then_end, then_typed, facts, no_name, enter_d, then_look, then_same}
 use Rattle.parser.specs.Types.{int, bool, void}
-use Rattle.sema.specs.Typing.{then_three, operands_d, type_binary_d, operand_d, type_unary_d}
-use Rattle.sema.specs.Typing.{type_const_d}
+use Rattle.sema.specs.Typing.{then_three, operands_d, type_binary_d, operand_d, type_unary_d, type_const_d}
 use Rattle.sema.specs.Typing.{type_ret_value_d, type_ret_d, Global, absent, global, present_d, types_of, same_all}
-use Rattle.sema.specs.Typing.{type_arguments_d}
-use Rattle.sema.specs.Typing.{then_global, type_call_d, type_call_into_d, type_plain_d, type_item_d}
+use Rattle.sema.specs.Typing.{type_arguments_d, then_global, type_call_d, type_call_into_d, type_plain_d, type_item_d}
 use Rattle.sema.specs.Blocks.{type_items_d, type_end_d, type_block_d, enter_formals_d, type_blocks_d, type_function_d}
 use Rattle.sema.specs.Program.{globals_of, ordered_blocks, type_program_d}
 use Rattle.sema.specs.Visits.{looks_of, operation_looks, looks, looked_in, visit, items_visits, blocks_visits}

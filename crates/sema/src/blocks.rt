@@ -1,5 +1,5 @@
 // A record's operation, a block's, and whether the block ends as it should.
-ghost use Rattle.std.specs.Prelude.{◌≡◌, List, ℕ, ◌+◌, ◌≤◌, ◌<◌, length};
+ghost use Rattle.std.specs.Prelude.{◌≡◌, List, ℕ, ◌+◌, ◌≤◌, length};
 ghost use Rattle.lexer.specs.Decoded.{tokens_of};
 ghost use Rattle.functions.specs.Columns.{HasRows, table_size};
 ghost use Rattle.utils.specs.Limits.{most_functions};

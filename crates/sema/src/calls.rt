@@ -1,5 +1,5 @@
 // Calls: the callee, the result, then how many arguments, then which, then of which types.
-ghost use Rattle.std.specs.Prelude.{◌≡◌, ◌+◌, ◌*◌, ◌≤◌, ◌<◌, length, get_or, ok_or, IfOk};
+ghost use Rattle.std.specs.Prelude.{◌≡◌, ◌+◌, ◌*◌, ◌≤◌, length, get_or, ok_or, IfOk};
 ghost use Rattle.functions.specs.Columns.{ret_at, count_at, formals_at, IsRow, HasRows};
 ghost use Rattle.functions.specs.Rows.{at_most16, types_at, row_from};
 ghost use Rattle.utils.specs.Limits.{most_formals};

@@ -13,14 +13,12 @@ use Rattle.parser.specs.Step.{then_at}
 use Rattle.parser.specs.declared.Refusal.{Refusal}
 use Rattle.functions.specs.Functions.{Function, program_d}
 use Rattle.functions.specs.Columns.{row_at}
-use Rattle.functions.specs.Answer.{Slices, slices, Long, counts_with, counts_from, program_read}
-use Rattle.functions.specs.Answer.{Held}
+use Rattle.functions.specs.Answer.{Slices, slices, Long, counts_with, counts_from, program_read, Held}
 use Rattle.functions.specs.Laid.{rows_cells, untyped_items, untyped_arguments, all_blocks, all_predecessors, FitsFrom}
 use Rattle.functions.specs.Laid.{AllFit}
 use Rattle.functions.specs.declared.Counts.{Counts}
 use Rattle.functions.proofs.Laid.{functions-counted, length-items, length-arguments, Inside, inside-from, none_inside}
-use Rattle.functions.proofs.Laid.{stored_laid, length-rows, length-all_blocks, length-predecessors}
-use Rattle.functions.proofs.Laid.{LaidFits, laid_fits}
+use Rattle.functions.proofs.Laid.{stored_laid, length-rows, length-all_blocks, length-predecessors, LaidFits, laid_fits}
 use Rattle.functions.proofs.Standing.{types-stored, items-stored}
 use Rattle.parser.specs.Runs.{type_cell}
 use Rattle.sema.specs.Symbols.{Typed}
@@ -30,8 +28,7 @@ use Rattle.sema.proofs.Rows.{globals_stored}
 use Rattle.elaborate.specs.Types.{callee_in, typed_items_cells, typed_arguments_cells}
 use Rattle.elaborate.proofs.Lists.{length-typed_items, length-typed_arguments}
 use Rattle.elaborate.proofs.Rows.{callees_stored}
-use Rattle.unit.specs.Outcome.{untyped, checked, refused, unit_d, unit_read, unit_slices, slices_of, none}
-use Rattle.unit.specs.Outcome.{fronts}
+use Rattle.unit.specs.Outcome.{untyped, checked, refused, unit_d, unit_read, unit_slices, slices_of, none, fronts}
 use Rattle.unit.specs.Outcome.{tables_of, all_items, all_arguments, UnitHeld, Counted}
 use Rattle.unit.specs.Rows.{Done, typed_rows, RowsFit, HeldBy, RowsHeld}
 use Rattle.unit.proofs.Typed.{Same, all_typed}

@@ -1,5 +1,5 @@
 // Typing, function by function: the types of a function's operands are written while the table still has its names.
-ghost use Rattle.std.specs.Prelude.{◌≡◌, [], ◌+◌, ◌*◌, ◌≤◌, ◌<◌, length};
+ghost use Rattle.std.specs.Prelude.{[], ◌+◌, ◌*◌, ◌≤◌, length};
 ghost use Rattle.utils.specs.Bytes.{pad_to};
 ghost use Rattle.lexer.specs.Decoded.{tokens_of};
 ghost use Rattle.functions.specs.Columns.{table_size};

@@ -8,8 +8,7 @@ use lib.ListN.{length}
 use Rattle.lexer.specs.Decoded.{tokens_of}
 use Rattle.functions.specs.Answer.{slices}
 use Rattle.headers.proofs.Ranges.{table_in_range}
-use Rattle.alone.proofs.Building.{parsed_is, header_changed, parse_refused, typing_asks, types-refused}
-use Rattle.alone.proofs.Building.{types-fine}
+use Rattle.alone.proofs.Building.{parsed_is, header_changed, parse_refused, typing_asks, types-refused, types-fine}
 use Rattle.alone.proofs.build.Goals as goal
 
 pub keeps-requires : goal.keeps-requires

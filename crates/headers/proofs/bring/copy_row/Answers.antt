@@ -1,5 +1,5 @@
 -- Storing the cells that are left from here on gives what storing all of them gives.
-use Prim.Native.Nat.{◌-◌, ◌+◌}
+use Prim.Native.Nat.{◌+◌}
 use native.Mathlib.Omega.{arith}
 use native.Mathlib.Nat.{add-zero}
 use Rattle.functions.specs.Columns.{row_at}

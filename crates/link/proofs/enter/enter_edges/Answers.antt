@@ -7,8 +7,7 @@ use lib.ListN.{length-append}
 use Rattle.graph.specs.Records.{row_of}
 use Rattle.link.specs.Edges.{entering, predecessors}
 use Rattle.link.specs.Steps.{links_from}
-use Rattle.link.proofs.Entering.{entered-none, entered-more}
-use Rattle.link.proofs.Entering.{entered_all, predecessors-more, predecessors-none}
+use Rattle.link.proofs.Entering.{entered-none, entered-more, entered_all, predecessors-more, predecessors-none}
 use Rattle.link.proofs.enter.enter_edges.Goals as goal
 
 pub loop-k-init : goal.loop-k-init

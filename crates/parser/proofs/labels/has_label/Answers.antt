@@ -1,5 +1,4 @@
 -- The library's look-up is the definition's.
-use Prim.Native.Nat.{ℕ}
 use lib.ListN.{take}
 use mathlib.Core.Path.{◌∙◌}
 use Rattle.parser.proofs.Turning.{any_is_has}

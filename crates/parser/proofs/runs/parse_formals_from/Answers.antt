@@ -1,5 +1,5 @@
 -- Of the whole run n variables are stored, and the rest is read from here (`Going`).
-use Rattle.std.specs.Prelude.{Err, Ok}
+use Rattle.std.specs.Prelude.{Err}
 use native.Mathlib.Omega.{arith}
 use Rattle.std.proofs.lemmas.Result.{err_from_is_err_and}
 use mathlib.Core.Path.{refl, ◌∙◌}

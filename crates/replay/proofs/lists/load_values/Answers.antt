@@ -1,7 +1,6 @@
 -- Each turn stores one value more (`value-stored`).
-use Rattle.std.proofs.Common.{◌+◌, ◌-◌, length, sym, ap, ◌∙◌, arith}
+use Rattle.std.proofs.Common.{◌+◌, ◌-◌, length, sym, ap, ◌∙◌, arith, append-nil}
 use Rattle.std.proofs.lemmas.List.{take_all}
-use Rattle.std.proofs.Common.{append-nil}
 use Rattle.replay.specs.Lists.{Values}
 use Rattle.replay.proofs.Rows.{values-more, values-none, value-stored}
 use Rattle.replay.proofs.lists.load_values.Goals as goal
