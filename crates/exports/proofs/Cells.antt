@@ -12,7 +12,7 @@ use native.Mathlib.Numerals.{add-one}
 use lib.Dec.{eqb}
 use lib.ListN.{length, get_or, take, drop, replicate, length-append, length-take, length-replicate, drop_of_length-le}
 use lib.Seq.{sets, drop-cons, sets-eq, length-take-le}
-use native.Mathlib.Nat.{zero-add, sub-zero}
+use native.Mathlib.Nat.{zero-add}
 use Rattle.utils.specs.Bytes.{pick, pad_to}
 use borrow.Rule.Slice.PartMut.{put_mid}
 use Rattle.utils.proofs.Runs as Runs
