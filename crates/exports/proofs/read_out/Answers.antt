@@ -3,7 +3,10 @@ use Rattle.std.proofs.Common.{rules}
 use Rattle.exports.proofs.Cells.{cleared, whole}
 use Rattle.lexer.specs.Read.{read_of}
 use native.Mathlib.Omega.{arith}
-use mathlib.Core.Path.{◌∙◌}
+use Prim.Native.Nat.{ℕ, ◌-◌}
+use mathlib.Core.Path.{ap, ◌∙◌}
+use lib.ListN.{length, replicate}
+use lib.Seq.{sets}
 use Rattle.exports.proofs.read_out.Goals as goal
 
 pub read_into-answer-requires : goal.read_into-answer-requires
@@ -22,9 +25,11 @@ pub returns : goal.returns
 unfolding read_of
 returns c =
     let long = c.put_front-2.auto.out ∙ c.put_front.auto.out in
-    let zeros = cleared 73728 _ c.put_front-2.new.out c.fill.new.self (search rules) (omega (arith, long, c.requires.2)) in
+    let kept = c.put_front-2.new.out in
+    let zeros =
+    cleared 73728 (length kept - 73728) kept c.fill.new.self (search rules) (omega (arith, long, c.requires.2)) in
     whole c.args.text.now _ _ c.args.out.now _ _ _ c.args.message.now _ _ c.read_into-answer.result
     c.read_into-answer.ensures (c.read_into-answer.auto.tokens ∙ c.requires.0) (c.read_into-answer.auto.names ∙
     c.requires.1) c.requires.2
     c.read_into-answer.auto.message c.put_front.ensures c.put_front-2.ensures
-    (rw long at zeros) c.finish_message.ensures
+    (zeros ∙ ap (λ (x : ℕ). sets kept 73728 (replicate (x - 73728) 0)) long) c.finish_message.ensures
