@@ -7,7 +7,7 @@ ghost use Rattle.headers.specs.Spelled.{row_name, spelled_as, InTable, name_spel
 
 use crate::Looked;
 use functions::columns;
-use pieces::{Identifier, tokens};
+use pieces::Identifier;
 use utils::cell_at;
 
 // The part of the old text that row i of the header table names.
@@ -41,16 +41,6 @@ pub fn spelled<'t, 'c>(
     }
 }
 
-fn same_spelling(a: &[u8], b: &[u8]) -> bool
-    ensures { result ≡ same_bytes a.now b.now }
-{
-    let n = a.len();
-    if n != b.len() {
-        return false;
-    }
-    tokens::same_bytes(a, 0, b, 0, n)
-}
-
 // Whether row i is spelled as the name x.
 pub fn is_spelled<'t, 'c>(
     old: &'t [u8],
@@ -66,7 +56,7 @@ pub fn is_spelled<'t, 'c>(
 {
     let header = spelled(old, new, rows, names, Looked::Header(i));
     let name = spelled(old, new, rows, names, Looked::Name(x));
-    same_spelling(header, name)
+    header == name
 }
 
 // The first of the new text's `count` names that is spelled as row i's name.
