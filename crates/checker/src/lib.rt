@@ -95,8 +95,7 @@ pub fn refuse(
     let end = r.names as usize * NAME_CELLS;
     messages::put_message(text, &tokens[0..last], &names[0..end], e, message);
     let t = lexer::token_at(&tokens[0..last], e.token);
-    let line = t.line;
-    refused(e.number, line, t.place)
+    refused(e.number, t.line, t.place)
 }
 
 // The functions of a text that is read, into the front of slices that have their sizes.

@@ -32,8 +32,7 @@ fn typed_last(table: &[u32], last: Last) -> Last
 {
     match last {
         Last::Name(x, _) => Last::Name(x, cell_at(table, x.0 as usize)),
-        Last::Labels { .. } => last,
-        Last::Run { .. } => last,
+        Last::Labels { .. } | Last::Run { .. } => last,
     }
 }
 
@@ -75,7 +74,7 @@ fn type_run(table: &[u32], arguments: &mut [u32], first: u32, count: u32)
     }
 }
 
-// A cell, where the slice has it.
+// A cell, where the slice has it. By its length: what a write through `get_mut` leaves takes a proof by hand.
 fn put_cell(cells: &mut [u32], at: usize, v: u32)
     ensures { cells.new ≡ set cells.old at v }
 {
@@ -98,10 +97,8 @@ fn elaborate_calls(table: &[u32], items: &[u32], first: usize, count: usize, arg
 fn type_call(table: &[u32], r: ItemRecord, arguments: &mut [u32])
     ensures { arguments.new ≡ typed_arguments table.now arguments.old r }
 {
-    let last = r.last;
-    match last {
-        Last::Name(_, _) => {}
-        Last::Labels { .. } => {}
+    match r.last {
+        Last::Name(_, _) | Last::Labels { .. } => {}
         Last::Run { first, count } => type_run(table, arguments, first, count),
     }
 }

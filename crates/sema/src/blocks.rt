@@ -30,18 +30,14 @@ fn analyze_plain(
     ensures { typed table.new result
         ≡ type_plain_d (tokens_of tokens.now) ret table.old (operation_of r x) }
 {
-    let kind = r.kind;
     let w = r.token as usize;
     let word = token_at(tokens, w).kind;
-    let result = r.dest;
-    let ty = r.dty;
-    let left = r.left;
-    match kind {
-        kinds::BINARY => operations::analyze_bin_op(table, word, w, result, ty, left, x),
-        kinds::UNARY => operations::analyze_unary_op(table, word, w, result, ty, left),
-        kinds::CONST => operations::analyze_const(table, word, w, result, ty),
+    match r.kind {
+        kinds::BINARY => operations::analyze_bin_op(table, word, w, r.dest, r.dty, r.left, x),
+        kinds::UNARY => operations::analyze_unary_op(table, word, w, r.dest, r.dty, r.left),
+        kinds::CONST => operations::analyze_const(table, word, w, r.dest, r.dty),
         kinds::RET => operations::analyze_ret(ret, w),
-        kinds::RET_VALUE => operations::analyze_ret_value(table, ret, w, left),
+        kinds::RET_VALUE => operations::analyze_ret_value(table, ret, w, r.left),
         _ => Ok(()),
     }
 }
@@ -62,18 +58,15 @@ fn analyze_record(
         (item_of r arguments.now) }
 {
     let w = r.token as usize;
-    let result = r.dest;
-    let ty = r.dty;
     let callee = r.left;
-    let last = r.last;
-    match last {
+    match r.last {
         Last::Name(x, _) => analyze_plain(tokens, ret, table, r, x),
         Last::Labels { .. } => Ok(()),
         Last::Run { first, count } => {
             let run = Arguments { first, count };
             if r.kind == kinds::CALL_INTO {
                 return calls::analyze_call_into(
-                    table, w, rows, n, result, ty, callee, arguments, run,
+                    table, w, rows, n, r.dest, r.dty, callee, arguments, run,
                 );
             }
             calls::analyze_call(table, w, rows, n, callee, arguments, run)

@@ -6,9 +6,6 @@ use mathlib.Core.Path.{◌≡◌, sym, ◌∙◌}
 use Rattle.elaborate.proofs.Turns.{calls_turn, calls_end}
 use Rattle.elaborate.proofs.elaborate_calls.Goals as goal
 
-pub loop-i-init : goal.loop-i-init
-loop-i-init c = let e : c.args.first + c.args.count - c.args.first ≡ c.args.count = omega arith in rw e
-
 pub loop-i-preserved : goal.loop-i-preserved
 loop-i-preserved c =
     let m = calls_turn c.args.table.now c.args.items.now c.loop-i.arguments c.loop-i.i (c.args.first + c.args.count)

@@ -7,11 +7,6 @@ use Rattle.elaborate.specs.Types.{callee_of}
 use Rattle.elaborate.proofs.Turns.{items_turn, items_end}
 use Rattle.elaborate.proofs.elaborate_items.Goals as goal
 
-pub loop-i-init : goal.loop-i-init
-loop-i-init c =
-    let e : c.args.first + c.args.count - c.args.first ≡ c.args.count = omega arith in
-    (refl, rw e)
-
 pub loop-i-preserved : goal.loop-i-preserved
 loop-i-preserved c =
     let m = items_turn c.args.table.now (callee_of c.args.rows.now c.args.n) c.loop-i.items c.loop-i.i

@@ -6,9 +6,6 @@ use mathlib.Core.Path.{◌≡◌, sym, ◌∙◌}
 use Rattle.elaborate.proofs.Turns.{run_turn, run_end}
 use Rattle.elaborate.proofs.type_run.Goals as goal
 
-pub loop-i-init : goal.loop-i-init
-loop-i-init c = let e : c.args.first + c.args.count - c.args.first ≡ c.args.count = omega arith in rw e
-
 pub loop-i-preserved : goal.loop-i-preserved
 loop-i-preserved c =
     let m = run_turn c.args.table.now c.loop-i.arguments c.loop-i.i (c.args.first + c.args.count) (omega arith) in

@@ -10,9 +10,6 @@ use Rattle.sema.specs.Blocks.{items_at}
 use Rattle.sema.proofs.Threads.{items_refused, items-fine, items-ended}
 use Rattle.sema.proofs.blocks.analyze_block.Goals as goal
 
-pub loop-i-init : goal.loop-i-init
-loop-i-init c = (refl, rw (add-zero, sub-zero) refl)
-
 pub returns-in_err-analyze_op : goal.returns-in_err-analyze_op
 returns-in_err-analyze_op c =
     let a = c.args in

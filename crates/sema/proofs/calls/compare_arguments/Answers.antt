@@ -10,9 +10,6 @@ use Rattle.sema.proofs.Steps.{same-refused, same-fine}
 use Rattle.sema.proofs.Turns.{variables_turn, variables_none, found_at, types_turn}
 use Rattle.sema.proofs.calls.compare_arguments.Goals as goal
 
-pub loop-i-init : goal.loop-i-init
-loop-i-init c = rw (add-zero, add-zero, sub-zero) refl
-
 pub returns-in_err-expect_type : goal.returns-in_err-expect_type
 unfolding types_of same_all
 returns-in_err-expect_type c =

@@ -10,9 +10,6 @@ use Rattle.sema.proofs.Steps.{look-refused, look-fine}
 use Rattle.sema.proofs.Turns.{variables_turn, variables_none}
 use Rattle.sema.proofs.calls.look_arguments.Goals as goal
 
-pub loop-i-init : goal.loop-i-init
-loop-i-init c = rw (add-zero, sub-zero) refl
-
 pub returns-in_err-look : goal.returns-in_err-look
 unfolding present_d
 returns-in_err-look c =

@@ -7,9 +7,6 @@ use mathlib.Core.Path.{refl, ◌∙◌}
 use Rattle.sema.proofs.Threads.{formals-refused, formals-fine, formals-ended}
 use Rattle.sema.proofs.function.enter_formals.Goals as goal
 
-pub loop-i-init : goal.loop-i-init
-loop-i-init c = (refl, rw (add-zero, sub-zero) refl)
-
 pub returns-in_err-insert : goal.returns-in_err-insert
 returns-in_err-insert c =
     let p = err_from_is_err_and c.from_residual.result c.from_residual.ensures.1 in
