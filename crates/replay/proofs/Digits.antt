@@ -15,7 +15,8 @@ module _ (s : List ℕ) (from at : ℕ) (before : Bool)
     (known : to_digit before (drop at s) ≡ to_digit false (drop from s)) where
   module _ (comment digit : Bool) (h : at < length s) (in-comment : comment ≡ in_comment before (get_or s at 0))
       (digit_is : digit ≡ is_ascii_digit (get_or s at 0)) where
-    one_byte : cond (digit && not comment) (drop at s) (to_digit comment (drop (at + 1) s)) ≡ to_digit false (drop from s)
+    one_byte : cond (digit && not comment) (drop at s) (to_digit comment (drop (at + 1) s))
+        ≡ to_digit false (drop from s)
     unfolding to_digit
     one_byte = rw (← known, drop-cons s at 0 h, in-comment, digit_is, add-one at)
 

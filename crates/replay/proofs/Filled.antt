@@ -9,7 +9,8 @@ and_assoc true b c = refl
 and_assoc false b c = refl
 
 module _ {A : Type 0} (value : A → ℕ) (rest : ℕ) where
-  behind : (got : List A) → bytes_eq (map value got) (replicate (length got) rest) ≡ list_all (λ x. eqb (value x) rest) got
+  behind : (got : List A) → bytes_eq (map value got) (replicate (length got) rest)
+      ≡ list_all (λ x. eqb (value x) rest) got
   behind [] = refl
   behind (x ∷ xs) = ap (λ (t : Bool). eqb (value x) rest && t) (behind xs)
 

@@ -75,7 +75,8 @@ sets-behind (x ∷ xs) vs (suc i) = ap (λ (l : List ℕ). x ∷ l) (sets-behind
 -- a slice after a write to its part from a place on
 pub put-last : (l part : List ℕ) (i : ℕ) → put_mid i (length l - i) l part ≡ take i l ++ part
 put-last l part i =
-    let none : drop (length l - i) (drop i l) ≡ [] = drop_all (length l - i) (drop i l) (omega (arith, length-drop i l)) in
+    let rest = drop i l in
+    let none : drop (length l - i) rest ≡ [] = drop_all (length l - i) rest (omega (arith, length-drop i l)) in
     rw none (ap (λ (p : List ℕ). take i l ++ p) (append-nil part))
 
 -- what was stored stands there

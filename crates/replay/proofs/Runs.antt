@@ -243,7 +243,8 @@ module _ (kind : Kind) (s : List ℕ) (from : ℕ) (before : List ℕ) where
         let l : length part ≡ most = ap length part-is ∙ (length-drop count cells ∙ ap (λ (k : ℕ). k - count) size) in
         let new : Stored run part r part' = rw l at stored in
         let after : cells' ≡ sets cells count run.cells =
-        cells-are ∙ (ap (λ (p : List ℕ). take count cells ++ p) new.cells ∙ rw part-is (sets-behind cells run.cells count)) in
+        cells-are
+        ∙ (ap (λ (p : List ℕ). take count cells ++ p) new.cells ∙ rw part-is (sets-behind cells run.cells count)) in
         let place : count + r.count ≡ count + length run.cells = ap (λ (k : ℕ). count + k) new.count in
         let room : length before - (count + r.count) ≡ most - length run.cells = omega (arith, new.count) in
         let rest = runs_at kind s (length before - (count + r.count)) m r.next in

@@ -3,26 +3,12 @@ use functions::sizes;
 use replay::{lists, number_at};
 use utils::limits;
 
-// Whether a case is one of recheck; how much of their room its old text and its header table take; the function's
-// number, and the place in the file after them.
+// The old text, as much of its header table as is lent, and the function's number.
 #[derive(Clone, Copy)]
-pub struct Given {
-    pub again: bool,
-    pub old: usize,
-    pub table: usize,
+pub struct Given<'t> {
+    pub old: &'t [u8],
+    pub table: &'t [u32],
     pub number: u32,
-    pub next: usize,
-}
-
-// A case of check.
-fn nothing(next: usize) -> Given {
-    Given {
-        again: false,
-        old: 0,
-        table: 0,
-        number: 0,
-        next,
-    }
 }
 
 // The header table that `check` writes for a text.
@@ -50,44 +36,36 @@ fn write_table(text: &[u8], table: &mut [u32]) {
 // Changes cells of a table: the file has how many, and of each its index and its value. Answers the place after them.
 fn change(data: &[u8], from: usize, table: &mut [u32]) -> usize {
     let changes = number_at(data, from);
-    let mut left = changes.value;
     let mut at = changes.next;
-    while 0 < left {
+    for _ in 0..changes.value {
         let index = number_at(data, at);
         let value = number_at(data, index.next);
-        let cell = index.value as usize;
-        if table.len() <= cell {
+        let Some(cell) = table.get_mut(index.value as usize) else {
             return data.len();
-        }
-        table[cell] = value.value;
+        };
+        *cell = value.value;
         at = value.next;
-        left -= 1;
     }
     at
 }
 
-// What a case is given: one of check, nothing.
-pub fn load_given(
+// What a recheck is given, with room for the old text and its table, and the place in the file after it.
+pub fn load<'t>(
     data: &[u8],
     from: usize,
-    again: bool,
-    old: &mut [u8],
-    table: &mut [u32],
-) -> Given {
-    if !again {
-        return nothing(from);
-    }
+    old: &'t mut [u8],
+    table: &'t mut [u32],
+) -> (Given<'t>, usize) {
     let text = lists::load_text(data, from, old);
-    let n = text.count;
-    write_table(&old[..n], table);
+    let old = &old[..text.count];
+    write_table(old, table);
     let changed = change(data, text.next, table);
     let length = number_at(data, changed);
     let number = number_at(data, length.next);
-    Given {
-        again: true,
-        old: n,
-        table: length.value as usize,
+    let given = Given {
+        old,
+        table: lists::lend(table, length.value),
         number: number.value,
-        next: number.next,
-    }
+    };
+    (given, number.next)
 }

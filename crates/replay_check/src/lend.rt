@@ -3,146 +3,104 @@ use crate::given::Given;
 use checker::CheckAnswer;
 use functions::{columns, sizes};
 use replay::held::{OLD_BYTE, OLD_CELL, SPARE};
-use replay::{Outcome, held, lists, parts};
+use replay::parts::{Cells, Part};
+use replay::{Outcome, held, lists};
 use utils::limits;
 
-// The call itself.
-fn call<'t>(
-    given: Given,
-    old: &'t [u8],
-    table: &[u32],
-    text: &'t [u8],
-    tokens: &mut [u32],
-    names: &mut [u32],
-    functions: &mut [u32],
-    items: &mut [u32],
-    arguments: &mut [u32],
-    blocks: &mut [u32],
-    predecessors: &mut [u32],
-    message: &mut [u8],
-) -> CheckAnswer {
-    if given.again {
-        return rechecker::recheck(
-            old,
-            table,
-            given.number,
-            text,
-            tokens,
-            names,
-            functions,
-            items,
-            arguments,
-            blocks,
-            predecessors,
-            message,
-        );
-    }
-    checker::check(
-        text,
-        tokens,
-        names,
-        functions,
-        items,
-        arguments,
-        blocks,
-        predecessors,
-        message,
-    )
+// The slices that are lent.
+#[derive(Drop)]
+struct Slices<'s> {
+    tokens: &'s mut [u32],
+    names: &'s mut [u32],
+    functions: &'s mut [u32],
+    items: &'s mut [u32],
+    arguments: &'s mut [u32],
+    blocks: &'s mut [u32],
+    predecessors: &'s mut [u32],
+    message: &'s mut [u8],
 }
 
-// An answer and the slices, held to the file.
-fn compare(
-    data: &[u8],
-    from: usize,
-    answer: CheckAnswer,
-    tokens: &[u32],
-    names: &[u32],
-    functions: &[u32],
-    items: &[u32],
-    arguments: &[u32],
-    blocks: &[u32],
-    predecessors: &[u32],
-    message: &[u8],
-) -> Outcome {
-    let got = [
-        answer.number,
-        answer.line,
-        answer.place,
-        answer.tokens,
-        answer.names,
-        answer.functions,
-        answer.items,
-        answer.arguments,
-        answer.blocks,
-        answer.predecessors,
+// The call itself.
+fn call(given: Option<Given>, text: &[u8], slices: &mut Slices) -> CheckAnswer {
+    match given {
+        Some(given) => rechecker::recheck(
+            given.old,
+            given.table,
+            given.number,
+            text,
+            slices.tokens,
+            slices.names,
+            slices.functions,
+            slices.items,
+            slices.arguments,
+            slices.blocks,
+            slices.predecessors,
+            slices.message,
+        ),
+        None => checker::check(
+            text,
+            slices.tokens,
+            slices.names,
+            slices.functions,
+            slices.items,
+            slices.arguments,
+            slices.blocks,
+            slices.predecessors,
+            slices.message,
+        ),
+    }
+}
+
+// An answer's numbers, held to the file.
+fn compare_numbers(data: &[u8], from: usize, answer: CheckAnswer) -> Outcome {
+    let numbers = [
+        (Part::Number, answer.number),
+        (Part::Line, answer.line),
+        (Part::Place, answer.place),
+        (Part::Count(Cells::Tokens), answer.tokens),
+        (Part::Count(Cells::Names), answer.names),
+        (Part::Count(Cells::Functions), answer.functions),
+        (Part::Count(Cells::Items), answer.items),
+        (Part::Count(Cells::Arguments), answer.arguments),
+        (Part::Count(Cells::Blocks), answer.blocks),
+        (Part::Count(Cells::Predecessors), answer.predecessors),
     ];
-    let a = held::holds_numbers(data, from, &got);
-    let t = held::holds_cells(data, a, parts::TOKENS, tokens);
-    let n = held::holds_cells(data, t, parts::NAMES, names);
-    let f = held::holds_cells(data, n, parts::FUNCTIONS, functions);
-    let i = held::holds_cells(data, f, parts::ITEMS, items);
-    let g = held::holds_cells(data, i, parts::ARGUMENTS, arguments);
-    let b = held::holds_cells(data, g, parts::BLOCKS, blocks);
-    let p = held::holds_cells(data, b, parts::PREDECESSORS, predecessors);
-    held::holds_bytes(data, p, parts::MESSAGE, message)
+    held::holds_numbers(data, from, &numbers)
+}
+
+// The slices, held to the file after what was.
+fn compare_slices(data: &[u8], seen: Outcome, slices: &Slices) -> Outcome {
+    let t = held::holds(data, seen, Part::Cells(Cells::Tokens), slices.tokens);
+    let n = held::holds(data, t, Part::Cells(Cells::Names), slices.names);
+    let f = held::holds(data, n, Part::Cells(Cells::Functions), slices.functions);
+    let i = held::holds(data, f, Part::Cells(Cells::Items), slices.items);
+    let a = held::holds(data, i, Part::Cells(Cells::Arguments), slices.arguments);
+    let b = held::holds(data, a, Part::Cells(Cells::Blocks), slices.blocks);
+    let p = held::holds(
+        data,
+        b,
+        Part::Cells(Cells::Predecessors),
+        slices.predecessors,
+    );
+    held::holds(data, p, Part::Message, slices.message)
 }
 
 // The call, and all that came of it held to the file.
-fn ask<'t>(
+fn ask(
     data: &[u8],
     from: usize,
-    given: Given,
-    old: &'t [u8],
-    table: &[u32],
-    text: &'t [u8],
-    tokens: &mut [u32],
-    names: &mut [u32],
-    functions: &mut [u32],
-    items: &mut [u32],
-    arguments: &mut [u32],
-    blocks: &mut [u32],
-    predecessors: &mut [u32],
-    message: &mut [u8],
+    given: Option<Given>,
+    text: &[u8],
+    slices: &mut Slices,
 ) -> Outcome {
-    let answer = call(
-        given,
-        old,
-        table,
-        text,
-        tokens,
-        names,
-        functions,
-        items,
-        arguments,
-        blocks,
-        predecessors,
-        message,
-    );
-    compare(
-        data,
-        from,
-        answer,
-        tokens,
-        names,
-        functions,
-        items,
-        arguments,
-        blocks,
-        predecessors,
-        message,
-    )
+    let answer = call(given, text, slices);
+    compare_slices(data, compare_numbers(data, from, answer), slices)
 }
 
-// A case with what it is given: the slices are made anew, longer than their sizes, and hold the old pattern. As much of
-// each is lent as the file says, where the lengths stand in the slices' order.
-pub fn with_slices<'t>(
-    data: &[u8],
-    from: usize,
-    given: Given,
-    old: &'t [u8],
-    table: &[u32],
-    text: &'t [u8],
-) -> Outcome {
+// A case with its text, and with what it is given if it is one of recheck: the slices are made anew, longer than their
+// sizes, and hold the old pattern. As much of each is lent as the file says, where the lengths stand in the slices'
+// order.
+pub fn with_slices(data: &[u8], from: usize, given: Option<Given>, text: &[u8]) -> Outcome {
     let mut lengths = [0u32; 8];
     let next = lists::load_numbers(data, from, &mut lengths);
     let mut tokens = [OLD_CELL; lexer::sizes::TOKENS + SPARE];
@@ -153,28 +111,15 @@ pub fn with_slices<'t>(
     let mut blocks = [OLD_CELL; sizes::BLOCKS + SPARE];
     let mut predecessors = [OLD_CELL; sizes::PREDECESSORS + SPARE];
     let mut message = [OLD_BYTE; limits::MESSAGE + SPARE];
-    let t = lists::lent(lengths[0], tokens.len());
-    let n = lists::lent(lengths[1], names.len());
-    let f = lists::lent(lengths[2], functions.len());
-    let i = lists::lent(lengths[3], items.len());
-    let a = lists::lent(lengths[4], arguments.len());
-    let b = lists::lent(lengths[5], blocks.len());
-    let p = lists::lent(lengths[6], predecessors.len());
-    let m = lists::lent(lengths[7], message.len());
-    ask(
-        data,
-        next,
-        given,
-        old,
-        table,
-        text,
-        &mut tokens[..t],
-        &mut names[..n],
-        &mut functions[..f],
-        &mut items[..i],
-        &mut arguments[..a],
-        &mut blocks[..b],
-        &mut predecessors[..p],
-        &mut message[..m],
-    )
+    let mut slices = Slices {
+        tokens: lists::lend(&mut tokens, lengths[0]),
+        names: lists::lend(&mut names, lengths[1]),
+        functions: lists::lend(&mut functions, lengths[2]),
+        items: lists::lend(&mut items, lengths[3]),
+        arguments: lists::lend(&mut arguments, lengths[4]),
+        blocks: lists::lend(&mut blocks, lengths[5]),
+        predecessors: lists::lend(&mut predecessors, lengths[6]),
+        message: lists::lend(&mut message, lengths[7]),
+    };
+    ask(data, next, given, text, &mut slices)
 }

@@ -7,50 +7,37 @@ mod given;
 mod lend;
 
 use functions::columns;
+use given::Given;
 use replay::held::SPARE;
-use replay::{Outcome, Tally, cases, input, lists};
+use replay::{Outcome, cases, input, lists};
 use std::io;
 
-// A case with room for its text, for an old one and its header table.
-fn with_texts(
-    data: &[u8],
-    from: usize,
-    again: bool,
-    old: &mut [u8],
-    table: &mut [u32],
-    text: &mut [u8],
-) -> Outcome {
-    let given = given::load_given(data, from, again, old, table);
-    let list = lists::load_text(data, given.next, text);
-    let o = lists::at_most(given.old, old.len());
-    let t = lists::at_most(given.table, table.len());
-    let n = list.count;
-    lend::with_slices(data, list.next, given, &old[..o], &table[..t], &text[..n])
+// A case with room for its text, and with what it is given if it is one of recheck.
+fn with_text(data: &[u8], from: usize, given: Option<Given>, text: &mut [u8]) -> Outcome {
+    let list = lists::load_text(data, from, text);
+    lend::with_slices(data, list.next, given, &text[..list.count])
 }
 
-// A case: `again`, whether it is one of recheck.
-fn run_case(data: &[u8], from: usize, again: bool) -> Outcome {
+// A case of check.
+fn check_case(data: &[u8], from: usize) -> Outcome {
+    let mut text = [0u8; lists::ROOM];
+    with_text(data, from, None, &mut text)
+}
+
+// A case of recheck, with room for its old text and the header table.
+fn recheck_case(data: &[u8], from: usize) -> Outcome {
     let mut old = [0u8; lists::ROOM];
     let mut table = [0u32; columns::TABLE + SPARE];
     let mut text = [0u8; lists::ROOM];
-    with_texts(data, from, again, &mut old, &mut table, &mut text)
-}
-
-// A list of cases, behind so many; `again`, whether they are of recheck.
-fn replay(rt: &impl Print, data: &[u8], from: usize, index: u64, again: bool) -> io::Result<Tally> {
-    let mut list = cases::begin(data, from, index);
-    while 0 < list.left {
-        let case = run_case(data, list.next, again);
-        list = cases::report_step(rt, data, list, case)?;
-    }
-    Ok(list)
+    let (given, next) = given::load(data, from, &mut old, &mut table);
+    with_text(data, next, Some(given), &mut text)
 }
 
 // The three lists of cases.
 fn run(rt: &impl Print, data: &[u8]) -> io::Result<()> {
-    let texts = replay(rt, data, 0, 0, false)?;
-    let shorts = replay(rt, data, texts.next, texts.index, false)?;
-    let rechecks = replay(rt, data, shorts.next, shorts.index, true)?;
+    let texts = cases::replay(rt, data, 0, 0, check_case)?;
+    let shorts = cases::replay(rt, data, texts.next, texts.index, check_case)?;
+    let rechecks = cases::replay(rt, data, shorts.next, shorts.index, recheck_case)?;
     if !cases::report_whole(rt, data, rechecks)? {
         return Ok(());
     }

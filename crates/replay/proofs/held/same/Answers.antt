@@ -16,12 +16,15 @@ returns-then-all g c =
     let n = length list in
     let got = c.args.got.now in
     let value = g.T.Lent.value in
-    let first = all_from_yields_List (λ (p : g.row.T.Denot × ℕ). eqb (value p.0) p.1) c.all.new.self tt c.all.result c.all.ensures.ran
+    let first = all_from_yields_List (λ (p : g.row.T.Denot × ℕ). eqb (value p.0) p.1) c.all.new.self tt c.all.result
+    c.all.ensures.ran
     (YieldsList-from_zip
-    (YieldsList-at c.zip.ensures.first (YieldsList-from_slice (take n got) (c.iter.ensures.rest ∙ c.split_at.ensures.front)))
+    (YieldsList-at c.zip.ensures.first
+    (YieldsList-from_slice (take n got) (c.iter.ensures.rest ∙ c.split_at.ensures.front)))
     (YieldsList-from_slice list (search rules)))
     (λ x b q k. search (rules, tests)) in
-    let second = all_from_yields_List (λ (x : g.row.T.Denot). eqb (value x) c.args.rest) c.all-then-all.new.self _ c.all-then-all.result c.all-then-all.ensures.ran
+    let second = all_from_yields_List (λ (x : g.row.T.Denot). eqb (value x) c.args.rest) c.all-then-all.new.self _
+    c.all-then-all.result c.all-then-all.ensures.ran
     (YieldsList-from_slice (drop n got) (c.iter-then-all.ensures.rest ∙ c.split_at.ensures.back))
     (λ x b q k. search (rules, tests)) in
     second ∙ sym (rw (sym first ∙ c.if-all.true) at (split value c.args.rest got list c.if-got-list.false))
@@ -32,9 +35,12 @@ returns-else-all g c =
     let n = length list in
     let got = c.args.got.now in
     let value = g.T.Lent.value in
-    let first = all_from_yields_List (λ (p : g.row.T.Denot × ℕ). eqb (value p.0) p.1) c.all.new.self tt c.all.result c.all.ensures.ran
+    let first = all_from_yields_List (λ (p : g.row.T.Denot × ℕ). eqb (value p.0) p.1) c.all.new.self tt c.all.result
+    c.all.ensures.ran
     (YieldsList-from_zip
-    (YieldsList-at c.zip.ensures.first (YieldsList-from_slice (take n got) (c.iter.ensures.rest ∙ c.split_at.ensures.front)))
+    (YieldsList-at c.zip.ensures.first
+    (YieldsList-from_slice (take n got) (c.iter.ensures.rest ∙ c.split_at.ensures.front)))
     (YieldsList-from_slice list (search rules)))
     (λ x b q k. search (rules, tests)) in
-    c.if-all.false ∙ sym (split value c.args.rest got list c.if-got-list.false ∙ and_left _ _ (sym first ∙ c.if-all.false))
+    let both = split value c.args.rest got list c.if-got-list.false in
+    c.if-all.false ∙ sym (both ∙ and_left _ _ (sym first ∙ c.if-all.false))

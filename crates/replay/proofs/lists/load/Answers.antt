@@ -19,7 +19,8 @@ returns-then-at-data c =
 
 pub overflow_add-count : goal.overflow_add-count
 overflow_add-count c =
-    let fits = fitting-le (length (take (length c.loop-done.cells - c.loop-done.count) (drop c.loop-done.count c.loop-done.cells)))
+    let part = take (length c.loop-done.cells - c.loop-done.count) (drop c.loop-done.count c.loop-done.cells) in
+    let fits = fitting-le (length part)
     (length c.args.«data».now)
     (run_at c.args.kind c.args.«data».now c.loop-done.at) in
     let rest = take_rest c.loop-done.cells c.loop-done.count in

@@ -16,7 +16,8 @@ loop-here-preserved c =
     let end = c.args.start + c.args.width in
     let more : end - c.loop-here.here ≡ end - (c.loop-here.here + 1) + 1 = omega arith in
     record {
-      same = take-set-le end c.loop-here.cells (c.loop-here.here + c.args.width) _ (omega arith) ∙ c.loop-here.invariant.same;
+      same = take-set-le end c.loop-here.cells (c.loop-here.here + c.args.width) _ (omega arith)
+          ∙ c.loop-here.invariant.same;
       next = sym (ap (λ (v : Values). v.next) (values-more Numbers c.args.«data».now _ _ c.loop-here.at
           c.number_at-step.result more c.number_at-step.ensures))
           ∙ c.loop-here.invariant.next;
@@ -28,7 +29,8 @@ loop-here-preserved c =
 
 pub returns : goal.returns
 returns c =
-    let none = values-none Numbers c.args.«data».now (c.args.start + c.args.width - c.loop-here.here) c.loop-here.at (omega arith) in
+    let none = values-none Numbers c.args.«data».now (c.args.start + c.args.width - c.loop-here.here) c.loop-here.at
+    (omega arith) in
     record {
       value = rw none at c.loop-here.invariant.next;
       cells_after = sym (row_done c.args.cells.now c.loop-here.cells _ c.loop-here.here

@@ -13,5 +13,6 @@ invariant-loop-row l =
       next : l.next ≡ cond (nat_lt 0 l.row) steps.next l.from;
       stored : sets l.cells (start + l.width)
           (repeated (l.more - l.row) (stepped (slice start (start + l.width) l.cells) steps.cells) steps.cells)
-          ≡ sets l.initial.cells l.width (repeated l.more (stepped (take l.width l.initial.cells) steps.cells) steps.cells);
+          ≡ sets l.initial.cells l.width
+          (repeated l.more (stepped (take l.width l.initial.cells) steps.cells) steps.cells);
     }

@@ -31,4 +31,5 @@ returns c =
     c.behind_quote-at.ensures
     (length-take-le _ c.args.cells.now (omega (arith, leb-true)))
     c.load_values-next.ensures.value room
-    c.load_values-next.ensures.cells_after c.load_rows.ensures.count c.load_rows.ensures.next c.load_rows.ensures.cells_after
+    c.load_values-next.ensures.cells_after c.load_rows.ensures.count c.load_rows.ensures.next
+    c.load_rows.ensures.cells_after

@@ -15,6 +15,8 @@ unfolding low_bytes
 returns c =
     let i = c.loop-i.i in
     ⊎_elim
-    (λ (h : i < length c.args.cells.now). rw (← c.loop-i.invariant) (sym (sets-out c.loop-i.bytes (low_bytes (drop i c.args.cells.now)) i (omega arith))))
+    (λ (h : i < length c.args.cells.now).
+    rw (← c.loop-i.invariant)
+    (sym (sets-out c.loop-i.bytes (low_bytes (drop i c.args.cells.now)) i (omega arith))))
     (λ (h : length c.args.cells.now ≤ i). rw (← c.loop-i.invariant, drop_of_length-le c.args.cells.now {i = i} h))
     (cases_lt i (length c.args.cells.now))

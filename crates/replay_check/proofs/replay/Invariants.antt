@@ -1,5 +1,0 @@
--- Each turn takes one of the cases (`step`).
-use Rattle.replay_check.proofs.replay.Given as goal
-
-abbrev pub decreases-loop-list : goal.decreases-loop-list
-decreases-loop-list g l = l.list.left
