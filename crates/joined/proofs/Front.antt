@@ -216,7 +216,8 @@ module _ (s : List ℕ) {u u' : List ℕ} (g : Begins u u') (at line : ℕ) (h :
       rw (name_end_at-front n, e, e')
     where
       ends : (v : Option TokenValue)
-          → EndsBy (length s) (then_value v (λ v. Ok (L.Token (token v line at) (cursor (name_end_at (s ++ u) at) line)))
+          → EndsBy (length s) (then_value v
+          (λ v. Ok (L.Token (token v line at) (cursor (name_end_at (s ++ u) at) line)))
           (name_at NK.Local (s ++ u) at line)) → name_end_at (s ++ u) at ≤ length s
       ends (Some v) k = k
       ends None k = k

@@ -132,10 +132,12 @@ module _ (p s : List ℕ) (down at line : ℕ) where
       (worded (keyword (slice at (name_end_at s at) s)))
     where
       worded : (v : Option TokenValue)
-          → then_value v (λ v. Ok (L.Token (token v (down + line) (length p + at)) (cursor (length p + name_end_at s at) (down + line))))
+          → then_value v (λ v. Ok (L.Token (token v (down + line) (length p + at))
+          (cursor (length p + name_end_at s at) (down + line))))
           (name_at NK.Local (p ++ s) (length p + at) (down + line))
           ≡ move_piece (length p) down
-          (then_value v (λ v. Ok (L.Token (token v line at) (cursor (name_end_at s at) line))) (name_at NK.Local s at line))
+          (then_value v (λ v. Ok (L.Token (token v line at) (cursor (name_end_at s at) line)))
+          (name_at NK.Local s at line))
       worded (Some v) = refl
       worded None = name_shift NK.Local
 
@@ -146,7 +148,8 @@ module _ (p s : List ℕ) (down at line : ℕ) where
       rw (byte_shift p s at, e) (found (symbol (get_or s at 0)))
     where
       found : (v : Option TokenValue)
-          → then_value v (λ v. Ok (L.Token (token v (down + line) (length p + at)) (cursor (length p + (at + 1)) (down + line))))
+          → then_value v (λ v. Ok (L.Token (token v (down + line) (length p + at))
+          (cursor (length p + (at + 1)) (down + line))))
           (Err (R.UnexpectedByte (get_or s at 0) (cursor (length p + at) (down + line))))
           ≡ move_piece (length p) down
           (then_value v (λ v. Ok (L.Token (token v line at) (cursor (at + 1) line)))

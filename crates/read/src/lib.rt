@@ -11,7 +11,7 @@ ghost use Rattle.lexer.specs.Read.{read_from, ReadsInto, Finishes, sized, IfSize
 
 use lexer::sizes::{NAME_CELLS, TOKEN_CELLS};
 use lexer::{ReadAnswer, sizes};
-use pieces::Location;
+use pieces::Cursor;
 use utils::{limits, numbers};
 
 // Whether slices of these lengths have their sizes.
@@ -85,5 +85,5 @@ pub fn read(text: &[u8], tokens: &mut [u32], names: &mut [u32], message: &mut [u
         finish(r, tokens, names, message);
         return r;
     }
-    report::refuse_at(numbers::SHORT_BUFFER, Location(0), 0)
+    report::refuse_at(numbers::SHORT_BUFFER, Cursor { place: 0, line: 0 })
 }

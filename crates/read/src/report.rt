@@ -7,17 +7,17 @@ ghost use Rattle.utils.specs.Limits.{message_size};
 ghost use Rattle.lexer.specs.Read.{read_refusal, answer_of};
 
 use lexer::ReadAnswer;
-use pieces::{Location, Refusal};
+use pieces::{Cursor, Refusal};
 use utils::numbers;
 
-pub(crate) fn refuse_at(number: u32, line: Location, place: usize) -> ReadAnswer
-    requires { place < 4294967296 }
-    ensures { result ≡ read_refusal number line.0 place }
+pub(crate) fn refuse_at(number: u32, at: Cursor) -> ReadAnswer
+    requires { at.place < 4294967296 }
+    ensures { result ≡ read_refusal number at.line at.place }
 {
     ReadAnswer {
         number,
-        line: line.0,
-        place: place as u32,
+        line: at.line,
+        place: at.place as u32,
         tokens: 0,
         names: 0,
     }
@@ -28,53 +28,29 @@ pub(crate) fn answer_of(refusal: Refusal) -> ReadAnswer
     ensures { result ≡ answer_of refusal }
 {
     match refusal {
-        Refusal::NotAscii(line) => refuse_at(numbers::NOT_ASCII, Location(line), 0),
-        Refusal::CommentNotClosed(at) => refuse_at(
-            numbers::COMMENT_NOT_CLOSED,
-            Location(at.line),
-            at.place,
-        ),
-        Refusal::UnexpectedByte(_, at) => refuse_at(
-            numbers::UNEXPECTED_BYTE,
-            Location(at.line),
-            at.place,
-        ),
-        Refusal::NumberExpected(at) => refuse_at(
-            numbers::NUMBER_EXPECTED,
-            Location(at.line),
-            at.place,
-        ),
-        Refusal::NumberOutOfRange(at) => refuse_at(
-            numbers::NUMBER_OUT_OF_RANGE,
-            Location(at.line),
-            at.place,
-        ),
-        Refusal::TooManyBytes => refuse_at(numbers::TOO_MANY_BYTES, Location(0), 0),
-        Refusal::TooManyTokens(at) => refuse_at(
-            numbers::TOO_MANY_TOKENS,
-            Location(at.line),
-            at.place,
-        ),
-        Refusal::TooManyNames(at) => refuse_at(
-            numbers::TOO_MANY_NAMES,
-            Location(at.line),
-            at.place,
-        ),
-        Refusal::NameTooLong(at) => refuse_at(numbers::NAME_TOO_LONG, Location(at.line), at.place),
+        Refusal::NotAscii(line) => refuse_at(numbers::NOT_ASCII, Cursor { place: 0, line }),
+        Refusal::CommentNotClosed(at) => refuse_at(numbers::COMMENT_NOT_CLOSED, at),
+        Refusal::UnexpectedByte(_, at) => refuse_at(numbers::UNEXPECTED_BYTE, at),
+        Refusal::NumberExpected(at) => refuse_at(numbers::NUMBER_EXPECTED, at),
+        Refusal::NumberOutOfRange(at) => refuse_at(numbers::NUMBER_OUT_OF_RANGE, at),
+        Refusal::TooManyBytes => refuse_at(numbers::TOO_MANY_BYTES, Cursor { place: 0, line: 0 }),
+        Refusal::TooManyTokens(at) => refuse_at(numbers::TOO_MANY_TOKENS, at),
+        Refusal::TooManyNames(at) => refuse_at(numbers::TOO_MANY_NAMES, at),
+        Refusal::NameTooLong(at) => refuse_at(numbers::NAME_TOO_LONG, at),
     }
 }
 
 // Where the byte stands in its text.
 const BYTE: usize = 19;
 
-fn report_unexpected(message: &mut [u8], line: Location, b: u8)
+fn report_unexpected(message: &mut [u8], line: u32, b: u8)
     requires { message_size ≤ length message.old }
     ensures { message.new
-        ≡ pad_to (length message.old) (reported line.0 [] (unexpected b)) }
+        ≡ pad_to (length message.old) (reported line [] (unexpected b)) }
 {
     let mut text = *b"Unexpected token: ' '.";
     text[BYTE] = b;
-    utils::error(message, line.0, &text);
+    utils::error(message, line, &text);
 }
 
 // The message of a refusal, and zeros after it.
@@ -87,7 +63,7 @@ pub(crate) fn report(message: &mut [u8], refusal: Refusal)
         Refusal::CommentNotClosed(at) => {
             utils::error(message, at.line, b"Multiline comment no closed.")
         }
-        Refusal::UnexpectedByte(b, at) => report_unexpected(message, Location(at.line), b),
+        Refusal::UnexpectedByte(b, at) => report_unexpected(message, at.line, b),
         Refusal::NumberExpected(at) => utils::error(
             message,
             at.line,

@@ -23,8 +23,9 @@ loop-k-preserved c = (search name-later, search names-within)
 pub returns : goal.returns
 unfolding index_of spellings parts_of
 returns c =
-    let z : length (take (c.args.self.count * 2) c.args.self.names.now) ≤ c.loop-k.k * 2 = rw length-take (omega arith) in
-    rw (← c.loop-k.invariant.0, drop_of_length-le (take (c.args.self.count * 2) c.args.self.names.now) z)
+    let cells = take (c.args.self.count * 2) c.args.self.names.now in
+    let z : length cells ≤ c.loop-k.k * 2 = rw length-take (omega arith) in
+    rw (← c.loop-k.invariant.0, drop_of_length-le cells z)
 
 pub returns-then-is_name : goal.returns-then-is_name
 returns-then-is_name c = search name-here
