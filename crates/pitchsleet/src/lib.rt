@@ -6,6 +6,7 @@ mod rechecks;
 
 ghost use Rattle.std.specs.Prelude.{◌≡◌};
 ghost use Rattle.lexer.specs.Read.{read_refusal};
+ghost use Rattle.checker.specs.Check.{check_refusal};
 ghost use Rattle.exports.specs.Bytes.{Exports};
 ghost use Rattle.exports.specs.CheckBytes as checks;
 ghost use Rattle.pitchsleet.specs.RecheckBytes as again;
@@ -17,6 +18,7 @@ use lexer::ReadAnswer;
 use pieces::Location;
 use utils::{limits, numbers};
 
+// A lent slice is shorter than its size.
 fn short() -> ReadAnswer
     ensures { result ≡ read_refusal 30 0 0 }
 {
@@ -29,16 +31,20 @@ fn short() -> ReadAnswer
     }
 }
 
+fn short_check() -> CheckAnswer
+    ensures { result ≡ check_refusal 30 0 0 }
+{
+    checker::refused(numbers::SHORT_BUFFER, Location(0), 0)
+}
+
 // Document 01's reading for a C or Rust host. The gate stands before anything is written, on both slices.
 #[unsafe(no_mangle)]
+#[tactic(auto, unfolding(exports::specs::Bytes::export_def, utils::specs::Bytes::pick), using(exports::proofs::Cells::by_parts))]
 pub extern "C" fn pitchsleet_read(text: &[u8], out: &mut [u8], message: &mut [u8]) -> ReadAnswer
     ensures { Exports text.now out.old message.old
         result out.new message.new }
 {
-    if out.len() < layout::READ {
-        return short();
-    }
-    if message.len() < limits::MESSAGE {
+    if out.len() < layout::READ || message.len() < limits::MESSAGE {
         return short();
     }
     let mut tokens = [0u32; lexer::sizes::TOKENS];
@@ -48,15 +54,13 @@ pub extern "C" fn pitchsleet_read(text: &[u8], out: &mut [u8], message: &mut [u8
 
 // Document 01's check for a C or Rust host. The gate stands before anything is written, on both slices.
 #[unsafe(no_mangle)]
+#[tactic(auto, unfolding(exports::specs::CheckBytes::export_def, utils::specs::Bytes::pick), using(exports::proofs::Checks::by_parts))]
 pub extern "C" fn pitchsleet_check(text: &[u8], out: &mut [u8], message: &mut [u8]) -> CheckAnswer
     ensures { checks.Exports text.now out.old message.old
         result out.new message.new }
 {
-    if out.len() < layout::CHECKED {
-        return checker::refused(numbers::SHORT_BUFFER, Location(0), 0);
-    }
-    if message.len() < limits::MESSAGE {
-        return checker::refused(numbers::SHORT_BUFFER, Location(0), 0);
+    if out.len() < layout::CHECKED || message.len() < limits::MESSAGE {
+        return short_check();
     }
     let mut tokens = [0u32; lexer::sizes::TOKENS];
     let mut names = [0u32; lexer::sizes::NAMES];
@@ -82,6 +86,7 @@ pub extern "C" fn pitchsleet_check(text: &[u8], out: &mut [u8], message: &mut [u
 // Document 01's recheck for a C or Rust host: `table` are the bytes that `pitchsleet_check` wrote for the old text's
 // header table. The gate stands before anything is written, on both slices.
 #[unsafe(no_mangle)]
+#[tactic(auto, unfolding(crate::specs::RecheckBytes::recheck_def, utils::specs::Bytes::pick), using(exports::proofs::Checks::by_parts))]
 pub extern "C" fn pitchsleet_recheck<'t>(
     old: &'t [u8],
     table: &[u8],
@@ -93,11 +98,8 @@ pub extern "C" fn pitchsleet_recheck<'t>(
     ensures { again.Rechecks old.now table.now number new.now
         out.old message.old result out.new message.new }
 {
-    if out.len() < layout::CHECKED {
-        return checker::refused(numbers::SHORT_BUFFER, Location(0), 0);
-    }
-    if message.len() < limits::MESSAGE {
-        return checker::refused(numbers::SHORT_BUFFER, Location(0), 0);
+    if out.len() < layout::CHECKED || message.len() < limits::MESSAGE {
+        return short_check();
     }
     rechecks::recheck_out(old, table, number, new, out, message)
 }

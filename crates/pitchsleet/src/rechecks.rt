@@ -12,17 +12,11 @@ use exports::layout;
 use functions::{columns, sizes};
 
 // Four bytes as a cell, the lowest first.
-fn cell_of(a: u8, b: u8, c: u8, d: u8) -> u32
-    ensures { result ≡ a + b * 256 + c * 65536 + d * 16777216 }
-{
-    a as u32 + b as u32 * 256 + c as u32 * 65536 + d as u32 * 16777216
-}
-
 fn get_cell(bytes: &[u8], at: usize) -> u32
     requires { at + 4 ≤ length bytes.now }
     ensures { result ≡ cell_at bytes.now at }
 {
-    cell_of(bytes[at], bytes[at + 1], bytes[at + 2], bytes[at + 3])
+    u32::from_le_bytes([bytes[at], bytes[at + 1], bytes[at + 2], bytes[at + 3]])
 }
 
 // The first n cells.
@@ -30,22 +24,17 @@ fn get_cells(cells: &mut [u32], bytes: &[u8], n: usize)
     requires { (n * 4 ≤ length bytes.now) × (n ≤ length cells.old) }
     ensures { cells.new ≡ sets cells.old 0 (cells_at bytes.now 0 n) }
 {
-    let mut i: usize = 0;
-    while i < n {
+    for i in 0..n {
         cells[i] = get_cell(bytes, i * layout::CELL);
-        i += 1;
     }
 }
 
 // How many cells so many bytes have, at most a header table's.
+#[tactic(auto, unfolding(crate::specs::RecheckBytes::cell_count, utils::specs::Bytes::pick))]
 fn cell_count(bytes: usize) -> usize
     ensures { result ≡ cell_count bytes }
 {
-    let n = bytes / layout::CELL;
-    if n < columns::TABLE {
-        return n;
-    }
-    columns::TABLE
+    (bytes / layout::CELL).min(columns::TABLE)
 }
 
 // Rechecks into the front of cells, and stores those as bytes.

@@ -1,14 +1,10 @@
 -- What each turn of a loop keeps.
-use Prim.Native.Nat.{◌-◌, ◌*◌, ◌≤◌}
+use Prim.Native.Nat.{◌-◌, ◌*◌}
 use mathlib.Core.Path.{◌≡◌}
-use lib.ListN.{length}
 use lib.Seq.{sets}
 use Rattle.pitchsleet.specs.RecheckBytes.{cells_at}
 use Rattle.pitchsleet.proofs.rechecks.get_cells.Given as goal
 
 abbrev pub invariant-loop-i : goal.invariant-loop-i
-invariant-loop-i l = (l.i ≤ l.n) × (length l.cells ≡ length l.initial.cells)
-    × (sets l.cells l.i (cells_at l.bytes (l.i * 4) (l.n - l.i)) ≡ sets l.initial.cells 0 (cells_at l.bytes 0 l.n))
-
-abbrev pub decreases-loop-i : goal.decreases-loop-i
-decreases-loop-i l = l.n - l.i
+invariant-loop-i l =
+    sets l.cells l.i (cells_at l.bytes (l.i * 4) (l.n - l.i)) ≡ sets l.initial.cells 0 (cells_at l.bytes 0 l.n)
