@@ -1,6 +1,6 @@
 -- Two tables whose rows have the same names, function types and type numbers answer alike. So the replaced function's
 -- row may hold the new function's items, blocks and formals' names, its header being kept.
-use Rattle.std.specs.Prelude.{None, Option, Some}
+use Rattle.std.specs.Prelude.{Option, Some}
 use Prim.Native.Nat.{ℕ, zero, suc, ◌+◌, ◌≤◌, ◌<◌}
 use mathlib.Core.Path.{◌≡◌, refl, ◌∙◌}
 use mathlib.Core.List.{List, [], ◌∷◌}

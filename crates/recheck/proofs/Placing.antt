@@ -1,6 +1,6 @@
 -- The new function's row, put in the replaced one's place among the old headers, leaves a table that answers as the old
 -- headers do: its name and its function type are the replaced one's, and its function type's number is given to it.
-use Rattle.std.specs.Prelude.{None, Some}
+use Rattle.std.specs.Prelude.{Some}
 use Prim.Native.Nat.{ℕ, zero, suc, ◌+◌, ◌*◌, ◌-◌, ◌≤◌, ◌<◌}
 use mathlib.Core.Path.{◌≡◌, refl, sym, ap, ◌∙◌}
 use mathlib.Core.List.{List, [], ◌∷◌, ◌++◌, append_assoc}
