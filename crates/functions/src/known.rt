@@ -27,18 +27,15 @@ fn same_formals(rows: &[u32], a: usize, b: usize, count: usize) -> bool
 }
 
 // Whether row a has the function type of a function with this result and `count` formals, which stand in row b.
+#[tactic(auto, unfolding(utils::specs::Bytes::same_bytes, utils::specs::Bytes::pick))]
 pub fn same_type(rows: &[u32], a: usize, ret: u32, count: usize, b: usize) -> bool
     requires { (a < most_functions) × (b < most_functions) × (count ≤ most_formals) × (table_size ≤ length rows.now) }
     ensures { result ≡ same_bytes (signed_at rows.now a)
         (ret ∷ count ∷ types_at rows.now (formals_at b) count) }
 {
-    if rows[columns::RESULT + a * columns::ROW] != ret {
-        return false;
-    }
-    if rows[columns::COUNT + a * columns::ROW] != count as u32 {
-        return false;
-    }
-    same_formals(rows, a, b, count)
+    rows[columns::RESULT + a * columns::ROW] == ret
+        && rows[columns::COUNT + a * columns::ROW] == count as u32
+        && same_formals(rows, a, b, count)
 }
 
 // The number of the function type of row n, whose result and formals are read: Unit::add_function_type.
