@@ -1,16 +1,15 @@
 -- What follows a comparison or an entry, by what it answered.
 use Rattle.std.specs.Prelude.{Err, Ok, Result}
 use Prim.Native.Nat.{ℕ}
-use mathlib.Core.Path.{◌≡◌, refl, sym, ap, ◌∙◌}
+use mathlib.Core.Path.{◌≡◌, refl}
 use mathlib.Core.List.{List}
 use mathlib.Core.Bool.{Bool, true, false}
-use native.Mathlib.Omega.{arith}
 use lib.Dec.{eqb}
 use lib.ListN.{get_or}
 use Rattle.utils.specs.Bytes.{pick}
 use Rattle.parser.specs.declared.Refusal.{Refusal}
 use Rattle.pieces.specs.declared.Identifier.{Identifier}
-use Rattle.sema.specs.Symbols.{Typed, typed, on, stop, then_end, then_typed, facts, no_name, looked_d, then_look, same_d, then_same}
+use Rattle.sema.specs.Symbols.{Typed, typed, stop, then_end, then_typed, facts, no_name, looked_d, then_look, same_d, then_same}
 
 -- a comparison that refused, whatever would follow it, and one that was fine
 module _ (t : List ℕ) (token found wanted : ℕ) (next : Typed) where

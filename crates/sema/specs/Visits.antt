@@ -1,6 +1,6 @@
 -- What typing looks up at its visit of each item, and the types that it finds there. "One table of names per function",
 -- threaded through the visits: the types found are those of the table as it is at the visit.
-use Rattle.std.specs.Prelude.{ℕ, ◌≡◌, List, [], ◌∷◌, get_or, Err, Ok}
+use Rattle.std.specs.Prelude.{ℕ, ◌≡◌, List, [], ◌∷◌, get_or, Ok}
 use Rattle.lexer.specs.Decoded.{Tok}
 use Rattle.pieces.specs.declared.Identifier.{Identifier}
 use Rattle.parser.specs.Runs.{type_cell}
