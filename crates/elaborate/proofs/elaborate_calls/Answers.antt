@@ -2,7 +2,7 @@
 -- are gives what typing all of them gives (`calls_turn`).
 use native.Mathlib.Omega.{arith}
 use Prim.Native.Nat.{◌+◌, ◌-◌}
-use mathlib.Core.Path.{◌≡◌, sym, ◌∙◌}
+use mathlib.Core.Path.{sym, ◌∙◌}
 use Rattle.elaborate.proofs.Turns.{calls_turn, calls_end}
 use Rattle.elaborate.proofs.elaborate_calls.Goals as goal
 

@@ -2,7 +2,7 @@
 -- typed in the cells as they are, give the whole (`items_turn`).
 use native.Mathlib.Omega.{arith}
 use Prim.Native.Nat.{◌+◌, ◌-◌}
-use mathlib.Core.Path.{◌≡◌, refl, sym, ◌∙◌}
+use mathlib.Core.Path.{sym, ◌∙◌}
 use Rattle.elaborate.specs.Types.{callee_of}
 use Rattle.elaborate.proofs.Turns.{items_turn, items_end}
 use Rattle.elaborate.proofs.elaborate_items.Goals as goal

@@ -2,8 +2,7 @@
 -- (`items-fine`). Only a block all of whose items are fine is asked for its terminator (`items-ended`).
 use Rattle.std.proofs.lemmas.Result.{err_from_is_err_and}
 use native.Mathlib.Omega.{arith}
-use native.Mathlib.Nat.{add-zero, sub-zero}
-use mathlib.Core.Path.{refl, ◌∙◌}
+use mathlib.Core.Path.{◌∙◌}
 use Rattle.lexer.specs.Decoded.{tokens_of}
 use Rattle.sema.specs.Globals.{globals_in}
 use Rattle.sema.specs.Blocks.{items_at}

@@ -3,8 +3,7 @@
 use Rattle.std.proofs.lemmas.Result.{err_from_is_err_and}
 use native.Mathlib.Omega.{arith}
 use Prim.Native.Nat.{◌+◌, ◌-◌}
-use native.Mathlib.Nat.{add-zero, sub-zero}
-use mathlib.Core.Path.{◌≡◌, refl, sym, ◌∙◌}
+use mathlib.Core.Path.{◌≡◌, sym, ◌∙◌}
 use Rattle.sema.specs.Typing.{types_of, same_all}
 use Rattle.sema.proofs.Steps.{same-refused, same-fine}
 use Rattle.sema.proofs.Turns.{variables_turn, variables_none, found_at, types_turn}

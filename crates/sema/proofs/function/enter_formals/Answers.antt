@@ -2,8 +2,7 @@
 -- gives (`formals-fine`), and the first that is refused is refused there too (`formals-refused`).
 use Rattle.std.proofs.lemmas.Result.{err_from_is_err_and}
 use native.Mathlib.Omega.{arith}
-use native.Mathlib.Nat.{add-zero, sub-zero}
-use mathlib.Core.Path.{refl, ◌∙◌}
+use mathlib.Core.Path.{◌∙◌}
 use Rattle.sema.proofs.Threads.{formals-refused, formals-fine, formals-ended}
 use Rattle.sema.proofs.function.enter_formals.Goals as goal
 

@@ -2,16 +2,11 @@
 -- does.
 use Rattle.std.proofs.lemmas.Result.{err_from_is_err_and}
 use native.Mathlib.Omega.{arith}
-use Prim.Native.Nat.{◌+◌, ◌-◌}
-use mathlib.Core.Path.{◌≡◌, refl, ap, ◌∙◌}
+use Prim.Native.Nat.{◌-◌}
+use mathlib.Core.Path.{refl, ap, ◌∙◌}
 use Rattle.unit.specs.Rows.{Done}
 use Rattle.unit.proofs.Turns.{rows-refused, rows-fine, rows-ended, RowsHeld-refused}
 use Rattle.unit.proofs.types.type_with.Goals as goal
-
-pub loop-row-init : goal.loop-row-init
-loop-row-init c =
-    let e : c.args.first + c.args.more - c.args.first ≡ c.args.more = omega arith in
-    record { table_long = refl; items_long = refl; arguments_long = refl; same = rw e }
 
 pub returns-in_err-analyze : goal.returns-in_err-analyze
 returns-in_err-analyze c =
