@@ -21,7 +21,8 @@ returns-in-Empty c =
 pub returns-in_err-analyze_recorded-in-Block : goal.returns-in_err-analyze_recorded-in-Block
 returns-in_err-analyze_recorded-in-Block c =
     let p = err_from_is_err_and c.from_residual.result c.from_residual.ensures.1 in
-    rw (p.1, p.2) (blocks-refused (tokens_of c.args.tokens.now) (globals_in c.args.rows.now c.args.n) c.args.ret c.args.table.now
+    rw (p.1, p.2)
+    (blocks-refused (tokens_of c.args.tokens.now) (globals_in c.args.rows.now c.args.n) c.args.ret c.args.table.now
     (blocks_at c.args.items.now c.args.arguments.now c.args.blocks.now c.args.first (remaining c.args.order.now
     c.args.work))
     c.loop-b.table c.args.items.now c.args.arguments.now c.args.blocks.now c.args.first c.args.order.now c.loop-b.left
@@ -52,5 +53,6 @@ loop-b-preserved c =
           c.args.work))
           c.loop-b.table c.args.items.now c.args.arguments.now c.args.blocks.now c.args.first c.args.order.now
           c.loop-b.left
-          c.loop-b.invariant.0 c.requires.2 c.loop-b.invariant.2 popped-is c.analyze_recorded.ensures c.in_ok-analyze_recorded-in-Block.was,
+          c.loop-b.invariant.0 c.requires.2 c.loop-b.invariant.2 popped-is
+          c.analyze_recorded.ensures c.in_ok-analyze_recorded-in-Block.was,
     )
