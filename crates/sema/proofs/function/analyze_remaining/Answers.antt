@@ -24,7 +24,8 @@ returns c =
 pub returns-in_err-analyze_recorded-in-Some : goal.returns-in_err-analyze_recorded-in-Some
 returns-in_err-analyze_recorded-in-Some c =
     let p = err_from_is_err_and c.from_residual.result c.from_residual.ensures.1 in
-    rw (p.1, p.2) (blocks-refused (tokens_of c.args.tokens.now) (globals_in c.args.rows.now c.args.n) c.args.ret c.args.table.now
+    rw (p.1, p.2)
+    (blocks-refused (tokens_of c.args.tokens.now) (globals_in c.args.rows.now c.args.n) c.args.ret c.args.table.now
     (blocks_at c.args.items.now c.args.arguments.now c.args.blocks.now c.args.first (remaining c.args.order.now
     c.args.work))
     c.loop-b.table c.args.items.now c.args.arguments.now c.args.blocks.now c.args.first c.args.order.now c.loop-b.left
