@@ -36,11 +36,13 @@ rows_none old rows i n h = let m : n - i ≡ 0 = omega arith in rw m
 
 pub names_more : (new names : List ℕ) (x n : ℕ) (name : List ℕ) → x < n
     → name_spelled new names x (n - x) name
-    ≡ pick (same_bytes name (name_of new names x)) (Some record { 0 = x }) (name_spelled new names (x + 1) (n - (x + 1)) name)
+    ≡ pick (same_bytes name (name_of new names x)) (Some record { 0 = x })
+    (name_spelled new names (x + 1) (n - (x + 1)) name)
 unfolding name_spelled
 names_more new names x n name h = let m : n - x ≡ suc (n - (x + 1)) = omega arith in rw m
 
-pub names-none : (new names : List ℕ) (x n : ℕ) (name : List ℕ) → n ≤ x → name_spelled new names x (n - x) name ≡ None
+pub names-none : (new names : List ℕ) (x n : ℕ) (name : List ℕ) → n ≤ x
+    → name_spelled new names x (n - x) name ≡ None
 unfolding name_spelled
 names-none new names x n name h = let m : n - x ≡ 0 = omega arith in rw m
 
