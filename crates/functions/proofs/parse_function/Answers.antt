@@ -90,13 +90,15 @@ returns c =
     record {
       value = answered (tokens_of c.args.tokens.now) c.args.names.now c.args.at c.args.types c.args.n
           c.args.functions.now
-          c.in_ok-h.h (sym c.in_ok-h.was ∙ c.parse_header.ensures.value) c.requires.0 _ c.parse_header.ensures.header_held
+          c.in_ok-h.h
+          (sym c.in_ok-h.was ∙ c.parse_header.ensures.value) c.requires.0 _ c.parse_header.ensures.header_held
           c.in_ok-b.b (sym c.in_ok-b.was ∙ c.build.ensures.value) c.args.items.now _ c.args.arguments.now _
           c.args.blocks.now _ c.args.predecessors.now _ c.build.ensures.build_held c.requires.3 _ c.put_row.ensures _ _
           c.types_after.ensures c.counts_after.ensures;
       function_held = held_whole (tokens_of c.args.tokens.now) c.args.names.now c.args.at c.args.types c.args.n
           c.args.functions.now
-          c.in_ok-h.h (sym c.in_ok-h.was ∙ c.parse_header.ensures.value) c.requires.0 _ c.parse_header.ensures.header_held
+          c.in_ok-h.h
+          (sym c.in_ok-h.was ∙ c.parse_header.ensures.value) c.requires.0 _ c.parse_header.ensures.header_held
           c.in_ok-b.b (sym c.in_ok-b.was ∙ c.build.ensures.value) c.args.items.now _ c.args.arguments.now _
           c.args.blocks.now _ c.args.predecessors.now _ c.build.ensures.build_held c.requires.3 _ c.put_row.ensures;
     }

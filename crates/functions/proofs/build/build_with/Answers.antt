@@ -21,7 +21,8 @@ pub link-requires : goal.link-requires
 link-requires c =
     ready (tokens_of c.args.tokens.now) c.args.void c.args.name c.args.at c.args.n c.args.items.now _
     c.args.arguments.now _ _ _
-    c.in_ok-closed.closed (sym c.in_ok-closed.was ∙ c.parse_body.ensures.value) c.parse_body.ensures.held c.requires.0 c.requires.1
+    c.in_ok-closed.closed
+    (sym c.in_ok-closed.was ∙ c.parse_body.ensures.value) c.parse_body.ensures.held c.requires.0 c.requires.1
     c.args.blocks.now c.args.predecessors.now c.requires.3 (omega (arith, c.requires.2, c.parse_body.auto.labels))
 
 pub returns-in_err-closed : goal.returns-in_err-closed
@@ -50,15 +51,21 @@ returns-in_err-linked c =
         link_refused (tokens_of c.args.tokens.now) c.args.void c.args.name c.args.at c.args.n
             c.args.items.now _
             c.args.arguments.now _ _ _
-            c.in_ok-closed.closed (sym c.in_ok-closed.was ∙ c.parse_body.ensures.value) c.parse_body.ensures.held c.requires.0
+            c.in_ok-closed.closed
+            (sym c.in_ok-closed.was ∙ c.parse_body.ensures.value) c.parse_body.ensures.held c.requires.0
             c.requires.1
-            c.args.blocks.now c.args.predecessors.now c.requires.3 (omega (arith, c.requires.2, c.parse_body.auto.labels))
+            c.args.blocks.now c.args.predecessors.now c.requires.3 (omega (
+              arith,
+              c.requires.2,
+              c.parse_body.auto.labels,
+            ))
             c.in_err-linked.field-0.0 (sym c.in_err-linked.was ∙ c.link.ensures.value),
       ) refl;
       build_held = rw (link_refused (tokens_of c.args.tokens.now) c.args.void c.args.name c.args.at c.args.n
           c.args.items.now _
           c.args.arguments.now _ _ _
-          c.in_ok-closed.closed (sym c.in_ok-closed.was ∙ c.parse_body.ensures.value) c.parse_body.ensures.held c.requires.0
+          c.in_ok-closed.closed
+          (sym c.in_ok-closed.was ∙ c.parse_body.ensures.value) c.parse_body.ensures.held c.requires.0
           c.requires.1
           c.args.blocks.now c.args.predecessors.now c.requires.3 (omega (arith, c.requires.2, c.parse_body.auto.labels))
           c.in_err-linked.field-0.0 (sym c.in_err-linked.was ∙ c.link.ensures.value)) tt;
@@ -71,7 +78,8 @@ returns c =
       value = answered (tokens_of c.args.tokens.now) c.args.void c.args.name c.args.at c.args.n c.args.items.now _
           c.args.arguments.now
           _ _ _
-          c.in_ok-closed.closed (sym c.in_ok-closed.was ∙ c.parse_body.ensures.value) c.parse_body.ensures.held c.requires.0
+          c.in_ok-closed.closed
+          (sym c.in_ok-closed.was ∙ c.parse_body.ensures.value) c.parse_body.ensures.held c.requires.0
           c.requires.1
           c.args.blocks.now c.args.predecessors.now c.requires.3
           (omega (arith, c.requires.2, c.parse_body.auto.labels))
@@ -79,7 +87,8 @@ returns c =
       build_held = is_held (tokens_of c.args.tokens.now) c.args.void c.args.name c.args.at c.args.n c.args.items.now _
           c.args.arguments.now
           _ _ _
-          c.in_ok-closed.closed (sym c.in_ok-closed.was ∙ c.parse_body.ensures.value) c.parse_body.ensures.held c.requires.0
+          c.in_ok-closed.closed
+          (sym c.in_ok-closed.was ∙ c.parse_body.ensures.value) c.parse_body.ensures.held c.requires.0
           c.requires.1
           c.args.blocks.now c.args.predecessors.now c.requires.3
           (omega (arith, c.requires.2, c.parse_body.auto.labels))
