@@ -7,7 +7,7 @@ use Rattle.lexer.specs.Decoded.{tokens_of}
 use Rattle.sema.specs.Globals.{globals_in}
 use Rattle.sema.specs.Blocks.{items_at}
 use Rattle.sema.proofs.Threads.{items_refused, items-fine, items-ended}
-use Rattle.sema.proofs.blocks.analyze_block.Goals as goal
+use Rattle.sema.proofs.Sema.analyze_block.Goals as goal
 
 pub returns-in_err-analyze_op : goal.returns-in_err-analyze_op
 returns-in_err-analyze_op c =
@@ -15,8 +15,8 @@ returns-in_err-analyze_op c =
     let l = c.loop-i in
     let p = err_from_is_err_and c.from_residual.result c.from_residual.ensures.1 in
     rw (p.1, p.2)
-    (items_refused (tokens_of a.tokens.now) (globals_in a.rows.now a.n) a.ret a.table.now
-    (items_at a.items.now a.arguments.now a.first a.count) l.table a.items.now a.arguments.now a.first l.i a.count
+    (items_refused (tokens_of a.self.tokens.now) (globals_in a.self.rows.now a.self.functions) a.self.ret a.table.now
+    (items_at a.self.items.now a.self.arguments.now a.first a.count) l.table a.self.items.now a.self.arguments.now a.first l.i a.count
     l.invariant.1 (omega arith) c.analyze_op.ensures c.in_err-analyze_op.was)
 
 pub loop-i-preserved : goal.loop-i-preserved
@@ -24,8 +24,8 @@ loop-i-preserved c =
     let a = c.args in
     let l = c.loop-i in (
       c.analyze_op.auto.table ∙ l.invariant.0,
-      items-fine (tokens_of a.tokens.now) (globals_in a.rows.now a.n) a.ret a.table.now
-          (items_at a.items.now a.arguments.now a.first a.count) l.table a.items.now a.arguments.now a.first l.i a.count
+      items-fine (tokens_of a.self.tokens.now) (globals_in a.self.rows.now a.self.functions) a.self.ret a.table.now
+          (items_at a.self.items.now a.self.arguments.now a.first a.count) l.table a.self.items.now a.self.arguments.now a.first l.i a.count
           l.invariant.1 (omega arith) c.analyze_op.ensures c.in_ok-analyze_op.was,
     )
 
@@ -33,7 +33,7 @@ pub returns : goal.returns
 returns c =
     let a = c.args in
     let l = c.loop-i in
-    c.expect_terminator.ensures l.table a.arguments.now
-    ∙ items-ended (tokens_of a.tokens.now) (globals_in a.rows.now a.n) a.ret a.table.now
-    (items_at a.items.now a.arguments.now a.first a.count) l.table a.items.now a.arguments.now a.first l.i a.count
+    c.expect_terminator.ensures l.table a.self.arguments.now
+    ∙ items-ended (tokens_of a.self.tokens.now) (globals_in a.self.rows.now a.self.functions) a.self.ret a.table.now
+    (items_at a.self.items.now a.self.arguments.now a.first a.count) l.table a.self.items.now a.self.arguments.now a.first l.i a.count
     l.invariant.1 (omega arith)

@@ -6,14 +6,14 @@ use Rattle.sema.specs.Blocks.{blocks_at, type_blocks_d}
 use Prim.Native.Nat.{◌-◌, ◌≤◌}
 use mathlib.Core.Path.{◌≡◌}
 use lib.ListN.{length}
-use Rattle.sema.proofs.function.analyze_remaining.Given as goal
+use Rattle.sema.proofs.Sema.analyze_remaining.Given as goal
 
 abbrev pub invariant-loop-b : goal.invariant-loop-b
 invariant-loop-b l = (l.left.blocks ≤ 256) × (length l.table ≡ length l.initial.table)
-    × (type_blocks_d (tokens_of l.tokens) (globals_in l.rows l.n) l.ret l.table (blocks_at l.items l.arguments
+    × (type_blocks_d (tokens_of l.self.tokens.now) (globals_in l.self.rows.now l.self.functions) l.self.ret l.table (blocks_at l.self.items.now l.self.arguments.now
     l.blocks l.first
     (remaining l.order l.left))
-    ≡ type_blocks_d (tokens_of l.tokens) (globals_in l.rows l.n) l.ret l.initial.table (blocks_at l.items l.arguments
+    ≡ type_blocks_d (tokens_of l.self.tokens.now) (globals_in l.self.rows.now l.self.functions) l.self.ret l.initial.table (blocks_at l.self.items.now l.self.arguments.now
     l.blocks l.first
     (remaining l.order l.initial.left)))
 

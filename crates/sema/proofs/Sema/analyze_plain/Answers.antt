@@ -2,9 +2,9 @@
 use native.Mathlib.Omega.{arith}
 use Rattle.lexer.specs.Decoded.{tokens_of}
 use Rattle.sema.proofs.Records.{plain_other}
-use Rattle.sema.proofs.blocks.analyze_plain.Goals as goal
+use Rattle.sema.proofs.Sema.analyze_plain.Goals as goal
 
 pub returns-in_default : goal.returns-in_default
 returns-in_default c =
-    plain_other (tokens_of c.args.tokens.now) c.args.ret c.args.table.now c.args.r c.args.x (λ e. omega (arith, e))
+    plain_other (tokens_of c.args.self.tokens.now) c.args.self.ret c.args.table.now c.args.r c.args.x (λ e. omega (arith, e))
     (λ e. omega (arith, e)) (λ e. omega (arith, e)) (λ e. omega (arith, e)) (λ e. omega (arith, e))
