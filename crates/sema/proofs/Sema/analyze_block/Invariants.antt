@@ -8,8 +8,9 @@ use lib.ListN.{length}
 use Rattle.sema.proofs.Sema.analyze_block.Given as goal
 
 abbrev pub invariant-loop-i : goal.invariant-loop-i
-invariant-loop-i l = (length l.table ≡ length l.initial.table)
-    × (type_items_d (tokens_of l.self.tokens.now) (globals_in l.self.rows.now l.self.functions) l.self.ret l.table
-    (items_at l.self.items.now l.self.arguments.now (l.first + l.i) (l.count - l.i))
-    ≡ type_items_d (tokens_of l.self.tokens.now) (globals_in l.self.rows.now l.self.functions) l.self.ret l.initial.table
-    (items_at l.self.items.now l.self.arguments.now l.first l.count))
+invariant-loop-i l =
+    let s = l.self in
+    let items = items_at s.items.now s.arguments.now in
+    let type = type_items_d (tokens_of s.tokens.now) (globals_in s.rows.now s.functions) s.ret in
+    (length l.table ≡ length l.initial.table)
+    × (type l.table (items (l.first + l.i) (l.count - l.i)) ≡ type l.initial.table (items l.first l.count))

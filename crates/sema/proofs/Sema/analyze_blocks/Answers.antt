@@ -22,11 +22,11 @@ analyze_remaining-requires c = (
 
 pub returns : goal.returns
 returns c =
-    let first = get_or c.args.self.rows.now (first_block_at c.args.row) 0 in
-    let count = get_or c.args.self.rows.now (block_count_at c.args.row) 0 in
+    let s = c.args.self in
+    let first = get_or s.rows.now (first_block_at c.args.row) 0 in
+    let count = get_or s.rows.now (block_count_at c.args.row) 0 in
+    let type = type_blocks_d (tokens_of s.tokens.now) (globals_in s.rows.now s.functions) s.ret c.args.table.now in
     let all = all-remaining c.args.blocks.now first count _ _ _ c.new-work.ensures.value
     c.new-work.ensures.order_after refl in
     c.analyze_remaining.ensures
-    ∙ ap (λ (vs : List ℕ). type_blocks_d (tokens_of c.args.self.tokens.now)
-    (globals_in c.args.self.rows.now c.args.self.functions) c.args.self.ret c.args.table.now
-    (blocks_at c.args.self.items.now c.args.self.arguments.now c.args.blocks.now first vs)) all
+    ∙ ap (λ (vs : List ℕ). type (blocks_at s.items.now s.arguments.now c.args.blocks.now first vs)) all

@@ -9,13 +9,13 @@ use lib.ListN.{length}
 use Rattle.sema.proofs.Sema.analyze_remaining.Given as goal
 
 abbrev pub invariant-loop-b : goal.invariant-loop-b
-invariant-loop-b l = (l.left.blocks ≤ 256) × (length l.table ≡ length l.initial.table)
-    × (type_blocks_d (tokens_of l.self.tokens.now) (globals_in l.self.rows.now l.self.functions) l.self.ret l.table (blocks_at l.self.items.now l.self.arguments.now
-    l.blocks l.first
-    (remaining l.order l.left))
-    ≡ type_blocks_d (tokens_of l.self.tokens.now) (globals_in l.self.rows.now l.self.functions) l.self.ret l.initial.table (blocks_at l.self.items.now l.self.arguments.now
-    l.blocks l.first
-    (remaining l.order l.initial.left)))
+invariant-loop-b l =
+    let s = l.self in
+    let blocks_of = blocks_at s.items.now s.arguments.now l.blocks l.first in
+    let type = type_blocks_d (tokens_of s.tokens.now) (globals_in s.rows.now s.functions) s.ret in
+    (l.left.blocks ≤ 256) × (length l.table ≡ length l.initial.table)
+    × (type l.table (blocks_of (remaining l.order l.left))
+    ≡ type l.initial.table (blocks_of (remaining l.order l.initial.left)))
 
 abbrev pub decreases-loop-b : goal.decreases-loop-b
 decreases-loop-b l = l.left.blocks - l.left.taken
