@@ -72,7 +72,7 @@ impl<'a> Sema<'a> {
         }
     }
 
-    pub(crate) fn analyze_op(self, table: &mut [u32], i: usize) -> Result<(), Refusal>
+    fn analyze_op(self, table: &mut [u32], i: usize) -> Result<(), Refusal>
         requires { i ≤ 8589934592 }
         ensures { typed table.new result
             ≡ type_item_d (tokens_of self.entry.tokens.now)

@@ -87,7 +87,7 @@ impl<'a> Sema<'a> {
         Ok(())
     }
 
-    fn analyze_blocks(self, row: usize, table: &mut [u32], blocks: &[u32]) -> Result<(), Refusal>
+    fn analyze_blocks(self, table: &mut [u32], row: usize, blocks: &[u32]) -> Result<(), Refusal>
         requires { row < most_functions }
         ensures { typed table.new result
             ≡ type_blocks_d (tokens_of self.entry.tokens.now)
@@ -130,5 +130,5 @@ pub fn analyze(
         items,
         arguments,
     };
-    sema.analyze_blocks(row, table, blocks)
+    sema.analyze_blocks(table, row, blocks)
 }
