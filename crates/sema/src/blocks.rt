@@ -33,7 +33,7 @@ fn expect_terminator(items: &[u32], first: u32, count: u32) -> Result<(), Refusa
 impl<'a> Sema<'a> {
     // A record that is neither a call nor a `br`; x is the name in its last two cells. Labels, and operations that look
     // nothing up and enter nothing, are fine.
-    #[tactic(auto, using(crate::proofs::Records::cell_of), unfolding(crate::specs::Typing::type_plain_d, crate::specs::Items::operation_of, utils::specs::Bytes::pick))]
+    #[tactic(auto, using(crate::proofs::Records::cell_of, crate::proofs::Records::plain_other), unfolding(crate::specs::Typing::type_plain_d, crate::specs::Items::operation_of, utils::specs::Bytes::pick))]
     fn analyze_plain(self, table: &mut [u32], r: ItemRecord, x: Identifier) -> Result<(), Refusal>
         ensures { typed table.new result
             ≡ type_plain_d (tokens_of self.entry.tokens.now) self.entry.ret table.old (operation_of r x) }
