@@ -16,8 +16,9 @@ use Rattle.lexer.proofs.Promise.{message_finished}
 use Rattle.body.specs.Room.{Within}
 use Rattle.lexer.specs.declared.ReadAnswer.{ReadAnswer}
 use Rattle.parser.specs.declared.Refusal.{Refusal}
-use Rattle.functions.specs.Answer.{Slices, slices, counts_from}
+use Rattle.functions.specs.Answer.{Slices, slices, held, counts_from}
 use Rattle.functions.specs.declared.Counts.{Counts}
+use Rattle.functions.specs.declared.UnitSlices.{UnitSlices}
 use Rattle.unit.specs.Outcome.{UnitOutcome, checked, refused, unit_d, unit_read, unit_slices, as_long, fronts, none}
 use Rattle.unit.specs.Outcome.{UnitHeld}
 use Rattle.checker.specs.Check.{Checking, accepted, check_refusal, refusing, refused_at, checked_or, check_of}
@@ -196,6 +197,12 @@ by_parts e =
       names = ap (λ (x : Checking). x.names) e;
       unit = ap (λ (x : Checking). x.unit) e;
     }
+
+-- the slices that were lent together, when each is the caller's again
+pub given_back : {d : Checking} {r : CheckAnswer} {m t n f i a b p : List ℕ} (v : UnitSlices) → Gives d r m t n (held v)
+    → f ≡ v.functions.now → i ≡ v.items.now → a ≡ v.arguments.now → b ≡ v.blocks.now → p ≡ v.predecessors.now
+    → Gives d r m t n (slices f i a b p)
+given_back v g e₁ e₂ e₃ e₄ e₅ = rw (e₁, e₂, e₃, e₄, e₅) g
 
 pub as_whole : {d : Checking} {r : CheckAnswer} {m t n : List ℕ} {u : Slices} → Gives d r m t n u → checking r m t n u
     ≡ d

@@ -4,7 +4,7 @@
 ghost use Rattle.std.specs.Prelude.{◌≡◌, ◌*◌, ◌≤◌, length, take};
 ghost use Rattle.utils.specs.Bytes.{pad_to};
 ghost use Rattle.lexer.specs.Decoded.{tokens_of};
-ghost use Rattle.functions.specs.Answer.{slices};
+ghost use Rattle.functions.specs.Answer.{SameSlices, held, slices};
 ghost use Rattle.messages.specs.Messages.{ShortNames};
 ghost use Rattle.utils.specs.Limits.{message_size};
 ghost use Rattle.checker.specs.Check.{accepted, check_refusal, refused_at, check_of};
@@ -12,7 +12,7 @@ ghost use Rattle.checker.specs.Promise.{Lexed, Sizes, ChecksInto, rows_used, Fin
 ghost use Rattle.checker.specs.Promise.{sized, sized_unit, IfSized, IfSizedUnit, Checks};
 
 use body::ITEM_CELLS;
-use functions::{Counts, columns, sizes};
+use functions::{Counts, UnitSlices, columns, sizes};
 use graph::BLOCK_CELLS;
 use lexer::ReadAnswer;
 use lexer::sizes::{NAME_CELLS, TOKEN_CELLS};
@@ -99,75 +99,48 @@ pub fn refuse(
 }
 
 // The functions of a text that is read, into the front of slices that have their sizes.
-fn check_lexed(
+fn check_lexed<'a>(
     text: &[u8],
     r: ReadAnswer,
     tokens: &[u32],
     names: &[u32],
-    functions: &mut [u32],
-    items: &mut [u32],
-    arguments: &mut [u32],
-    blocks: &mut [u32],
-    predecessors: &mut [u32],
+    unit: &mut UnitSlices<'a>,
     message: &mut [u8],
 ) -> CheckAnswer
     requires { Lexed 1 text.now r tokens.now names.now
         × Sizes message.old tokens.now names.now
-        (slices functions.old items.old arguments.old blocks.old predecessors.old) }
-    ensures { ChecksInto (check_of text.now) message.old result message.new
+        (held unit.old) }
+    ensures checks { ChecksInto (check_of text.now) message.old result message.new
         tokens.now names.now
-        (slices functions.new items.new arguments.new blocks.new
-        predecessors.new) }
+        (held unit.new) }
+    ensures same { SameSlices unit.old unit.new }
 {
     let last = r.tokens as usize * TOKEN_CELLS;
     let end = r.names as usize * NAME_CELLS;
-    match unit::unit(
-        &tokens[0..last],
-        &names[0..end],
-        functions,
-        items,
-        arguments,
-        blocks,
-        predecessors,
-    ) {
+    match unit::unit(&tokens[0..last], &names[0..end], unit) {
         Err(e) => refuse(text, r, tokens, names, message, e),
         Ok(n) => counted(r.tokens, r.names, n),
     }
 }
 
 // The check of a text, into the front of slices that have their sizes. Nothing is cleared yet.
-pub fn check_into(
+pub fn check_into<'a>(
     text: &[u8],
     tokens: &mut [u32],
     names: &mut [u32],
-    functions: &mut [u32],
-    items: &mut [u32],
-    arguments: &mut [u32],
-    blocks: &mut [u32],
-    predecessors: &mut [u32],
+    unit: &mut UnitSlices<'a>,
     message: &mut [u8],
 ) -> CheckAnswer
     requires { Sizes message.old tokens.old names.old
-        (slices functions.old items.old arguments.old blocks.old predecessors.old) }
-    ensures { ChecksInto (check_of text.now) message.old result message.new
+        (held unit.old) }
+    ensures checks { ChecksInto (check_of text.now) message.old result message.new
         tokens.new names.new
-        (slices functions.new items.new arguments.new blocks.new
-        predecessors.new) }
+        (held unit.new) }
+    ensures same { SameSlices unit.old unit.new }
 {
     let r = read::read_into(text, read::FIRST_LINE, tokens, names, message);
     if r.number == numbers::ACCEPTED {
-        return check_lexed(
-            text,
-            r,
-            tokens,
-            names,
-            functions,
-            items,
-            arguments,
-            blocks,
-            predecessors,
-            message,
-        );
+        return check_lexed(text, r, tokens, names, unit, message);
     }
     refused(r.number, Location(r.line), r.place)
 }
@@ -184,31 +157,26 @@ pub fn rows_used(r: CheckAnswer) -> usize
 }
 
 // Clears what stands behind the cells that an answer counts: after a refusal, which counts none, all of them.
-pub fn finish(
+pub fn finish<'a>(
     r: CheckAnswer,
     tokens: &mut [u32],
     names: &mut [u32],
-    functions: &mut [u32],
-    items: &mut [u32],
-    arguments: &mut [u32],
-    blocks: &mut [u32],
-    predecessors: &mut [u32],
+    unit: &mut UnitSlices<'a>,
     message: &mut [u8],
 )
-    ensures { Finishes r message.old tokens.old names.old
-        (slices functions.old items.old arguments.old blocks.old
-        predecessors.old)
+    ensures finishes { Finishes r message.old tokens.old names.old
+        (held unit.old)
         message.new tokens.new names.new
-        (slices functions.new items.new arguments.new blocks.new
-        predecessors.new) }
+        (held unit.new) }
+    ensures same { SameSlices unit.old unit.new }
 {
     clear_from(tokens, r.tokens as usize * TOKEN_CELLS);
     clear_from(names, r.names as usize * NAME_CELLS);
-    clear_from(functions, rows_used(r));
-    clear_from(items, r.items as usize * ITEM_CELLS);
-    clear_from(arguments, r.arguments as usize * VARIABLE_CELLS);
-    clear_from(blocks, r.blocks as usize * BLOCK_CELLS);
-    clear_from(predecessors, r.predecessors as usize);
+    clear_from(unit.functions, rows_used(r));
+    clear_from(unit.items, r.items as usize * ITEM_CELLS);
+    clear_from(unit.arguments, r.arguments as usize * VARIABLE_CELLS);
+    clear_from(unit.blocks, r.blocks as usize * BLOCK_CELLS);
+    clear_from(unit.predecessors, r.predecessors as usize);
     read::finish_message(r.number, message);
 }
 
@@ -259,28 +227,15 @@ pub fn check(
         predecessors.len(),
     );
     if fits(message.len(), tokens.len(), names.len(), unit) {
-        let r = check_into(
-            text,
-            tokens,
-            names,
+        let mut lent = UnitSlices {
             functions,
             items,
             arguments,
             blocks,
             predecessors,
-            message,
-        );
-        finish(
-            r,
-            tokens,
-            names,
-            functions,
-            items,
-            arguments,
-            blocks,
-            predecessors,
-            message,
-        );
+        };
+        let r = check_into(text, tokens, names, &mut lent, message);
+        finish(r, tokens, names, &mut lent, message);
         return r;
     }
     refused(numbers::SHORT_BUFFER, Location(0), 0)

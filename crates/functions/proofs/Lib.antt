@@ -23,3 +23,5 @@ pub mod Laid
 pub mod Standing
 -- demand 3: two readings of one function
 pub mod SimFunctions
+-- lent slices stay the ones that were lent
+pub mod Slices

@@ -1,5 +1,6 @@
 -- What `parse` answers and writes.
 use Rattle.functions.specs.declared.Body.{Body}
+use Rattle.functions.specs.declared.UnitSlices.{UnitSlices}
 use Rattle.parser.specs.declared.Refusal.{Refusal}
 use Rattle.std.specs.Prelude.{ℕ, ◌+◌, ◌*◌, ◌≤◌, ◌<◌, ◌≡◌, List, [], ◌∷◌, ◌++◌, length, set, Err, Ok, Result}
 use Rattle.std.proofs.lemmas.List.Edits.{sets}
@@ -103,6 +104,26 @@ pub record Slices : Type 0 where
 
 abbrev pub slices : List ℕ → List ℕ → List ℕ → List ℕ → List ℕ → Slices
 slices f i a b p = record { functions = f; items = i; arguments = a; blocks = b; predecessors = p }
+
+-- what they hold, as they are lent together
+abbrev pub held : UnitSlices → Slices
+held u = slices u.functions.now u.items.now u.arguments.now u.blocks.now u.predecessors.now
+
+abbrev pub LongSlices : UnitSlices → Type 0
+LongSlices u = Long u.items.now u.arguments.now u.blocks.now u.predecessors.now
+
+-- the references are the ones that were lent, to slices of the same lengths
+pub record SameSlices (u v : UnitSlices) : Type 0 where
+  pub functions : u.functions.ghost_name ≡ v.functions.ghost_name
+  pub items : u.items.ghost_name ≡ v.items.ghost_name
+  pub arguments : u.arguments.ghost_name ≡ v.arguments.ghost_name
+  pub blocks : u.blocks.ghost_name ≡ v.blocks.ghost_name
+  pub predecessors : u.predecessors.ghost_name ≡ v.predecessors.ghost_name
+  pub functions_long : length v.functions.now ≡ length u.functions.now
+  pub items_long : length v.items.now ≡ length u.items.now
+  pub arguments_long : length v.arguments.now ≡ length u.arguments.now
+  pub blocks_long : length v.blocks.now ≡ length u.blocks.now
+  pub predecessors_long : length v.predecessors.now ≡ length u.predecessors.now
 
 -- One function's row and records, stored behind those that are counted.
 abbrev pub stored_function : List Tok → List ℕ → Counts → Slices → Function → Slices

@@ -3,34 +3,35 @@ ghost use Rattle.std.specs.Prelude.{◌≡◌, ◌+◌, ◌*◌, ◌≤◌, leng
 ghost use Rattle.lexer.specs.Decoded.{tokens_of};
 ghost use Rattle.utils.specs.Limits.{most_labels};
 ghost use Rattle.functions.specs.Functions.{built_d};
-ghost use Rattle.functions.specs.Answer.{Room, Long, build_read, BuildHeld};
+ghost use Rattle.functions.specs.Answer.{Room, LongSlices, SameSlices, build_read, BuildHeld};
 
-use crate::{Body, Counts};
+use crate::{Body, Counts, UnitSlices};
 use parser::Refusal;
 use utils::limits;
 
 // With an array for the function's labels.
-fn build_with(
+fn build_with<'a>(
     tokens: &[u32],
     at: usize,
     void: bool,
     name: usize,
     n: Counts,
-    items: &mut [u32],
-    arguments: &mut [u32],
-    blocks: &mut [u32],
-    predecessors: &mut [u32],
+    unit: &mut UnitSlices<'a>,
     labels: &mut [u32],
 ) -> Result<Body, Refusal>
     requires { Room (tokens_of tokens.now) at n × (n.blocks * 4 + 2 ≤ at) × (most_labels ≤ length labels.old)
-        × Long items.old arguments.old blocks.old predecessors.old }
+        × LongSlices unit.old }
     ensures value { result ≡ build_read (built_d (tokens_of tokens.now) void name at) }
-    ensures build_held { BuildHeld (tokens_of tokens.now) n items.old items.new
-        arguments.old arguments.new blocks.old blocks.new
-        predecessors.old predecessors.new
+    ensures build_held { BuildHeld (tokens_of tokens.now) n unit.old.items.now unit.new.items.now
+        unit.old.arguments.now unit.new.arguments.now unit.old.blocks.now unit.new.blocks.now
+        unit.old.predecessors.now unit.new.predecessors.now
         (built_d (tokens_of tokens.now) void name at) }
+    ensures functions { unit.new.functions.now ≡ unit.old.functions.now }
+    ensures same { SameSlices unit.old unit.new }
 {
     let first = n.items;
+    let items = &mut *unit.items;
+    let arguments = &mut *unit.arguments;
     let closed = body::parse_body(
         tokens,
         at,
@@ -41,6 +42,8 @@ fn build_with(
         n.arguments,
         labels,
     )?;
+    let blocks = &mut *unit.blocks;
+    let predecessors = &mut *unit.predecessors;
     let linked = link::link(
         items,
         first,
@@ -63,36 +66,24 @@ fn build_with(
 }
 
 // From after the opening brace; `name` is the function's name token.
-pub fn build(
+pub fn build<'a>(
     tokens: &[u32],
     at: usize,
     void: bool,
     name: usize,
     n: Counts,
-    items: &mut [u32],
-    arguments: &mut [u32],
-    blocks: &mut [u32],
-    predecessors: &mut [u32],
+    unit: &mut UnitSlices<'a>,
 ) -> Result<Body, Refusal>
     requires { Room (tokens_of tokens.now) at n × (n.blocks * 4 + 2 ≤ at)
-        × Long items.old arguments.old blocks.old predecessors.old }
+        × LongSlices unit.old }
     ensures value { result ≡ build_read (built_d (tokens_of tokens.now) void name at) }
-    ensures build_held { BuildHeld (tokens_of tokens.now) n items.old items.new
-        arguments.old arguments.new blocks.old blocks.new
-        predecessors.old predecessors.new
+    ensures build_held { BuildHeld (tokens_of tokens.now) n unit.old.items.now unit.new.items.now
+        unit.old.arguments.now unit.new.arguments.now unit.old.blocks.now unit.new.blocks.now
+        unit.old.predecessors.now unit.new.predecessors.now
         (built_d (tokens_of tokens.now) void name at) }
+    ensures functions { unit.new.functions.now ≡ unit.old.functions.now }
+    ensures same { SameSlices unit.old unit.new }
 {
     let mut labels = [0u32; limits::LABELS];
-    build_with(
-        tokens,
-        at,
-        void,
-        name,
-        n,
-        items,
-        arguments,
-        blocks,
-        predecessors,
-        &mut labels,
-    )
+    build_with(tokens, at, void, name, n, unit, &mut labels)
 }

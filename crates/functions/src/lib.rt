@@ -17,10 +17,20 @@ ghost use Rattle.functions.specs.Known.{types_after};
 ghost use Rattle.functions.specs.Functions.{function_d, program_d};
 ghost use Rattle.functions.specs.Rows.{known_from};
 ghost use Rattle.functions.specs.Laid.{AllFit};
-ghost use Rattle.functions.specs.Answer.{Room, Long, slices, function_read, FunctionHeld, program_read, Held};
+ghost use Rattle.functions.specs.Answer.{Room, LongSlices, SameSlices, held, function_read, FunctionHeld, program_read, Held};
 
 use parser::{Refusal, types};
 use pieces::{Identifier, kinds};
+
+// The slices that a text's functions go to: the header table, items, arguments of calls, blocks and predecessors.
+#[derive(Drop)]
+pub struct UnitSlices<'a> {
+    pub functions: &'a mut [u32],
+    pub items: &'a mut [u32],
+    pub arguments: &'a mut [u32],
+    pub blocks: &'a mut [u32],
+    pub predecessors: &'a mut [u32],
+}
 
 // A name, how many formals it has, the cell of its result's type, its function type's number, and the index behind the
 // brace.
@@ -74,45 +84,30 @@ fn types_after(types: u32, ty: u32) -> u32
 }
 
 // A function from its name on, stored behind the n that are there.
-pub fn parse_function(
+pub fn parse_function<'a>(
     tokens: &[u32],
     names: &[u32],
     at: usize,
     types: u32,
     n: Counts,
-    functions: &mut [u32],
-    items: &mut [u32],
-    arguments: &mut [u32],
-    blocks: &mut [u32],
-    predecessors: &mut [u32],
+    unit: &mut UnitSlices<'a>,
 ) -> Result<FunctionRead, Refusal>
     requires { Room (tokens_of tokens.now) at n × (n.functions ≤ most_functions) × (types ≤ n.functions)
-        × (table_size ≤ length functions.old) × Long items.old arguments.old blocks.old predecessors.old }
+        × (table_size ≤ length unit.old.functions.now) × LongSlices unit.old }
     ensures value { result
         ≡ function_read types n (function_d (tokens_of tokens.now) (leb most_functions n.functions)
-        (known_from functions.old 0 n.functions) types at) }
+        (known_from unit.old.functions.now 0 n.functions) types at) }
     ensures function_held { FunctionHeld (tokens_of tokens.now) names.now n
-        (slices functions.old items.old arguments.old blocks.old
-        predecessors.old)
-        (slices functions.new items.new arguments.new blocks.new
-        predecessors.new)
+        (held unit.old)
+        (held unit.new)
         (function_d (tokens_of tokens.now) (leb most_functions n.functions)
-        (known_from functions.old 0 n.functions) types at) }
+        (known_from unit.old.functions.now 0 n.functions) types at) }
+    ensures same { SameSlices unit.old unit.new }
 {
-    let h = header::parse_header(tokens, at, n.functions, types, functions)?;
+    let h = header::parse_header(tokens, at, n.functions, types, unit.functions)?;
     let void = h.ret == types::VOID;
-    let b = build::build(
-        tokens,
-        h.next,
-        void,
-        at,
-        n,
-        items,
-        arguments,
-        blocks,
-        predecessors,
-    )?;
-    rows::put_row(functions, tokens, names, at, n, h, b);
+    let b = build::build(tokens, h.next, void, at, n, unit)?;
+    rows::put_row(unit.functions, tokens, names, at, n, h, b);
     Ok(FunctionRead {
         next: b.next,
         types: types_after(types, h.ty),
@@ -121,26 +116,21 @@ pub fn parse_function(
 }
 
 // The functions of a text, from its first token on.
-pub fn parse(
+pub fn parse<'a>(
     tokens: &[u32],
     names: &[u32],
-    functions: &mut [u32],
-    items: &mut [u32],
-    arguments: &mut [u32],
-    blocks: &mut [u32],
-    predecessors: &mut [u32],
+    unit: &mut UnitSlices<'a>,
 ) -> Result<Counts, Refusal>
-    requires { Within (tokens_of tokens.now) 0 × (table_size ≤ length functions.old)
-        × Long items.old arguments.old blocks.old predecessors.old }
+    requires { Within (tokens_of tokens.now) 0 × (table_size ≤ length unit.old.functions.now)
+        × LongSlices unit.old }
     ensures value { result ≡ program_read (program_d (tokens_of tokens.now)) }
     ensures held { Held (tokens_of tokens.now) names.now
         (program_d (tokens_of tokens.now)).functions
-        (slices functions.old items.old arguments.old blocks.old
-        predecessors.old)
-        (slices functions.new items.new arguments.new blocks.new
-        predecessors.new)
+        (held unit.old)
+        (held unit.new)
         (program_d (tokens_of tokens.now)).end }
     ensures all_fit { AllFit (program_d (tokens_of tokens.now)) }
+    ensures same { SameSlices unit.old unit.new }
 {
     let mut at: usize = 0;
     let mut types: u32 = 0;
@@ -154,21 +144,10 @@ pub fn parse(
     loop {
         let t = lexer::token_at(tokens, at);
         if t.kind == kinds::END_OF_FILE {
-            functions[0] = n.functions as u32;
+            unit.functions[0] = n.functions as u32;
             return Ok(n);
         }
-        let read = parse_function(
-            tokens,
-            names,
-            at,
-            types,
-            n,
-            functions,
-            items,
-            arguments,
-            blocks,
-            predecessors,
-        )?;
+        let read = parse_function(tokens, names, at, types, n, unit)?;
         at = read.next;
         types = read.types;
         n = read.counts;

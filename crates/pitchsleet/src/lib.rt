@@ -13,7 +13,7 @@ ghost use Rattle.pitchsleet.specs.RecheckBytes as again;
 
 use checker::CheckAnswer;
 use exports::{check, layout, read_out};
-use functions::{columns, sizes};
+use functions::{UnitSlices, columns, sizes};
 use lexer::ReadAnswer;
 use pieces::Location;
 use utils::{limits, numbers};
@@ -69,18 +69,14 @@ pub extern "C" fn pitchsleet_check(text: &[u8], out: &mut [u8], message: &mut [u
     let mut arguments = [0u32; sizes::ARGUMENTS];
     let mut blocks = [0u32; sizes::BLOCKS];
     let mut predecessors = [0u32; sizes::PREDECESSORS];
-    check::check_out(
-        text,
-        &mut tokens,
-        &mut names,
-        &mut functions,
-        &mut items,
-        &mut arguments,
-        &mut blocks,
-        &mut predecessors,
-        out,
-        message,
-    )
+    let mut unit = UnitSlices {
+        functions: &mut functions,
+        items: &mut items,
+        arguments: &mut arguments,
+        blocks: &mut blocks,
+        predecessors: &mut predecessors,
+    };
+    check::check_out(text, &mut tokens, &mut names, &mut unit, out, message)
 }
 
 // Document 01's recheck for a C or Rust host: `table` are the bytes that `pitchsleet_check` wrote for the old text's

@@ -1,7 +1,7 @@
 // From an old text, the bytes of its header table, a number and a new text to the bytes of the recheck.
 ghost use Rattle.std.specs.Prelude.{◌≡◌, ◌+◌, ◌*◌, ◌/◌, ◌≤◌, length};
 ghost use Rattle.std.proofs.lemmas.List.Edits.{sets};
-ghost use Rattle.functions.specs.Answer.{slices};
+ghost use Rattle.functions.specs.Answer.{SameSlices, held};
 ghost use Rattle.recheck.specs.Recheck.{recheck_of};
 ghost use Rattle.utils.specs.Limits.{message_size};
 ghost use Rattle.exports.specs.CheckBytes.{Sizes, export, exported, check_size};
@@ -9,7 +9,7 @@ ghost use Rattle.pitchsleet.specs.RecheckBytes.{cell_at, cells_at, cell_count, t
 
 use checker::CheckAnswer;
 use exports::layout;
-use functions::{columns, sizes};
+use functions::{UnitSlices, columns, sizes};
 
 // Four bytes as a cell, the lowest first.
 fn get_cell(bytes: &[u8], at: usize) -> u32
@@ -38,53 +38,27 @@ fn cell_count(bytes: usize) -> usize
 }
 
 // Rechecks into the front of cells, and stores those as bytes.
-fn recheck_cells<'t>(
+fn recheck_cells<'t, 'a>(
     old: &'t [u8],
     table: &[u32],
     number: u32,
     new: &'t [u8],
     tokens: &mut [u32; lexer::sizes::TOKENS],
     names: &mut [u32; lexer::sizes::NAMES],
-    functions: &mut [u32; columns::TABLE],
-    items: &mut [u32; sizes::ITEMS],
-    arguments: &mut [u32; sizes::ARGUMENTS],
-    blocks: &mut [u32; sizes::BLOCKS],
-    predecessors: &mut [u32; sizes::PREDECESSORS],
+    unit: &mut UnitSlices<'a>,
     out: &mut [u8],
     message: &mut [u8],
 ) -> CheckAnswer
     requires { Sizes tokens.old names.old
-        (slices functions.old items.old arguments.old blocks.old predecessors.old)
+        (held unit.old)
         × (check_size ≤ length out.old) × (message_size ≤ length message.old) }
-    ensures { export result out.new message.new
+    ensures stored { export result out.new message.new
         ≡ exported out.old message.old
         (recheck_of old.now table.now number new.now) }
+    ensures same { SameSlices unit.old unit.new }
 {
-    let answer = rechecker::recheck_into(
-        old,
-        table,
-        number,
-        new,
-        tokens,
-        names,
-        functions,
-        items,
-        arguments,
-        blocks,
-        predecessors,
-        message,
-    );
-    exports::check::put_all(
-        answer,
-        tokens,
-        names,
-        functions,
-        items,
-        arguments,
-        blocks,
-        predecessors,
-        out,
-    );
+    let answer = rechecker::recheck_into(old, table, number, new, tokens, names, unit, message);
+    exports::check::put_all(answer, tokens, names, unit, out);
     read::finish_message(answer.number, message);
     answer
 }
@@ -113,6 +87,13 @@ pub fn recheck_out<'t>(
     let mut arguments = [0u32; sizes::ARGUMENTS];
     let mut blocks = [0u32; sizes::BLOCKS];
     let mut predecessors = [0u32; sizes::PREDECESSORS];
+    let mut unit = UnitSlices {
+        functions: &mut functions,
+        items: &mut items,
+        arguments: &mut arguments,
+        blocks: &mut blocks,
+        predecessors: &mut predecessors,
+    };
     recheck_cells(
         old,
         &cells[0..n],
@@ -120,11 +101,7 @@ pub fn recheck_out<'t>(
         new,
         &mut tokens,
         &mut names,
-        &mut functions,
-        &mut items,
-        &mut arguments,
-        &mut blocks,
-        &mut predecessors,
+        &mut unit,
         out,
         message,
     )

@@ -3,37 +3,32 @@ ghost use Rattle.std.specs.Prelude.{◌≡◌, ◌≤◌, ◌<◌, length, get_o
 ghost use Rattle.lexer.specs.Decoded.{tokens_of};
 ghost use Rattle.body.specs.Room.{Within};
 ghost use Rattle.functions.specs.Columns.{table_size};
-ghost use Rattle.functions.specs.Answer.{Long, slices, FunctionHeld};
+ghost use Rattle.functions.specs.Answer.{LongSlices, SameSlices, held, FunctionHeld};
 ghost use Rattle.unit.specs.Outcome.{none};
 ghost use Rattle.utils.specs.Limits.{most_functions};
 ghost use Rattle.recheck.specs.Recheck.{alone_d};
 ghost use Rattle.recheck.specs.Alone.{alone_read, Places};
 
-use functions::{Counts, columns};
+use functions::{Counts, UnitSlices, columns};
 use headers::{Placed, bring};
 use parser::Refusal;
 use pieces::kinds;
 use utils::{cell_at, numbers};
 
 // One function from the first token on, and nothing behind it.
-pub fn parse_alone(
+pub fn parse_alone<'a>(
     tokens: &[u32],
     names: &[u32],
-    functions: &mut [u32],
-    items: &mut [u32],
-    arguments: &mut [u32],
-    blocks: &mut [u32],
-    predecessors: &mut [u32],
+    unit: &mut UnitSlices<'a>,
 ) -> Result<Counts, Refusal>
-    requires { Within (tokens_of tokens.now) 0 × (table_size ≤ length functions.old)
-        × Long items.old arguments.old blocks.old predecessors.old }
+    requires { Within (tokens_of tokens.now) 0 × (table_size ≤ length unit.old.functions.now)
+        × LongSlices unit.old }
     ensures value { result ≡ alone_read (alone_d (tokens_of tokens.now)) }
     ensures function_held { FunctionHeld (tokens_of tokens.now) names.now none
-        (slices functions.old items.old arguments.old blocks.old
-        predecessors.old)
-        (slices functions.new items.new arguments.new blocks.new
-        predecessors.new)
+        (held unit.old)
+        (held unit.new)
         (alone_d (tokens_of tokens.now)) }
+    ensures same { SameSlices unit.old unit.new }
 {
     let none = Counts {
         functions: 0,
@@ -42,18 +37,7 @@ pub fn parse_alone(
         blocks: 0,
         predecessors: 0,
     };
-    let read = functions::parse_function(
-        tokens,
-        names,
-        0,
-        0,
-        none,
-        functions,
-        items,
-        arguments,
-        blocks,
-        predecessors,
-    )?;
+    let read = functions::parse_function(tokens, names, 0, 0, none, unit)?;
     let next = read.next;
     match lexer::token_at(tokens, next).kind {
         kinds::END_OF_FILE => Ok(read.counts),

@@ -5,11 +5,3 @@ use Rattle.alone.proofs.unit.Goals as goal
 pub build-requires : goal.build-requires
 build-requires c =
     (c.requires.0, c.requires.1, c.requires.2, c.requires.3, c.requires.4, omega arith)
-
-pub returns : goal.returns
-returns c =
-    record {
-      value = c.build.ensures.value;
-      verdict_held = c.build.ensures.verdict_held;
-      counted = c.build.ensures.counted;
-    }

@@ -20,8 +20,8 @@ check_lexed-requires c = (
   },
 )
 
-pub returns : goal.returns
-returns c =
+pub returns-clause-checks : goal.returns-clause-checks
+returns-clause-checks c =
     rw c.refused.ensures
     (not-lexed c.args.text.now c.args.message.now c.read_into-r.result _ _ _ c.read_into-r.ensures
     c.if-r-eq-ACCEPTED.false _)

@@ -31,14 +31,14 @@ counted-requires c =
     let k = subst Counted c.in-Ok.is c.unit.ensures.counted in
     (omega (arith, k.0), omega (arith, k.1), omega (arith, k.2), omega (arith, k.3), omega (arith, k.4))
 
-pub returns-in-Err : goal.returns-in-Err
-returns-in-Err c =
+pub returns-in-Err-clause-checks : goal.returns-in-Err-clause-checks
+returns-in-Err-clause-checks c =
     ends-refused c.requires.0 c.args.message.now _ _ _ (used_tokens c.requires.0) (used_names c.requires.0)
     c.in-Err.e _ _
     (sym c.in-Err.is ∙ c.unit.ensures.value) c.refuse.ensures.0 c.refuse.ensures.1
 
-pub returns-in-Ok : goal.returns-in-Ok
-returns-in-Ok c =
+pub returns-in-Ok-clause-checks : goal.returns-in-Ok-clause-checks
+returns-in-Ok-clause-checks c =
     rw c.counted.ensures
     (ends-accepted c.requires.0 c.args.message.now _ _ _ (used_tokens c.requires.0) (used_names c.requires.0)
     c.in-Ok.n _

@@ -1,15 +1,14 @@
 -- What each turn of a loop keeps.
 use Rattle.functions.proofs.Program.{Going}
-use Rattle.functions.specs.Answer.{slices}
+use Rattle.functions.specs.Answer.{held, SameSlices}
 use Rattle.lexer.specs.Decoded.{tokens_of}
 use Prim.Native.Nat.{◌-◌}
 use Rattle.functions.proofs.parse.Given as goal
 
-abbrev pub invariant-loop-functions : goal.invariant-loop-functions
-invariant-loop-functions l =
-    Going (tokens_of l.tokens) l.names (slices l.initial.functions l.initial.items l.initial.arguments
-    l.initial.blocks l.initial.predecessors) l.at l.types l.n
-    (slices l.functions l.items l.arguments l.blocks l.predecessors)
+abbrev pub invariant-loop-unit : goal.invariant-loop-unit
+invariant-loop-unit l =
+    Going (tokens_of l.tokens) l.names (held l.initial.unit) l.at l.types l.n (held l.unit)
+    × SameSlices l.initial.unit l.unit
 
-abbrev pub decreases-loop-functions : goal.decreases-loop-functions
-decreases-loop-functions l = 64 - l.n.functions
+abbrev pub decreases-loop-unit : goal.decreases-loop-unit
+decreases-loop-unit l = 64 - l.n.functions

@@ -8,8 +8,8 @@ use Rattle.recheck.specs.Recheck.{recheck_of}
 use Rattle.rechecker.proofs.Ends.{bad_table, line_small, not-lexed, refused_with_lem}
 use Rattle.rechecker.proofs.recheck_into.Goals as goal
 
-pub returns-then-not-is_table : goal.returns-then-not-is_table
-returns-then-not-is_table c =
+pub returns-then-not-is_table-clause-checks : goal.returns-then-not-is_table-clause-checks
+returns-then-not-is_table-clause-checks c =
     refused_with_lem _ 42 0 _ c.args.message.now _ _ _ _
     (bad_table c.args.old.now c.args.table.now c.args.number c.args.new.now
     (sym c.is_table.ensures ∙ c.if-not-is_table.true))
@@ -43,14 +43,14 @@ recheck_lexed-requires c =
       },
     )
 
-pub returns-then-r-eq-ACCEPTED : goal.returns-then-r-eq-ACCEPTED
-returns-then-r-eq-ACCEPTED c =
+pub returns-then-r-eq-ACCEPTED-clause-checks : goal.returns-then-r-eq-ACCEPTED-clause-checks
+returns-then-r-eq-ACCEPTED-clause-checks c =
     as_long-before (recheck_of c.args.old.now c.args.table.now c.args.number c.args.new.now) c.args.message.now _ _ _
     _ _ _
-    c.read_into-r.auto.message c.recheck_lexed.ensures
+    c.read_into-r.auto.message c.recheck_lexed.ensures.checks
 
-pub returns : goal.returns
-returns c =
+pub returns-clause-checks : goal.returns-clause-checks
+returns-clause-checks c =
     rw c.refused.ensures
     (not-lexed _ c.args.new.now c.args.message.now c.read_into-r.result _ _ _ c.read_into-r.ensures
     c.args.old.now c.args.table.now c.args.number

@@ -24,8 +24,8 @@ pub returns-then-is_whole : goal.returns-then-is_whole
 returns-then-is_whole c =
     c.recheck_whole.ensures
 
-pub returns : goal.returns
-returns c =
+pub returns-clause-checks : goal.returns-clause-checks
+returns-clause-checks c =
     let ends = not-whole c.args.old.now c.args.table.now c.args.number c.args.new.now c.args.message.now
     c.args.message.now c.args.tokens.now c.args.names.now c.args.r c.requires.0 c.requires.1 _ _ (used_tokens
     c.requires.1)

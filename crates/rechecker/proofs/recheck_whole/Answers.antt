@@ -33,16 +33,16 @@ counted-requires c =
     let k = subst Counted c.in-Ok.is c.unit.ensures.counted in
     (omega (arith, k.0), omega (arith, k.1), omega (arith, k.2), omega (arith, k.3), omega (arith, k.4))
 
-pub returns-in-Err : goal.returns-in-Err
-returns-in-Err c =
+pub returns-in-Err-clause-checks : goal.returns-in-Err-clause-checks
+returns-in-Err-clause-checks c =
     ends-refused c.args.old.now c.args.table.now c.args.number c.args.new.now c.args.message.now _ c.args.tokens.now
     c.args.names.now c.args.r c.requires.0 c.requires.1 _ _ (used_tokens c.requires.1) (used_names c.requires.1)
     c.requires.2
     c.in-Err.e _ _ (sym c.in-Err.is ∙ c.unit.ensures.value) c.refuse.ensures.0
     c.refuse.ensures.1
 
-pub returns-in-Ok : goal.returns-in-Ok
-returns-in-Ok c =
+pub returns-in-Ok-clause-checks : goal.returns-in-Ok-clause-checks
+returns-in-Ok-clause-checks c =
     rw c.counted.ensures
     (ends-accepted c.args.old.now c.args.table.now c.args.number c.args.new.now c.args.message.now _ c.args.tokens.now
     c.args.names.now c.args.r c.requires.0 c.requires.1 _ _ (used_tokens c.requires.1) (used_names c.requires.1)

@@ -15,26 +15,26 @@ put_all-requires c = (
   record {
     tokens = c.check_into-answer.auto.tokens ∙ c.requires.0.tokens;
     names = c.check_into-answer.auto.names ∙ c.requires.0.names;
-    functions = c.check_into-answer.auto.functions ∙ c.requires.0.functions;
-    items = c.check_into-answer.auto.items ∙ c.requires.0.items;
-    arguments = c.check_into-answer.auto.arguments ∙ c.requires.0.arguments;
-    blocks = c.check_into-answer.auto.blocks ∙ c.requires.0.blocks;
-    predecessors = c.check_into-answer.auto.predecessors ∙ c.requires.0.predecessors;
+    functions = c.check_into-answer.ensures.same.functions_long ∙ c.requires.0.functions;
+    items = c.check_into-answer.ensures.same.items_long ∙ c.requires.0.items;
+    arguments = c.check_into-answer.ensures.same.arguments_long ∙ c.requires.0.arguments;
+    blocks = c.check_into-answer.ensures.same.blocks_long ∙ c.requires.0.blocks;
+    predecessors = c.check_into-answer.ensures.same.predecessors_long ∙ c.requires.0.predecessors;
   },
   c.requires.1,
 )
 
-pub returns : goal.returns
-returns c =
+pub returns-clause-stored : goal.returns-clause-stored
+returns-clause-stored c =
     out_of (check_of c.args.text.now) (silent c.args.text.now) _ _ _ _ _ _ _
     (record {
       tokens = c.check_into-answer.auto.tokens ∙ c.requires.0.tokens;
       names = c.check_into-answer.auto.names ∙ c.requires.0.names;
-      functions = c.check_into-answer.auto.functions ∙ c.requires.0.functions;
-      items = c.check_into-answer.auto.items ∙ c.requires.0.items;
-      arguments = c.check_into-answer.auto.arguments ∙ c.requires.0.arguments;
-      blocks = c.check_into-answer.auto.blocks ∙ c.requires.0.blocks;
-      predecessors = c.check_into-answer.auto.predecessors ∙ c.requires.0.predecessors;
+      functions = c.check_into-answer.ensures.same.functions_long ∙ c.requires.0.functions;
+      items = c.check_into-answer.ensures.same.items_long ∙ c.requires.0.items;
+      arguments = c.check_into-answer.ensures.same.arguments_long ∙ c.requires.0.arguments;
+      blocks = c.check_into-answer.ensures.same.blocks_long ∙ c.requires.0.blocks;
+      predecessors = c.check_into-answer.ensures.same.predecessors_long ∙ c.requires.0.predecessors;
     })
-    c.check_into-answer.result c.args.message.now _ _ c.args.out.now _ c.check_into-answer.ensures
+    c.check_into-answer.result c.args.message.now _ _ c.args.out.now _ c.check_into-answer.ensures.checks
     c.check_into-answer.auto.message c.put_all.ensures c.finish_message.ensures

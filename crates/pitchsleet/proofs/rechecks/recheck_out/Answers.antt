@@ -17,7 +17,7 @@ pub returns : goal.returns
 returns c =
     let lent = cells_lent _ _ c.args.table.now c.cell_count-n.result
     (omega (arith, (count_fits _ _ c.cell_count-n.ensures).1)) c.get_cells.ensures in
-    c.recheck_cells.ensures
+    c.recheck_cells.ensures.stored
     ∙ ap (λ (l : List ℕ). exported c.args.out.now c.args.message.now
     (recheck_of c.args.old.now l c.args.number c.args.new.now))
     (lent ∙ ap (cells_at c.args.table.now 0) c.cell_count-n.ensures)
