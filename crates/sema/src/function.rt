@@ -1,7 +1,7 @@
 // A function: its formals, then its blocks in the walk's order.
 ghost use Rattle.std.specs.Prelude.{◌≡◌, ◌+◌, ◌*◌, ◌≤◌, ◌<◌, length, get_or};
 ghost use Rattle.lexer.specs.Decoded.{tokens_of};
-ghost use Rattle.functions.specs.Columns.{row_at, ret_at, first_block_at, block_count_at, IsRow, table_size};
+ghost use Rattle.functions.specs.Columns.{row_at, first_block_at, block_count_at, IsRow, table_size};
 ghost use Rattle.graph.specs.Worklist.{remaining};
 ghost use Rattle.utils.specs.Limits.{most_functions, most_blocks};
 ghost use Rattle.sema.specs.Symbols.{typed};
