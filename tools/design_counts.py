@@ -71,7 +71,7 @@ show('1  enums of the shape of Option', options)
 show('1  numbers for kinds, refusals, parts and types: fields and parameters',
      lines_of(r'\b(kind|number|part|before|wanted|found|ty|dty|lty|ret|dead): u(8|32)\b'))
 show('1  constants that are codes', lines_of(r'^(pub |pub\(crate\) )?const [A-Z_0-9]+: u(8|32) = [0-9]+;'))
-show('1  matches that hand a refusal on', lines_of(r'Refused\((e|refusal)\) =>'))
+show('1  arms of a match on a refusal', lines_of(r'(Refused|Err)\((e|refusal)\) =>'))
 show('3  while and loop', lines_of(r'^\s*(while|loop)\b'))
 show('3  for', lines_of(r'^\s*for\b'))
 show('4  tests by hand: `if ..` that returns true or false', lines_of(r'return (true|false);'))

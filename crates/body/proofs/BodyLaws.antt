@@ -90,7 +90,8 @@ abbrev OperatesAt : ItemAt → Type 0
 OperatesAt (ItemAt.item i at) = Operates i
 OperatesAt (ItemAt.refused e) = Unit
 
-ended-call : (c : Result ℕ Refusal) (i : Item) → Operates i → OperatesAt (then_at ItemAt.refused c (λ at. ItemAt.item i at))
+ended-call : (c : Result ℕ Refusal) (i : Item) → Operates i
+    → OperatesAt (then_at ItemAt.refused c (λ at. ItemAt.item i at))
 unfolding then_at
 ended-call (Ok at) i q = q
 ended-call (Err e) i q = tt
@@ -121,7 +122,8 @@ unfolding closes pick TerminatorsLast LabelsFollowed
 closed before kind next q after h =
     (tt, λ e. let f : closes after_label kind ≡ true = rw e at q in never (sym f))
 
-with_label : (before w : ℕ) (l : Identifier) (r : Body) → Ordered after_label r → Ordered before (body_then (label w l) r)
+with_label : (before w : ℕ) (l : Identifier) (r : Body) → Ordered after_label r
+    → Ordered before (body_then (label w l) r)
 unfolding TerminatorsLast LabelsFollowed
 with_label before w l r q next h =
     ((λ e. absurd (never e), (q next h).0), (q next h).1)

@@ -125,7 +125,8 @@ module _ {void : Bool} {i : Item} {s s' : Going} {items₀ items arguments₀ ar
       ≡ closing void (before_number s.before) s.last i ++ closed_from void (before_number s'.before) s'.last is
   closed_on = rw (t.before_is, t.last_is) (closed_cons void (before_number s.before) s.last i is)
 
-  pub items-on : sets items (s'.items * 8) (items_cells s'.arguments (closed_from void (before_number s'.before) s'.last is))
+  pub items-on : sets items (s'.items * 8)
+      (items_cells s'.arguments (closed_from void (before_number s'.before) s'.last is))
       ≡ sets items₀ (s.items * 8) (items_cells s.arguments (closed_from void (before_number s.before) s.last (i ∷ is)))
   items-on =
       let xs = closing void (before_number s.before) s.last i in
@@ -154,7 +155,8 @@ module _ {void : Bool} {i : Item} {s s' : Going} {items₀ items arguments₀ ar
       (omega (
         arith,
         t.items_next,
-        length-append (closing void (before_number s.before) s.last i) (closed_from void (before_number s'.before) s'.last is),
+        length-append (closing void (before_number s.before) s.last i)
+            (closed_from void (before_number s'.before) s'.last is),
       ))
 
   pub arguments_count-on : s'.arguments + arguments_count is ≡ s.arguments + arguments_count (i ∷ is)
@@ -166,7 +168,8 @@ module _ {void : Bool} {i : Item} {s s' : Going} {items₀ items arguments₀ ar
       ≡ filled (fresh (before_number s.before)) (shapes_of (closed_from void (before_number s.before) s.last (i ∷ is)))
   blocks-on =
       rw (closed_on, t.before_is, t.last_is)
-      (sym (closing-filled void (before_number s.before) s.last i (closed_from void (before_next i) (last_next s.last i) is)))
+      (sym (closing-filled void (before_number s.before) s.last i (closed_from void (before_next i) (last_next s.last
+      i) is)))
 
 module _ (i : Item) (is : List Item) (n n' : ℕ) (next : n' ≡ n + length (labels_of (i ∷ []))) where
   pub labels-on : (labels labels' : List ℕ) → labels' ≡ sets labels n (labels_of (i ∷ []))

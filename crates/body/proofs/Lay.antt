@@ -39,7 +39,8 @@ pub items_cells_append : (used : ℕ) (is js : List Item)
 unfolding items_cells arguments_count
 items_cells_append used [] js = rw add-zero
 items_cells_append used (i ∷ is) js =
-    let e : used + (length (arguments_in i) + arguments_count is) ≡ used + length (arguments_in i) + arguments_count is =
+    let e : used + (length (arguments_in i) + arguments_count is)
+    ≡ used + length (arguments_in i) + arguments_count is =
     omega arith in
     rw (e, items_cells_append (used + length (arguments_in i)) is js)
 
@@ -81,8 +82,10 @@ arguments_count-closed_from void before last (call w g xs ∷ is) = rw (argument
 arguments_count-closed_from void before last (call_into w v g xs ∷ is) = rw (arguments_count-closed_from void _ _ is)
 
 -- the arguments of closed items are those of the items
-pub arguments_cells-closed : (void : Bool) (is : List Item) → arguments_cells (closed_items void is) ≡ arguments_cells is
+pub arguments_cells-closed : (void : Bool) (is : List Item)
+    → arguments_cells (closed_items void is) ≡ arguments_cells is
 arguments_cells-closed void is = arguments_cells-closed_from void after_brace 0 is
 
-pub arguments_count-closed : (void : Bool) (is : List Item) → arguments_count (closed_items void is) ≡ arguments_count is
+pub arguments_count-closed : (void : Bool) (is : List Item)
+    → arguments_count (closed_items void is) ≡ arguments_count is
 arguments_count-closed void is = arguments_count-closed_from void after_brace 0 is

@@ -86,7 +86,8 @@ run_longer from n last (Ok next) h = (omega (arith, h.0), h.1)
 run_longer from n last (Err e) h = tt
 
 module _ (ts : List Tok) (last : ℕ) (ends : (token_at ts last).kind ≡ 38) where
-  pub moves : (at : ℕ) → at ≤ last → ((token_at ts at).kind ≡ 38 → ⊥) → ((token_at ts at).next ≡ at + 1) × (at + 1 ≤ last)
+  pub moves : (at : ℕ) → at ≤ last → ((token_at ts at).kind ≡ 38 → ⊥)
+      → ((token_at ts at).next ≡ at + 1) × (at + 1 ≤ last)
   moves at h n =
       (token-next ts at n, ⊎_elim (λ z. absurd (n (rw z ends))) (λ l. omega arith) (eq-or-lt_of_le h))
 
@@ -110,7 +111,8 @@ module _ (ts : List Tok) (last : ℕ) (ends : (token_at ts last).kind ≡ 38) wh
       → Q (then_named fail (named_d ts at kind number) k)
   unfolding named_d then_named
   named_step Q fail k at kind number h n f g =
-      pick_either (λ (c : Result (Identifier × ℕ) Refusal). Q (then_named fail c k)) (eqb (token_at ts at).kind kind) _ _
+      pick_either (λ (c : Result (Identifier × ℕ) Refusal). Q (then_named fail c k))
+      (eqb (token_at ts at).kind kind) _ _
       (λ t. let m = moved at kind h n t in rw m.0 (g _ m.1)) (λ t. f _)
 
   pub type_step : {A : Type 0} (Q : A → Type 0) (fail : Refusal → A) (k : Ty → ℕ → A) (at : ℕ) → at ≤ last
@@ -125,7 +127,8 @@ module _ (ts : List Tok) (last : ℕ) (ends : (token_at ts last).kind ≡ 38) wh
       (λ t. let m = moved at 33 h refl t in rw m.0 (g _ m.1)) (λ t. f _))
 
   -- the end of an operation
-  semicolon : (from at : ℕ) (k : ℕ → Result Parsed Refusal) → at ≤ last → (at + 1 ≤ last → ParsedIn from last (k (at + 1)))
+  semicolon : (from at : ℕ) (k : ℕ → Result Parsed Refusal) → at ≤ last
+      → (at + 1 ≤ last → ParsedIn from last (k (at + 1)))
       → ParsedIn from last (then_at Err (consume_d ts at 30) k)
   semicolon from at k h g = consume_step (ParsedIn from last) _ k at 30 h refl (λ e. tt) g
 

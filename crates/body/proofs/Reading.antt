@@ -41,13 +41,15 @@ pub record Reading (ts : List Tok) (void : Bool) (at first used : ℕ) (whole : 
       ≡ sets arguments₀ (used * 2) (arguments_cells whole.items)
   pub labels-rest : sets labels s.labels (labels_of (body_from ts room s labels).items)
       ≡ sets labels₀ 0 (labels_of whole.items)
-  pub items-count : s.items + length (closed_from void (before_number s.before) s.last (body_from ts room s labels).items)
+  pub items-count : s.items + length
+      (closed_from void (before_number s.before) s.last (body_from ts room s labels).items)
       ≡ first + length (closed_items void whole.items)
   pub arguments_count_lem : s.arguments + arguments_count (body_from ts room s labels).items
       ≡ used + arguments_count whole.items
   pub labels-count : s.labels + length (labels_of (body_from ts room s labels).items) ≡ length (labels_of whole.items)
   pub blocks-count : blocks
-      + filled (fresh (before_number s.before)) (shapes_of (closed_from void (before_number s.before) s.last (body_from ts room s labels).items))
+      + filled (fresh (before_number s.before))
+      (shapes_of (closed_from void (before_number s.before) s.last (body_from ts room s labels).items))
       ≡ filled true (shapes_of (closed_items void whole.items))
   pub items_few : at * 3 + s.items * 4 ≤ s.at * 3 + first * 4
   pub items_spared : before_number s.before ≡ 2 → at * 3 + s.items * 4 + 2 ≤ s.at * 3 + first * 4
@@ -217,7 +219,13 @@ module _ {ts : List Tok} {void : Bool} {at first used : ℕ} {whole : Body} {ite
                 record {
                   items_few = omega (arith, few, n);
                   arguments_few = omega (arith, v.arguments_few, g.one);
-                  blocks_few = omega (arith, b, ending_filled void (before_number s.before) s.last, v.blocks_few, g.one);
+                  blocks_few = omega (
+                    arith,
+                    b,
+                    ending_filled void (before_number s.before) s.last,
+                    v.blocks_few,
+                    g.one,
+                  );
                 };
           },
         )

@@ -135,11 +135,13 @@ module _ {m : Move} {n : ℕ} where
   after_item k k' (Rel.is (SimItemAt.refused e e' r)) go = stopped e e' r
 
 module _ {m : Move} {n : ℕ} {ts ts' : List Tok} (s : Sim m n ts ts') where
-  parsed : {p p' : Result Parsed Refusal} → Rel m n SimP p p' → Rel m n SimItemAt (parsed_item ts p) (parsed_item ts' p')
+  parsed : {p p' : Result Parsed Refusal} → Rel m n SimP p p'
+      → Rel m n SimItemAt (parsed_item ts p) (parsed_item ts' p')
   unfolding parsed_item
   parsed (Rel.is (SimP.done q i h)) = read (SimItem.plain q) i h
   parsed (Rel.is (SimP.call i h)) = after_call _ _ (call_s s i h) (λ g g' xs xs' p q. SimItem.call i p q h)
-  parsed (Rel.is (SimP.call_into v i h)) = after_call _ _ (call_s s i h) (λ g g' xs xs' p q. SimItem.call_into i v p q h)
+  parsed (Rel.is (SimP.call_into v i h)) = after_call _ _ (call_s s i h)
+      (λ g g' xs xs' p q. SimItem.call_into i v p q h)
   parsed (Rel.is (SimP.refused e e' r)) = unread e e' r
 
   pub item_s : (i : ℕ) → i < n → Rel m n SimItemAt (item_d ts (m.by + i)) (item_d ts' i)

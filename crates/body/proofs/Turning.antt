@@ -42,7 +42,8 @@ added_short true last = omega arith
 added_short false last = omega arith
 
 module _ (ts : List Tok) (void : Bool) (s : Going) {l : Identifier} {next : ℕ} (labels₀ : List ℕ) (g : Ready ts s)
-    (long : 255 ≤ length labels₀) {r : Result (Identifier × ℕ) Refusal} (e : r ≡ labelled_d ts (take s.labels labels₀) s.at)
+    (long : 255 ≤ length labels₀) {r : Result (Identifier × ℕ) Refusal}
+    (e : r ≡ labelled_d ts (take s.labels labels₀) s.at)
     (f : r ≡ Ok (l, next))
   where
     labelled : (s.at + 2 ≤ next) × (next ≤ g.within.last) × (s.labels < 255)

@@ -1,5 +1,5 @@
--- One turn of the body's loop: an item read and stored, the body closed, or a refusal. `body_d` says the same of a whole
--- body; that turns add up to it is shown in `proofs/Reading.antt`.
+-- One turn of the body's loop: an item read and stored, the body closed, or a refusal. `body_d` says the same of a
+-- whole body; that turns add up to it is shown in `proofs/Reading.antt`.
 use Rattle.std.specs.Prelude.{ℕ, suc, ◌+◌, ◌*◌, ◌≤◌, ◌≡◌, List, [], ◌∷◌, ◌++◌, Bool, eqb, leb, length, take, set}
 use Rattle.std.specs.Prelude.{Result, Ok, Err}
 use Rattle.std.proofs.lemmas.List.Edits.{sets}
@@ -119,7 +119,8 @@ pub record Taken (void : Bool) (i : Item) (s s' : Going) (items₀ items argumen
   pub arguments_next : s'.arguments ≡ s.arguments + length (arguments_in i)
   pub before_is : before_number s'.before ≡ before_next i
   pub last_is : s'.last ≡ last_next s.last i
-  pub items_are : items ≡ sets items₀ (s.items * 8) (items_cells s.arguments (closing void (before_number s.before) s.last i))
+  pub items_are : items
+      ≡ sets items₀ (s.items * 8) (items_cells s.arguments (closing void (before_number s.before) s.last i))
   pub arguments_are : arguments ≡ sets arguments₀ (s.arguments * 2) (variables_cells (arguments_in i))
 
 -- an operation, then 12 behind a terminator

@@ -226,7 +226,8 @@ header-good : (ts : List Tok) (full : Bool) (known : List Known) (types at : ℕ
 unfolding header_d signature_d then_named then_formals then_type then_at then_entered pick
 header-good ts full known types at = named (global_d ts at) full (global-good ts at)
   where
-    entered : (g : Identifier) (vs : List Variable) (ret : Ty) (x : Result (ℕ × ℕ) Refusal) → IsGlobal ts at g → GoodRet ret
+    entered : (g : Identifier) (vs : List Variable) (ret : Ty) (x : Result (ℕ × ℕ) Refusal) → IsGlobal ts at g
+        → GoodRet ret
         → GoodFormals vs
         → length vs ≤ 16
         → GoodHeaderAt ts at
@@ -234,7 +235,8 @@ header-good ts full known types at = named (global_d ts at) full (global-good ts
     entered g vs ret (Ok (type, i)) n h k l = record { global = n; ret = h; types = k; few = l }
     entered g vs ret (Err e) n h k l = tt
 
-    typed : (g : Identifier) (vs : List Variable) (x : Result (Ty × ℕ) Refusal) → IsGlobal ts at g → GoodRetRead x → GoodFormals vs
+    typed : (g : Identifier) (vs : List Variable) (x : Result (Ty × ℕ) Refusal) → IsGlobal ts at g → GoodRetRead x
+        → GoodFormals vs
         → length vs ≤ 16
         → GoodHeaderAt ts at (then_type no_header x (λ ret at2.
         then_entered no_header (entered_d ts known types at g (signature ret vs) at2) (λ type i.
@@ -242,7 +244,8 @@ header-good ts full known types at = named (global_d ts at) full (global-good ts
     typed g vs (Ok (ret, at2)) n h k l = entered g vs ret (entered_d ts known types at g (signature ret vs) at2) n h k l
     typed g vs (Err e) n h k l = tt
 
-    formals : (g : Identifier) (vs : List Variable) (x : Result ℕ Refusal) → IsGlobal ts at g → GoodFormals vs → length vs ≤ 16
+    formals : (g : Identifier) (vs : List Variable) (x : Result ℕ Refusal) → IsGlobal ts at g → GoodFormals vs
+        → length vs ≤ 16
         → GoodHeaderAt ts at (then_at no_header x (λ at2. then_type no_header (optional_type ts at2) (λ ret at3.
         then_entered no_header (entered_d ts known types at g (signature ret vs) at3) (λ type i.
         header (record { name = g; formals = vs; ret = ret; type = type }) i))))

@@ -43,7 +43,8 @@ typing_listed : (fs : List Function) {x : Typed} → Is FineT x → IfRefused (a
 typing_listed fs (Is.so (FineT.fine t)) = tt
 typing_listed fs (Is.so (FineT.refused t e h)) = fine-listed h
 
-parsing_listed : (ts : List Tok) (fs : List Function) {c : Result ℕ Refusal} → FineEnd c → IfRefused (after_parsing ts fs c)
+parsing_listed : (ts : List Tok) (fs : List Function) {c : Result ℕ Refusal} → FineEnd c
+    → IfRefused (after_parsing ts fs c)
 parsing_listed ts fs (FineEnd.found i) = typing_listed fs (typed-fine ts fs fs untyped)
 parsing_listed ts fs (FineEnd.refused e h) = fine-listed h
 parsing_listed ts fs (FineEnd.many e h) = inr (inr (omega (arith, h), omega (arith, h)))

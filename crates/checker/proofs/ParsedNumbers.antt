@@ -121,13 +121,15 @@ module _ {A : Type 0} (T : A → Type 0) where
   place_f nowhere k none g h = h
 
   module _ (f : Refusal → A) where
-    then_at_f : {c : Result ℕ Refusal} (k : ℕ → A) → Is FineC c → ((e : Refusal) → Fine e → Is T (f e)) → ((i : ℕ) → Is T (k i))
+    then_at_f : {c : Result ℕ Refusal} (k : ℕ → A) → Is FineC c → ((e : Refusal) → Fine e → Is T (f e))
+        → ((i : ℕ) → Is T (k i))
         → Is T (then_at f c k)
     unfolding then_at
     then_at_f k (Is.so (FineC.found i)) w g = g i
     then_at_f k (Is.so (FineC.refused e h)) w g = w e h
 
-    then_named_f : {c : Result (Identifier × ℕ) Refusal} (k : Identifier → ℕ → A) → Is FineN c → ((e : Refusal) → Fine e → Is T (f e))
+    then_named_f : {c : Result (Identifier × ℕ) Refusal} (k : Identifier → ℕ → A) → Is FineN c
+        → ((e : Refusal) → Fine e → Is T (f e))
         → ((x : Identifier) (i : ℕ) → Is T (k x i)) → Is T (then_named f c k)
     unfolding then_named
     then_named_f k (Is.so (FineN.found x i)) w g = g x i
@@ -139,7 +141,8 @@ module _ {A : Type 0} (T : A → Type 0) where
     then_type_f k (Is.so (FineR.found t i)) w g = g t i
     then_type_f k (Is.so (FineR.refused e h)) w g = w e h
 
-    then_defined_f : {c : Result (Variable × ℕ) Refusal} (k : Variable → ℕ → A) → Is FineD c → ((e : Refusal) → Fine e → Is T (f e))
+    then_defined_f : {c : Result (Variable × ℕ) Refusal} (k : Variable → ℕ → A) → Is FineD c
+        → ((e : Refusal) → Fine e → Is T (f e))
         → ((v : Variable) (i : ℕ) → Is T (k v i)) → Is T (then_defined f c k)
     unfolding then_defined
     then_defined_f k (Is.so (FineD.found v i)) w g = g v i
@@ -276,7 +279,8 @@ module _ (ts : List Tok) (last : ℕ) (ends : (token_at ts last).kind ≡ 38) wh
     many : full ≡ true → (e : Refusal) → e.number ≡ 35 → FunctionOn full (no_function e)
 
   -- what follows a label, an item
-  after_label_lem : (i n : ℕ) {x : Result (Identifier × ℕ) Refusal} (k : Identifier → ℕ → Body) → Is FineN x → LabelIn i last n x
+  after_label_lem : (i n : ℕ) {x : Result (Identifier × ℕ) Refusal} (k : Identifier → ℕ → Body) → Is FineN x
+      → LabelIn i last n x
       → ((l : Identifier) (next : ℕ) → i + 2 ≤ next → next ≤ last → EndOn (k l next).end)
       → EndOn (then_named body_stop x k).end
   unfolding then_named

@@ -25,7 +25,8 @@ pub data FineT : Typed → Type 0 where
 
 -- Steps. ------------------------------------------------------------------------------------------------------------
 
-then_typed_f : {x : Typed} (k : List ℕ → Typed) → Is FineT x → ((t : List ℕ) → Is FineT (k t)) → Is FineT (then_typed x k)
+then_typed_f : {x : Typed} (k : List ℕ → Typed) → Is FineT x → ((t : List ℕ) → Is FineT (k t))
+    → Is FineT (then_typed x k)
 unfolding then_typed then_end
 then_typed_f k (Is.so (FineT.fine t)) g = g t
 then_typed_f k (Is.so (FineT.refused t e h)) g = Is.so (FineT.refused t e h)

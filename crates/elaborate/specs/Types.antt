@@ -2,7 +2,8 @@
 -- names, and a callee its function type. The operand kept in `ret`, `print`, `br` stays of placeholder type. The table
 -- is the one that the function's typing leaves; it may stand for the table at each visit, since it has the type that
 -- was found there for every name looked up (`Final`, crates/sema/specs/Visits.antt).
-use Rattle.std.specs.Prelude.{ℕ, zero, suc, ◌+◌, ◌*◌, ◌≡◌, List, [], ◌∷◌, ◌++◌, Bool, true, eqb, length, get_or, set, None, Option, Some}
+use Rattle.std.specs.Prelude.{ℕ, zero, suc, ◌+◌, ◌*◌, ◌≡◌, List, [], ◌∷◌, ◌++◌, Bool, true, eqb, length, get_or}
+use Rattle.std.specs.Prelude.{set, None, Option, Some}
 use Rattle.std.proofs.lemmas.List.Edits.{sets}
 use Rattle.utils.specs.Bytes.{pick}
 use Rattle.body.specs.Body.{Item, arguments_in}

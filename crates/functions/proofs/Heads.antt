@@ -32,7 +32,8 @@ unfolding pick
 pick-few true x y n h g = h
 pick-few false x y n h g = g
 
-then_few : (d : Result (Variable × ℕ) Refusal) (k : Variable → ℕ → Variables) (n : ℕ) → ((v : Variable) (at : ℕ) → length (k v at).list ≤ n)
+then_few : (d : Result (Variable × ℕ) Refusal) (k : Variable → ℕ → Variables) (n : ℕ) → ((v : Variable) (at : ℕ)
+    → length (k v at).list ≤ n)
     → length (then_defined stopped d k).list ≤ n
 unfolding then_defined
 then_few (Ok (v, i)) k n h = h v i

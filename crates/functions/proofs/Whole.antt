@@ -151,7 +151,8 @@ module _ (ts : List Tok) (void : Bool) (named at : ℕ) (n : Counts)
         (kept : Linking (parts_at items n.items c.items) n.items n.blocks n.predecessors blocks₀ blocks
         preds₀ preds)
       where
-        linked_to : (resolve_d named bs ≡ fine) × (l.blocks ≡ length bs) × (l.predecessors ≡ length (predecessors_in is))
+        linked_to : (resolve_d named bs ≡ fine) × (l.blocks ≡ length bs) × (l.predecessors ≡ length
+            (predecessors_in is))
         unfolding link_d
         linked_to = linked_done bs (resolve_d named bs) l (rw parts at linked)
 

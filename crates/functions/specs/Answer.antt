@@ -139,7 +139,12 @@ stored_function ts names n s f =
 
 -- a function that was read: where to go on, how many types there are, and how much is used; or the refusal
 abbrev pub function_read : ℕ → Counts → FunctionAt → Result FunctionRead Refusal
-function_read types n (function f) = Ok (record { next = f.next; types = (types_after types f.head.type); counts = (counts_with n f) })
+function_read types n (function f) = Ok (record {
+  next = f.next;
+  types = (types_after types f.head.type);
+  counts =
+      (counts_with n f);
+})
 function_read types n (no_function e) = Err e
 
 -- It stands in the slices, later headers see it, and there is room to go on.

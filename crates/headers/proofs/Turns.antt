@@ -1,7 +1,7 @@
 -- One turn more, and none, of the loops over formals, rows, names and the cells of a row.
 use Rattle.std.specs.Prelude.{Some, None}
 use Prim.Native.Nat.{ℕ, zero, suc, ◌+◌, ◌-◌, ◌≤◌, ◌<◌}
-use mathlib.Core.Path.{◌≡◌, refl}
+use mathlib.Core.Path.{◌≡◌}
 use mathlib.Core.List.{List, []}
 use mathlib.Core.Bool.{true, false}
 use native.Mathlib.Omega.{arith}
@@ -34,17 +34,17 @@ pub rows_none : (old rows : List ℕ) (i n : ℕ) → n ≤ i → rows_fit old r
 unfolding rows_fit
 rows_none old rows i n h = let m : n - i ≡ 0 = omega arith in rw m
 
-pub names_more : (new names : List ℕ) (x n : ℕ) (name : List ℕ) → 0 < n
-    → name_spelled new names x n name
-    ≡ pick (same_bytes name (name_of new names x)) (Some record { 0 = x }) (name_spelled new names (x + 1) (n - 1) name)
+pub names_more : (new names : List ℕ) (x n : ℕ) (name : List ℕ) → x < n
+    → name_spelled new names x (n - x) name
+    ≡ pick (same_bytes name (name_of new names x)) (Some record { 0 = x })
+    (name_spelled new names (x + 1) (n - (x + 1)) name)
 unfolding name_spelled
-names_more new names x zero name h = absurd (omega arith)
-names_more new names x (suc n) name h = let m : suc n - 1 ≡ n = omega arith in rw m
+names_more new names x n name h = let m : n - x ≡ suc (n - (x + 1)) = omega arith in rw m
 
-pub names-none : (new names : List ℕ) (x n : ℕ) (name : List ℕ) → n ≤ 0 → name_spelled new names x n name ≡ None
+pub names-none : (new names : List ℕ) (x n : ℕ) (name : List ℕ) → n ≤ x
+    → name_spelled new names x (n - x) name ≡ None
 unfolding name_spelled
-names-none new names x zero name h = refl
-names-none new names x (suc n) name h = absurd (omega arith)
+names-none new names x n name h = let m : n - x ≡ 0 = omega arith in rw m
 
 -- a cell is stored, and the rest of them behind it
 pub cells-more : (cells out : List ℕ) (to from k n : ℕ) → k < n

@@ -72,14 +72,10 @@ pub fn find_name<'t, 'c>(
     ensures { result ≡ name_spelled new.now names.now 0 count
         (row_name old.now rows.now i) }
 {
-    let mut x: u32 = 0;
-    let mut left = count;
-    while 0 < left {
+    for x in 0..count {
         if is_spelled(old, new, rows, names, i, Identifier(x)) {
             return Some(Identifier(x));
         }
-        x += 1;
-        left -= 1;
     }
     None
 }

@@ -142,7 +142,8 @@ closed-one cells from b rest (operation w goes) e ih =
     by_token zero z =
         let r = record_at cells from in
         let u : from + (run rest + 1) - 1 ≡ from = omega arith in
-        let v : (closing (grown b w goes) rest).token ≡ w = ap (λ (x : Block). x.token) ((ih (grown b w goes)).none z) in
+        let v : (closing (grown b w goes) rest).token
+        ≡ w = ap (λ (x : Block). x.token) ((ih (grown b w goes)).none z) in
         let is = operation-is (eqb r.kind 1) (first_cell r.last) w r.token goes (goes_of r) e in
         rw u (v ∙ is.0)
     by_token (suc n) z =

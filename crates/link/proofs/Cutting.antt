@@ -39,7 +39,8 @@ pub record Left (all : List Block) (name first base : ℕ) (cells₀ cells : Lis
 
 -- the blocks of the items from `from` on, where a block begins
 abbrev pub rest_of : List ℕ → ℕ → ℕ → ℕ → List ℕ → List Block
-rest_of items first end from ls = blocks_from (from - first) (fresh ls (from - first)) (parts_at items from (end - from))
+rest_of items first end from ls = blocks_from (from - first) (fresh ls (from - first))
+    (parts_at items from (end - from))
 
 pub record Cutting (items : List ℕ) (all : List Block) (name first end base : ℕ) (cells₀ cells : List ℕ) (from k : ℕ)
     : Type 0 where
@@ -214,7 +215,8 @@ module _ (items : List ℕ) (all : List Block) (named first end base : ℕ) (cel
   unfolding added_d
   turn_refused e h = refused-by e (eqb stop from) refl h
 
-  done-by : (m : ℕ) (t : Bool) (g : Result Goes Refusal) → eqb stop from ≡ t → goes_d before names (record_at items (stop - 1)) ≡ g
+  done-by : (m : ℕ) (t : Bool) (g : Result Goes Refusal) → eqb stop from ≡ t
+      → goes_d before names (record_at items (stop - 1)) ≡ g
       → pick t (Err (refusal 22 named 0)) (counted_by k g) ≡ Ok m
       → (m ≡ k + 1) × (from < stop)
       × Left all named first base cells₀ (pick t cells (put_goes cells k from (stop - from) g)) (k + 1) more

@@ -147,7 +147,8 @@ entries_none all j n z = rw z
 pub entered_step : (used : ℕ) (all : List (List ℕ)) (cells : List ℕ) (base j n next : ℕ) → j < n
     → next ≡ used + length (predecessors j 0 all)
     → put_entered (j + 1) next all
-    (sets cells ((base + j) * 8) (cells_of (entered_by (block_at cells (base + j)) j used (next - used)))) (base + (j + 1))
+    (sets cells ((base + j) * 8) (cells_of (entered_by (block_at cells (base + j)) j used (next - used))))
+    (base + (j + 1))
     (n - (j + 1))
     ≡ put_entered j used all cells (base + j) (n - j)
 unfolding put_entered

@@ -73,7 +73,8 @@ blocks_from_lem [] here b = refl
 blocks_from_lem (name l ∷ ps) here b = omega (arith, blocks_from_lem ps (here + 1) (fresh (l ∷ []) (here + 1)))
 blocks_from_lem (operation w goes ∷ ps) here b = blocks_from_lem ps (here + 1) (grown b w goes)
 
-blocks_after_lem : (ps : List Shape) (here : ℕ) (ls : List ℕ) → length (blocks_after here ls ps) ≤ length (names_in ps) + 1
+blocks_after_lem : (ps : List Shape) (here : ℕ) (ls : List ℕ)
+    → length (blocks_after here ls ps) ≤ length (names_in ps) + 1
 unfolding blocks_after names_in
 blocks_after_lem [] here ls = omega arith
 blocks_after_lem (name l ∷ ps) here ls = omega (arith, blocks_after_lem ps (here + 1) (ls ++ (l ∷ [])))

@@ -37,7 +37,8 @@ link_refused ps named e h = rw (numbered-refused (blocks_of ps) (resolve_d named
 module _ {items : List ℕ} {first count : ℕ} {labels : List ℕ} {labelled : ℕ} {cells₀ : List ℕ} {base : ℕ}
     {preds₀ : List ℕ} {used : ℕ} (ready : Ready items first count labels labelled cells₀ base preds₀ used)
     (named : ℕ) (cells : List ℕ) {r : Result ℕ Refusal} {n : ℕ}
-    (e : r ≡ numbered_by (blocks_of (parts_at items first count)) (resolve_d named (blocks_of (parts_at items first count))))
+    (e : r ≡ numbered_by (blocks_of (parts_at items first count)) (resolve_d named (blocks_of (parts_at items first
+    count))))
     (h : ClosedHeld (blocks_of (parts_at items first count)) first base cells₀ cells r) (f : r ≡ Ok n)
   where
     abbrev ps : List Shape

@@ -76,7 +76,8 @@ place_after l before (operation w goes ∷ ps) here ls i h =
     place-from l before (operation w goes ∷ ps) here (fresh ls here) 0 i (omega arith)
 
 -- The block that has a label among its own is the one that the label's number tells.
-pub place_of-label : (ps : List Shape) (l : ℕ) → place_of (blocks_of ps) l 0 ≡ label_place (leading ps) 0 (names_in ps) l
+pub place_of-label : (ps : List Shape) (l : ℕ)
+    → place_of (blocks_of ps) l 0 ≡ label_place (leading ps) 0 (names_in ps) l
 unfolding has pick
 place_of-label ps l = place_after l (leading ps) ps 0 [] 0 (omega arith)
 

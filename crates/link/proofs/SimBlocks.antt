@@ -75,7 +75,8 @@ blocks_s r = blocks_after_s 0 Each.none r
 -- Labels resolved. ----------------------------------------------------------------------------------------------------
 
 -- a renamed label names the same block
-pub place_s : {m : Move} {n : ℕ} {bs bs' : List Block} {l l' : ℕ} (k : ℕ) → Each (SimBlock m n) bs bs' → SimNumber m l l'
+pub place_s : {m : Move} {n : ℕ} {bs bs' : List Block} {l l' : ℕ} (k : ℕ) → Each (SimBlock m n) bs bs'
+    → SimNumber m l l'
     → place_of bs l k ≡ place_of bs' l' k
 unfolding place_of
 place_s k Each.none p = refl
@@ -95,7 +96,8 @@ module _ {m : Move} {n : ℕ} {all all' : List Block} (s : Each (SimBlock m n) a
   resolve_labels_s token l Each.none t = t
   resolve_labels_s token l (Each.more {x} {x'} q r) t =
       rw (place_s 0 s q)
-      (found_s (place_of all' x' 0) (resolve_labels_s token l r t) (SimResolved.refused _ _ (SimE.named 14 token 0 0 q l)))
+      (found_s (place_of all' x' 0) (resolve_labels_s token l r t) (SimResolved.refused _ _ (SimE.named 14 token 0 0
+      q l)))
 
   -- a block that is empty, or one whose labels are resolved
   empty_s : (empty : Bool) (name : ℕ) {r r' : Resolved} → name < n → (empty ≡ false → SimResolved m n r r')

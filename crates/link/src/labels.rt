@@ -47,7 +47,8 @@ const NOWHERE: Goes = Goes {
     other: BlockId(0),
 };
 
-// A function's labels in text order, and how many of them lead: those stand before its first operation and name block 0.
+// A function's labels in text order, and how many of them lead: those stand before its first operation, and name
+// block 0.
 #[derive(Clone, Copy)]
 pub struct Labels<'a> {
     pub names: &'a [u32],

@@ -21,7 +21,7 @@ pub struct Linked {
     pub predecessors: usize,
 }
 
-// How many successors a block has, and the two of them.
+// How many successors a block has, and the two of them, as its record holds them.
 #[derive(Clone, Copy)]
 pub struct Goes {
     pub count: u32,

@@ -7,6 +7,6 @@ use Rattle.messages.specs.Messages.{words, signed, shown, type_word, quoted, at_
 -- To unfold this is to unfold the whole definition.
 unfoldable pub opened : ℕ
 unfolding
-    lexing.opened tokens_of is_name name_in integer_in token_at name_of words signed shown type_word quoted at_token item_of fixed
-    text_of
+    lexing.opened tokens_of is_name name_in integer_in token_at name_of words signed shown type_word quoted at_token item_of
+    fixed text_of
 opened = 0

@@ -44,7 +44,11 @@ module _ (ts : List Tok) (names : List ℕ) (s₀ s : Slices) where
     unfolding alone_d then_function counts_from opened
     alone-end (function f) q a w h k =
         let v : r ≡ read_of f = same-read a in
-        rw (q, ← ap (λ (z : FunctionRead). token_at ts z.next) v, ← h, eq-eqb _ _ k) (ap (λ (z : FunctionRead). Ok z.counts) v, w)
+        rw (q, ← ap (λ (z : FunctionRead). token_at ts z.next) v, ← h, eq-eqb _ _ k) (
+          ap (λ
+              (z : FunctionRead). Ok z.counts) v,
+          w,
+        )
     alone-end (no_function e) q a w h k = absurd (let z : ◌≡◌ {A = ℕ} 0 1 = cc in omega arith)
 
     -- another global behind it

@@ -9,7 +9,8 @@ use lib.ListN.{get_or}
 use Rattle.utils.specs.Bytes.{pick}
 use Rattle.parser.specs.declared.Refusal.{Refusal}
 use Rattle.pieces.specs.declared.Identifier.{Identifier}
-use Rattle.sema.specs.Symbols.{Typed, typed, stop, then_end, then_typed, facts, no_name, looked_d, then_look, same_d, then_same}
+use Rattle.sema.specs.Symbols.{Typed, typed, stop, then_end, then_typed, facts, no_name, looked_d, then_look}
+use Rattle.sema.specs.Symbols.{same_d, then_same}
 
 -- a comparison that refused, whatever would follow it, and one that was fine
 module _ (t : List ℕ) (token found wanted : ℕ) (next : Typed) where

@@ -1,6 +1,6 @@
 // Calls: the callee, the result, then how many arguments, then which, then of which types.
 ghost use Rattle.std.specs.Prelude.{◌≡◌, ◌+◌, ◌*◌, ◌≤◌, length, get_or, ok_or, IfOk};
-ghost use Rattle.functions.specs.Columns.{ret_at, count_at, formals_at, IsRow, HasRows};
+ghost use Rattle.functions.specs.Columns.{ret_at, count_at, formals_at, IsRow};
 ghost use Rattle.functions.specs.Rows.{at_most16, types_at, row_from};
 ghost use Rattle.utils.specs.Limits.{most_formals};
 ghost use Rattle.sema.specs.Symbols.{typed, then_typed, enter_d, facts};
@@ -9,7 +9,7 @@ ghost use Rattle.body.specs.Records.{named};
 ghost use Rattle.sema.specs.Items.{variables_at};
 ghost use Rattle.sema.specs.Globals.{globals_in};
 
-use crate::{Arguments, symbols};
+use crate::{Arguments, Sema, symbols};
 use functions::{columns, known};
 use parser::{Refusal, VARIABLE_CELLS, types};
 use pieces::Identifier;
@@ -73,32 +73,6 @@ pub(crate) fn at_most_16(n: u32) -> u32
     n.min(limits::MOST_FORMALS)
 }
 
-// The arguments of a call of the function in row i.
-#[tactic(auto, using(crate::proofs::Turns::length_types, crate::proofs::Turns::length_variables), unfolding(crate::specs::Symbols::opened, crate::specs::Typing::type_arguments_d))]
-fn analyze_arguments(
-    table: &[u32],
-    token: usize,
-    rows: &[u32],
-    i: usize,
-    arguments: &[u32],
-    run: Arguments,
-) -> Result<(), Refusal>
-    requires { IsRow rows.now i }
-    ensures { typed table.now result ≡ type_arguments_d table.now token
-        (types_at rows.now (formals_at i) (at_most16 (get_or rows.now (count_at i) 0)))
-        (variables_at arguments.now run.first run.count) }
-{
-    let formals = at_most_16(rows[columns::COUNT + i * columns::ROW]);
-    let count = run.count;
-    if formals != count {
-        let none = Identifier(0);
-        return Err(symbols::refusal(numbers::OTHER_COUNT, token, formals, count, none));
-    }
-    look_arguments(table, token, arguments, run)?;
-    let formal = columns::FORMALS + i * columns::ROW;
-    compare_arguments(table, token, arguments, run, rows, formal)
-}
-
 // The result type of the function in row i.
 pub(crate) fn result_type(rows: &[u32], i: usize) -> u32
     requires { IsRow rows.now i }
@@ -107,83 +81,103 @@ pub(crate) fn result_type(rows: &[u32], i: usize) -> u32
     rows[columns::RESULT + i * columns::ROW]
 }
 
-// The row of the callee; 16 where no function has its name.
-fn find_callee(rows: &[u32], n: usize, token: usize, callee: Identifier) -> Result<usize, Refusal>
-    requires { HasRows rows.now n }
-    ensures value { result ≡ ok_or (row_from rows.now 0 n callee.0) (facts 16 token 0 0 callee) }
-    ensures row { IfOk result (IsRow rows.now) }
-{
-    let undefined = symbols::refusal(numbers::UNDEFINED, token, 0, 0, callee);
-    known::find_function(rows, n, callee).ok_or(undefined)
-}
-
-// A call whose result nobody takes.
-#[tactic(auto, unfolding(crate::specs::Symbols::opened, crate::specs::Typing::type_call_d, crate::specs::Typing::then_global))]
-pub fn analyze_call(
-    table: &[u32],
-    token: usize,
-    rows: &[u32],
-    n: usize,
-    callee: Identifier,
-    arguments: &[u32],
-    run: Arguments,
-) -> Result<(), Refusal>
-    requires { HasRows rows.now n }
-    ensures { typed table.now result
-        ≡ type_call_d table.now (globals_in rows.now n callee.0) token callee
-        (variables_at arguments.now run.first run.count) }
-{
-    let i = find_callee(rows, n, token, callee)?;
-    if result_type(rows, i) != types::VOID {
-        return Err(parser::refuse(numbers::NO_VALUE, token));
+impl<'a> Sema<'a> {
+    // The arguments of a call of the function in row i.
+    #[tactic(auto, using(crate::proofs::Turns::length_types, crate::proofs::Turns::length_variables), unfolding(crate::specs::Symbols::opened, crate::specs::Typing::type_arguments_d))]
+    fn analyze_arguments(
+        self,
+        table: &[u32],
+        token: usize,
+        i: usize,
+        run: Arguments,
+    ) -> Result<(), Refusal>
+        requires { IsRow self.rows.now i }
+        ensures { typed table.now result ≡ type_arguments_d table.now token
+            (types_at self.entry.rows.now (formals_at i) (at_most16 (get_or self.entry.rows.now (count_at i) 0)))
+            (variables_at self.entry.arguments.now run.first run.count) }
+    {
+        let formals = at_most_16(self.rows[columns::COUNT + i * columns::ROW]);
+        let count = run.count;
+        if formals != count {
+            let none = Identifier(0);
+            return Err(symbols::refusal(numbers::OTHER_COUNT, token, formals, count, none));
+        }
+        look_arguments(table, token, self.arguments, run)?;
+        let formal = columns::FORMALS + i * columns::ROW;
+        compare_arguments(table, token, self.arguments, run, self.rows, formal)
     }
-    analyze_arguments(table, token, rows, i, arguments, run)
-}
 
-// The result is entered before the arguments are looked up.
-#[tactic(auto, unfolding(crate::specs::Symbols::opened))]
-fn enter_result(
-    table: &mut [u32],
-    token: usize,
-    rows: &[u32],
-    i: usize,
-    res: Identifier,
-    ty: u32,
-    arguments: &[u32],
-    run: Arguments,
-) -> Result<(), Refusal>
-    requires { IsRow rows.now i }
-    ensures { typed table.new result ≡ then_typed (enter_d table.old token res ty)
-        (λ t. type_arguments_d t token
-        (types_at rows.now (formals_at i) (at_most16 (get_or rows.now (count_at i) 0)))
-        (variables_at arguments.now run.first run.count)) }
-{
-    symbols::insert(table, token, res, ty)?;
-    analyze_arguments(table, token, rows, i, arguments, run)
-}
-
-#[tactic(auto, unfolding(crate::specs::Symbols::opened, crate::specs::Typing::type_call_into_d, crate::specs::Typing::then_global))]
-pub fn analyze_call_into(
-    table: &mut [u32],
-    token: usize,
-    rows: &[u32],
-    n: usize,
-    res: Identifier,
-    ty: u32,
-    callee: Identifier,
-    arguments: &[u32],
-    run: Arguments,
-) -> Result<(), Refusal>
-    requires { HasRows rows.now n }
-    ensures { typed table.new result
-        ≡ type_call_into_d table.old (globals_in rows.now n callee.0) token res ty callee
-        (variables_at arguments.now run.first run.count) }
-{
-    let i = find_callee(rows, n, token, callee)?;
-    let ret = result_type(rows, i);
-    if ret == types::VOID {
-        return Err(parser::refuse(numbers::VOID_VALUE, token));
+    // The row of the callee; 16 where no function has its name.
+    fn find_callee(self, token: usize, callee: Identifier) -> Result<usize, Refusal>
+        ensures value { result
+            ≡ ok_or (row_from self.entry.rows.now 0 self.entry.functions callee.0) (facts 16 token 0 0 callee) }
+        ensures row { IfOk result (IsRow self.entry.rows.now) }
+    {
+        let undefined = symbols::refusal(numbers::UNDEFINED, token, 0, 0, callee);
+        known::find_function(self.rows, self.functions, callee).ok_or(undefined)
     }
-    symbols::expect_type(token, ty, ret)?;
-    enter_result(table, token, rows, i, res, ty, arguments, run)
+
+    // A call whose result nobody takes.
+    #[tactic(auto, unfolding(crate::specs::Symbols::opened, crate::specs::Typing::type_call_d, crate::specs::Typing::then_global))]
+    pub(crate) fn analyze_call(
+        self,
+        table: &[u32],
+        token: usize,
+        callee: Identifier,
+        run: Arguments,
+    ) -> Result<(), Refusal>
+        ensures { typed table.now result
+            ≡ type_call_d table.now (globals_in self.entry.rows.now self.entry.functions callee.0) token callee
+            (variables_at self.entry.arguments.now run.first run.count) }
+    {
+        let i = self.find_callee(token, callee)?;
+        if result_type(self.rows, i) != types::VOID {
+            return Err(parser::refuse(numbers::NO_VALUE, token));
+        }
+        self.analyze_arguments(table, token, i, run)
+    }
+
+    // The result is entered before the arguments are looked up.
+    #[tactic(auto, unfolding(crate::specs::Symbols::opened))]
+    fn enter_result(
+        self,
+        table: &mut [u32],
+        token: usize,
+        i: usize,
+        res: Identifier,
+        ty: u32,
+        run: Arguments,
+    ) -> Result<(), Refusal>
+        requires { IsRow self.rows.now i }
+        ensures { typed table.new result ≡ then_typed (enter_d table.old token res ty)
+            (λ t. type_arguments_d t token
+            (types_at self.entry.rows.now (formals_at i) (at_most16 (get_or self.entry.rows.now (count_at i) 0)))
+            (variables_at self.entry.arguments.now run.first run.count)) }
+    {
+        symbols::insert(table, token, res, ty)?;
+        self.analyze_arguments(table, token, i, run)
+    }
+
+    #[tactic(auto, unfolding(crate::specs::Symbols::opened, crate::specs::Typing::type_call_into_d, crate::specs::Typing::then_global))]
+    pub(crate) fn analyze_call_into(
+        self,
+        table: &mut [u32],
+        token: usize,
+        res: Identifier,
+        ty: u32,
+        callee: Identifier,
+        run: Arguments,
+    ) -> Result<(), Refusal>
+        ensures { typed table.new result
+            ≡ type_call_into_d table.old (globals_in self.entry.rows.now self.entry.functions callee.0) token res ty
+            callee (variables_at self.entry.arguments.now run.first run.count) }
+    {
+        let i = self.find_callee(token, callee)?;
+        let ret = result_type(self.rows, i);
+        if ret == types::VOID {
+            return Err(parser::refuse(numbers::VOID_VALUE, token));
+        }
+        symbols::expect_type(token, ty, ret)?;
+        self.enter_result(table, token, i, res, ty, run)
+    }
 }

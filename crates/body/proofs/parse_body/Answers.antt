@@ -70,7 +70,8 @@ returns-in_err-next c =
     let g = rw c.in_err-next.was at c.turn.ensures in
     let f = stop c.requires.first_bound.0 c.requires.first_bound.1 c.loop-next.invariant.0 c.loop-next.invariant.1
     c.in_err-next.field-0.0 c.loop-next.invariant.2 g in
-    let w = refused-read ts c.args.void c.args.at c.args.first c.args.used (function_body ts c.args.at) c.in_err-next.field-0.0
+    let w = refused-read ts c.args.void c.args.at c.args.first c.args.used
+    (function_body ts c.args.at) c.in_err-next.field-0.0
     c.args.items.now c.turn.new.items c.args.arguments.now c.turn.new.arguments
     c.args.labels.now c.turn.new.labels f in
     record { value = rw (p.1, p.2) w.0; held = w.1 }

@@ -1,7 +1,7 @@
 -- The items are only read, so each record is the one at entry; typing the calls that are left in the arguments as they
 -- are gives what typing all of them gives (`calls_turn`).
 use native.Mathlib.Omega.{arith}
-use Prim.Native.Nat.{◌+◌, ◌-◌}
+use Prim.Native.Nat.{◌+◌}
 use mathlib.Core.Path.{sym, ◌∙◌}
 use Rattle.elaborate.proofs.Turns.{calls_turn, calls_end}
 use Rattle.elaborate.proofs.elaborate_calls.Goals as goal

@@ -1,7 +1,7 @@
 -- A turn stores the record it read, with its types, at its own place, as `typed_items` does: so the items that are left,
 -- typed in the cells as they are, give the whole (`items_turn`).
 use native.Mathlib.Omega.{arith}
-use Prim.Native.Nat.{◌+◌, ◌-◌}
+use Prim.Native.Nat.{◌+◌}
 use mathlib.Core.Path.{sym, ◌∙◌}
 use Rattle.elaborate.specs.Types.{callee_of}
 use Rattle.elaborate.proofs.Turns.{items_turn, items_end}

@@ -1,7 +1,7 @@
 -- Typing the arguments that are left in the cells as they are gives what typing the whole run in the cells at entry
 -- gives (`run_turn`); cells past the end read as 0 and take no store, as in `typed_run`.
 use native.Mathlib.Omega.{arith}
-use Prim.Native.Nat.{◌+◌, ◌-◌}
+use Prim.Native.Nat.{◌+◌}
 use mathlib.Core.Path.{sym, ◌∙◌}
 use Rattle.elaborate.proofs.Turns.{run_turn, run_end}
 use Rattle.elaborate.proofs.type_run.Goals as goal

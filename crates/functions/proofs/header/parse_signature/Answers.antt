@@ -47,14 +47,28 @@ unfolding signature_d then_formals then_entered opened
 returns-in_err-ty c =
     let read = optional_formals (tokens_of c.args.tokens.now) c.args.at in
     let d = run-done read (sym c.in_ok-formals.was ∙ c.parse_optional_formals.ensures.value) in
-    let few : c.in_ok-formals.formals.count ≤ 16 = omega (arith, d.1, formals_few (tokens_of c.args.tokens.now) c.args.at) in
+    let few : c.in_ok-formals.formals.count ≤ 16 = omega (
+      arith,
+      d.1,
+      formals_few
+          (tokens_of c.args.tokens.now) c.args.at,
+    ) in
     let same = entered-same (tokens_of c.args.tokens.now) c.args.rows.now c.parse_optional_formals.new.rows
     c.args.n c.args.types c.args.token c.args.name read.list c.in_ok-result.result c.type_cell-ret.result
     c.in_ok-formals.formals.count c.in_ok-result.at2 c.parse_optional_formals.ensures.rows_after c.type_cell-ret.ensures
     d.1 few c.requires.0 c.requires.1 in
     let p = err_from_is_err_and c.from_residual-in_err-ty.result c.from_residual-in_err-ty.ensures.1 in
     record {
-      value = rw (p.1, p.2, d.0, ← c.parse_optional_type.ensures, c.in_ok-result.was, ← same, ← c.enter.ensures, c.in_err-ty.was) refl;
+      value = rw (
+        p.1,
+        p.2,
+        d.0,
+        ← c.parse_optional_type.ensures,
+        c.in_ok-result.was,
+        ← same,
+        ← c.enter.ensures,
+        c.in_err-ty.was,
+      ) refl;
       header_held = rw (
         d.0,
         ← c.parse_optional_type.ensures,
@@ -70,14 +84,33 @@ unfolding signature_d then_formals then_entered opened
 returns c =
     let read = optional_formals (tokens_of c.args.tokens.now) c.args.at in
     let d = run-done read (sym c.in_ok-formals.was ∙ c.parse_optional_formals.ensures.value) in
-    let few : c.in_ok-formals.formals.count ≤ 16 = omega (arith, d.1, formals_few (tokens_of c.args.tokens.now) c.args.at) in
+    let few : c.in_ok-formals.formals.count ≤ 16 = omega (
+      arith,
+      d.1,
+      formals_few
+          (tokens_of c.args.tokens.now) c.args.at,
+    ) in
     let same = entered-same (tokens_of c.args.tokens.now) c.args.rows.now c.parse_optional_formals.new.rows
     c.args.n c.args.types c.args.token c.args.name read.list c.in_ok-result.result c.type_cell-ret.result
     c.in_ok-formals.formals.count c.in_ok-result.at2 c.parse_optional_formals.ensures.rows_after c.type_cell-ret.ensures
     d.1 few c.requires.0 c.requires.1 in
     record {
-      value = rw (d.0, ← c.parse_optional_type.ensures, c.in_ok-result.was, ← same, ← c.enter.ensures, c.in_ok-ty.was) (rw
+      value = rw (
+        d.0,
+        ← c.parse_optional_type.ensures,
+        c.in_ok-result.was,
+        ← same,
+        ← c.enter.ensures,
+        c.in_ok-ty.was,
+      ) (rw
           (d.1, ← c.type_cell-ret.ensures));
-      header_held = rw (d.0, ← c.parse_optional_type.ensures, c.in_ok-result.was, ← same, ← c.enter.ensures, c.in_ok-ty.was)
+      header_held = rw (
+        d.0,
+        ← c.parse_optional_type.ensures,
+        c.in_ok-result.was,
+        ← same,
+        ← c.enter.ensures,
+        c.in_ok-ty.was,
+      )
           ((c.parse_optional_formals.ensures.rows_after, omega (arith, few, d.1), c.requires.0));
     }

@@ -17,7 +17,13 @@ unfolding keeps_behind then_formals opened
 returns-then-not-is_spelled c =
     let read = optional_formals (tokens_of c.args.tokens.now) c.args.at in
     let d = run-done read (sym c.in-Ok.is ∙ c.parse_optional_formals.ensures.value) in
-    rw (d.0, ← c.parse_optional_type.ensures, c.in-Ok-parse_optional_type.is, ← c.is_spelled.ensures, c.if-not-is_spelled.true)
+    rw (
+      d.0,
+      ← c.parse_optional_type.ensures,
+      c.in-Ok-parse_optional_type.is,
+      ← c.is_spelled.ensures,
+      c.if-not-is_spelled.true,
+    )
 
 pub same_type-requires : goal.same_type-requires
 same_type-requires c =
@@ -51,7 +57,8 @@ returns c =
     let few : c.in-Ok.formals.count ≤ 16 = omega (arith, d.1, formals_few (tokens_of c.args.tokens.now) c.args.at) in
     let same =
     copied_same c.args.local.now c.args.rows.now c.copy_row.new.out c.parse_optional_formals.new.rows c.args.i read.list
-    c.requires.1 c.copy_row.ensures c.parse_optional_formals.ensures.rows_after c.in-Ok-parse_optional_type.result c.type_cell.result
+    c.requires.1 c.copy_row.ensures c.parse_optional_formals.ensures.rows_after c.in-Ok-parse_optional_type.result
+    c.type_cell.result
     c.in-Ok.formals.count
     c.type_cell.ensures d.1 few in
     rw (

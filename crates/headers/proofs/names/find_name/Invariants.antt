@@ -1,13 +1,10 @@
--- What each turn of a loop keeps.
-use Prim.Native.Nat.{◌+◌}
+-- The names that are left, searched from here, give the whole answer.
+use Prim.Native.Nat.{◌-◌}
 use mathlib.Core.Path.{◌≡◌}
 use Rattle.headers.specs.Spelled.{row_name, name_spelled}
 use Rattle.headers.proofs.names.find_name.Given as goal
 
-abbrev pub invariant-loop-left : goal.invariant-loop-left
-invariant-loop-left l = (l.x + l.left ≡ l.count)
-    × (name_spelled l.new l.names l.x l.left (row_name l.old l.rows l.i) ≡ name_spelled l.new l.names 0 l.count
-    (row_name l.old l.rows l.i))
-
-abbrev pub decreases-loop-left : goal.decreases-loop-left
-decreases-loop-left l = l.left
+abbrev pub invariant-loop-x : goal.invariant-loop-x
+invariant-loop-x l =
+    name_spelled l.new l.names l.x (l.count - l.x) (row_name l.old l.rows l.i)
+    ≡ name_spelled l.new l.names 0 l.count (row_name l.old l.rows l.i)

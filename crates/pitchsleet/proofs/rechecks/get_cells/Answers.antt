@@ -1,6 +1,5 @@
 -- Storing the cells that are left from here on gives what storing all of them gives.
-use Prim.Native.Nat.{◌-◌}
-use mathlib.Core.Path.{◌≡◌, ◌∙◌}
+use mathlib.Core.Path.{◌∙◌}
 use native.Mathlib.Omega.{arith}
 use Rattle.pitchsleet.proofs.Tables.{cells-more, cells-none}
 use Rattle.pitchsleet.proofs.rechecks.get_cells.Goals as goal

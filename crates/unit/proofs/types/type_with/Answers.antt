@@ -2,7 +2,6 @@
 -- does.
 use Rattle.std.proofs.lemmas.Result.{err_from_is_err_and}
 use native.Mathlib.Omega.{arith}
-use Prim.Native.Nat.{◌-◌}
 use mathlib.Core.Path.{refl, ap, ◌∙◌}
 use Rattle.unit.specs.Rows.{Done}
 use Rattle.unit.proofs.Turns.{rows-refused, rows-fine, rows-ended, RowsHeld-refused}

@@ -11,12 +11,10 @@ use Prim.Native.Nat.{ℕ}
 use mathlib.Core.Path.{refl, ap, ◌∙◌}
 use mathlib.Core.List.{List}
 use lib.ListN.{get_or}
-use Rattle.sema.proofs.function.analyze_blocks.Goals as goal
+use Rattle.sema.proofs.Sema.analyze_blocks.Goals as goal
 
 pub analyze_remaining-requires : goal.analyze_remaining-requires
 analyze_remaining-requires c = (
-  c.requires.0,
-  c.requires.2,
   rw (c.new-work.ensures.order_after, length-sets) refl,
   rw c.new-work.ensures.value
       (blocks_most _),
@@ -24,12 +22,11 @@ analyze_remaining-requires c = (
 
 pub returns : goal.returns
 returns c =
-    let first = get_or c.args.rows.now (first_block_at c.args.row) 0 in
-    let count = get_or c.args.rows.now (block_count_at c.args.row) 0 in
+    let s = c.args.self in
+    let first = get_or s.rows.now (first_block_at c.args.row) 0 in
+    let count = get_or s.rows.now (block_count_at c.args.row) 0 in
+    let type = type_blocks_d (tokens_of s.tokens.now) (globals_in s.rows.now s.functions) s.ret c.args.table.now in
     let all = all-remaining c.args.blocks.now first count _ _ _ c.new-work.ensures.value
     c.new-work.ensures.order_after refl in
-    rw (← c.result_type-ret.ensures) (c.analyze_remaining.ensures
-    ∙ ap (λ (vs : List ℕ). type_blocks_d (tokens_of c.args.tokens.now) (globals_in c.args.rows.now c.args.n)
-    c.result_type-ret.result
-    c.args.table.now
-    (blocks_at c.args.items.now c.args.arguments.now c.args.blocks.now first vs)) all)
+    c.analyze_remaining.ensures
+    ∙ ap (λ (vs : List ℕ). type (blocks_at s.items.now s.arguments.now c.args.blocks.now first vs)) all
