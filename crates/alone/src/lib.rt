@@ -50,6 +50,7 @@ fn build<'t, 'c, 'a>(
     }
     let n = parse_alone(tokens, names, unit)?;
     let at = place_alone(unit.functions, old, rows, number, new, names, known, local);
+    // Lent before the call, each as `&mut`: the borrow checker covers no other form.
     let items = &mut *unit.items;
     let arguments = &mut *unit.arguments;
     let blocks = &mut *unit.blocks;

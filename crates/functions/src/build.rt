@@ -30,6 +30,7 @@ fn build_with<'a>(
     ensures same { SameSlices unit.old unit.new }
 {
     let first = n.items;
+    // Fields that go into one call are lent before it: the borrow checker covers no other form.
     let items = &mut *unit.items;
     let arguments = &mut *unit.arguments;
     let closed = body::parse_body(

@@ -17,7 +17,8 @@ ghost use Rattle.functions.specs.Known.{types_after};
 ghost use Rattle.functions.specs.Functions.{function_d, program_d};
 ghost use Rattle.functions.specs.Rows.{known_from};
 ghost use Rattle.functions.specs.Laid.{AllFit};
-ghost use Rattle.functions.specs.Answer.{Room, LongSlices, SameSlices, held, function_read, FunctionHeld, program_read, Held};
+ghost use Rattle.functions.specs.Answer.{Room, LongSlices, SameSlices, held};
+ghost use Rattle.functions.specs.Answer.{function_read, FunctionHeld, program_read, Held};
 
 use parser::{Refusal, types};
 use pieces::{Identifier, kinds};

@@ -27,6 +27,7 @@ pub fn unit<'a>(tokens: &[u32], names: &[u32], unit: &mut UnitSlices<'a>) -> Res
 {
     let n = functions::parse(tokens, names, unit)?;
     let all = n.functions;
+    // Fields that go into one call are lent before it, each as `&mut`: the borrow checker covers no other form.
     let rows = &mut *unit.functions;
     let items = &mut *unit.items;
     let arguments = &mut *unit.arguments;

@@ -20,7 +20,8 @@ keeps-requires c =
 pub returns-then-not-keeps : goal.returns-then-not-keeps
 returns-then-not-keeps c =
     let w = header_changed c.args.old.now c.args.rows.now c.args.number c.args.new.now (tokens_of c.args.tokens.now)
-    c.args.names.now c.args.unit.now.functions.now c.args.unit.now.items.now c.args.unit.now.arguments.now c.args.unit.now.blocks.now
+    c.args.names.now c.args.unit.now.functions.now c.args.unit.now.items.now c.args.unit.now.arguments.now
+    c.args.unit.now.blocks.now
     c.args.unit.now.predecessors.now
     c.refuse.result c.refuse.ensures (sym c.keeps.ensures ∙ c.if-not-keeps.true) _ in
     record { value = w.0; verdict_held = w.1.0; counted = w.1.1; same = search rules }
@@ -45,10 +46,12 @@ type_rows-requires c =
     let room : 2881 ≤ length c.keeps.new.local =
     omega (arith, c.requires.5, c.keeps.auto.local) in
     typing_asks c.args.old.now c.args.rows.now c.args.number c.args.new.now (tokens_of c.args.tokens.now)
-    c.args.names.now c.args.unit.now.functions.now c.args.unit.now.items.now c.args.unit.now.arguments.now c.args.unit.now.blocks.now
+    c.args.names.now c.args.unit.now.functions.now c.args.unit.now.items.now c.args.unit.now.arguments.now
+    c.args.unit.now.blocks.now
     c.args.unit.now.predecessors.now
     kept c.requires.0 c.args.known c.requires.1 c.requires.3 c.requires.4 c.in_ok-n.n
-    c.parse_alone.new.unit.functions.now c.parse_alone.new.unit.items.now c.parse_alone.new.unit.arguments.now c.parse_alone.new.unit.blocks.now
+    c.parse_alone.new.unit.functions.now c.parse_alone.new.unit.items.now c.parse_alone.new.unit.arguments.now
+    c.parse_alone.new.unit.blocks.now
     c.parse_alone.new.unit.predecessors.now parsed
     c.keeps.new.local c.place_alone-at.new.local c.place_alone-at.new.functions c.place_alone-at.result room
     c.place_alone-at.ensures (omega (arith, room, c.place_alone-at.auto.local))
@@ -57,7 +60,8 @@ pub returns-in_err-n : goal.returns-in_err-n
 returns-in_err-n c =
     let kept = sym c.keeps.ensures ∙ c.if-not-keeps.false in
     let w = parse_refused c.args.old.now c.args.rows.now c.args.number c.args.new.now (tokens_of c.args.tokens.now)
-    c.args.names.now c.args.unit.now.functions.now c.args.unit.now.items.now c.args.unit.now.arguments.now c.args.unit.now.blocks.now
+    c.args.names.now c.args.unit.now.functions.now c.args.unit.now.items.now c.args.unit.now.arguments.now
+    c.args.unit.now.blocks.now
     c.args.unit.now.predecessors.now
     kept _ (sym c.in_err-n.was ∙ c.parse_alone.ensures.value) _ in
     let p = err_from_is_err_and c.from_residual.result c.from_residual.ensures.1 in
@@ -74,10 +78,12 @@ returns-in_err-type_rows c =
     let room : 2881 ≤ length c.keeps.new.local =
     omega (arith, c.requires.5, c.keeps.auto.local) in
     let w = types-refused c.args.old.now c.args.rows.now c.args.number c.args.new.now (tokens_of c.args.tokens.now)
-    c.args.names.now c.args.unit.now.functions.now c.args.unit.now.items.now c.args.unit.now.arguments.now c.args.unit.now.blocks.now
+    c.args.names.now c.args.unit.now.functions.now c.args.unit.now.items.now c.args.unit.now.arguments.now
+    c.args.unit.now.blocks.now
     c.args.unit.now.predecessors.now
     kept c.requires.0 c.args.known c.requires.1 c.requires.3 c.requires.4 c.in_ok-n.n
-    c.parse_alone.new.unit.functions.now c.parse_alone.new.unit.items.now c.parse_alone.new.unit.arguments.now c.parse_alone.new.unit.blocks.now
+    c.parse_alone.new.unit.functions.now c.parse_alone.new.unit.items.now c.parse_alone.new.unit.arguments.now
+    c.parse_alone.new.unit.blocks.now
     c.parse_alone.new.unit.predecessors.now parsed
     c.keeps.new.local c.place_alone-at.new.local c.place_alone-at.new.functions c.place_alone-at.result room
     c.place_alone-at.ensures
@@ -97,10 +103,12 @@ returns c =
     let room : 2881 ≤ length c.keeps.new.local =
     omega (arith, c.requires.5, c.keeps.auto.local) in
     let w = types-fine c.args.old.now c.args.rows.now c.args.number c.args.new.now (tokens_of c.args.tokens.now)
-    c.args.names.now c.args.unit.now.functions.now c.args.unit.now.items.now c.args.unit.now.arguments.now c.args.unit.now.blocks.now
+    c.args.names.now c.args.unit.now.functions.now c.args.unit.now.items.now c.args.unit.now.arguments.now
+    c.args.unit.now.blocks.now
     c.args.unit.now.predecessors.now
     kept c.requires.0 c.args.known c.requires.1 c.requires.3 c.requires.4 c.in_ok-n.n
-    c.parse_alone.new.unit.functions.now c.parse_alone.new.unit.items.now c.parse_alone.new.unit.arguments.now c.parse_alone.new.unit.blocks.now
+    c.parse_alone.new.unit.functions.now c.parse_alone.new.unit.items.now c.parse_alone.new.unit.arguments.now
+    c.parse_alone.new.unit.blocks.now
     c.parse_alone.new.unit.predecessors.now parsed
     c.keeps.new.local c.place_alone-at.new.local c.place_alone-at.new.functions c.place_alone-at.result room
     c.place_alone-at.ensures

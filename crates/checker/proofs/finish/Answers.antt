@@ -14,7 +14,8 @@ returns-clause-finishes c =
       names = c.clear_from-2.ensures;
       unit =
           same-slices
-          (c.clear_from-3.ensures ∙ ap (λ (k : ℕ). pad_to (length c.args.unit.now.functions.now) (take k c.args.unit.now.functions.now))
+          (c.clear_from-3.ensures ∙ ap (λ (k : ℕ). pad_to (length c.args.unit.now.functions.now)
+          (take k c.args.unit.now.functions.now))
           c.rows_used.ensures)
           c.clear_from-4.ensures c.clear_from-5.ensures c.clear_from-6.ensures c.clear_from-7.ensures;
     }

@@ -15,9 +15,11 @@ parse_header-requires c =
 
 pub build-requires : goal.build-requires
 build-requires c = (
-  inner_room (tokens_of c.args.tokens.now) c.args.names.now c.args.at c.args.types c.args.n c.args.unit.now.functions.now
+  inner_room (tokens_of c.args.tokens.now) c.args.names.now c.args.at c.args.types c.args.n
+      c.args.unit.now.functions.now
       c.in_ok-h.h (sym c.in_ok-h.was ∙ c.parse_header.ensures.value) c.requires.0,
-  inner-behind (tokens_of c.args.tokens.now) c.args.names.now c.args.at c.args.types c.args.n c.args.unit.now.functions.now
+  inner-behind (tokens_of c.args.tokens.now) c.args.names.now c.args.at c.args.types c.args.n
+      c.args.unit.now.functions.now
       c.in_ok-h.h (sym c.in_ok-h.was ∙ c.parse_header.ensures.value) c.requires.0,
   c.requires.4,
 )
@@ -47,7 +49,8 @@ types_after-requires c =
 
 pub counts_after-requires : goal.counts_after-requires
 counts_after-requires c =
-    counts-fit (tokens_of c.args.tokens.now) c.args.names.now c.args.at c.args.types c.args.n c.args.unit.now.functions.now
+    counts-fit (tokens_of c.args.tokens.now) c.args.names.now c.args.at c.args.types c.args.n
+    c.args.unit.now.functions.now
     c.in_ok-h.h (sym c.in_ok-h.was ∙ c.parse_header.ensures.value) c.requires.0 _ c.parse_header.ensures.header_held
     c.in_ok-b.b (sym c.in_ok-b.was ∙ c.build.ensures.value) c.args.unit.now.items.now _ c.args.unit.now.arguments.now _
     c.args.unit.now.blocks.now _ c.args.unit.now.predecessors.now _ c.build.ensures.build_held c.requires.3
@@ -94,7 +97,8 @@ returns-clause-value c =
     c.args.unit.now.functions.now
     c.in_ok-h.h (sym c.in_ok-h.was ∙ c.parse_header.ensures.value) c.requires.0 _ c.parse_header.ensures.header_held
     c.in_ok-b.b (sym c.in_ok-b.was ∙ c.build.ensures.value) c.args.unit.now.items.now _ c.args.unit.now.arguments.now _
-    c.args.unit.now.blocks.now _ c.args.unit.now.predecessors.now _ c.build.ensures.build_held c.requires.3 _ (rw c.build.ensures.functions at c.put_row.ensures) _ _
+    c.args.unit.now.blocks.now _ c.args.unit.now.predecessors.now _ c.build.ensures.build_held c.requires.3 _
+    (rw c.build.ensures.functions at c.put_row.ensures) _ _
     c.types_after.ensures c.counts_after.ensures
 
 pub returns-clause-function_held : goal.returns-clause-function_held
@@ -103,4 +107,5 @@ returns-clause-function_held c =
     c.args.unit.now.functions.now
     c.in_ok-h.h (sym c.in_ok-h.was ∙ c.parse_header.ensures.value) c.requires.0 _ c.parse_header.ensures.header_held
     c.in_ok-b.b (sym c.in_ok-b.was ∙ c.build.ensures.value) c.args.unit.now.items.now _ c.args.unit.now.arguments.now _
-    c.args.unit.now.blocks.now _ c.args.unit.now.predecessors.now _ c.build.ensures.build_held c.requires.3 _ (rw c.build.ensures.functions at c.put_row.ensures)
+    c.args.unit.now.blocks.now _ c.args.unit.now.predecessors.now _ c.build.ensures.build_held c.requires.3 _
+    (rw c.build.ensures.functions at c.put_row.ensures)

@@ -19,8 +19,10 @@ returns-then-fits c =
     (works o a.message.now a.tokens.now a.names.now u c.fits_unit-unit.result c.fits.result
     c.fits_unit-unit.ensures.0 c.fits.ensures.0 c.if-fits.true _ _ _ _ _
     (finished o a.message.now a.tokens.now a.names.now u c.recheck_into-r.result _ _ _ _ _ _ _ _
-    (silent a.old.now a.table.now a.number a.new.now) c.recheck_into-r.ensures.checks kept.message kept.tokens kept.names
-    (same-long (held c.recheck_into-r.new.unit) u same.functions_long same.items_long same.arguments_long same.blocks_long
+    (silent a.old.now a.table.now a.number a.new.now) c.recheck_into-r.ensures.checks kept.message kept.tokens
+    kept.names
+    (same-long (held c.recheck_into-r.new.unit) u same.functions_long same.items_long same.arguments_long
+    same.blocks_long
     same.predecessors_long)
     c.finish.ensures.finishes))
     (search rules) (search rules) (search rules) (search rules) (search rules)

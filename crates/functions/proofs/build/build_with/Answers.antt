@@ -22,7 +22,8 @@ link-requires c =
     ready (tokens_of c.args.tokens.now) c.args.void c.args.name c.args.at c.args.n c.args.unit.now.items.now _
     c.args.unit.now.arguments.now _ _ _
     c.in_ok-closed.closed (sym c.in_ok-closed.was ∙ c.parse_body.ensures.value) c.parse_body.ensures.held c.requires.0 c.requires.1
-    c.args.unit.now.blocks.now c.args.unit.now.predecessors.now c.requires.3 (omega (arith, c.requires.2, c.parse_body.auto.labels))
+    c.args.unit.now.blocks.now c.args.unit.now.predecessors.now c.requires.3
+    (omega (arith, c.requires.2, c.parse_body.auto.labels))
 
 pub returns-in_err-closed-clause-value : goal.returns-in_err-closed-clause-value
 returns-in_err-closed-clause-value c =
@@ -52,7 +53,8 @@ returns-in_err-linked-clause-value c =
           c.args.unit.now.arguments.now _ _ _
           c.in_ok-closed.closed (sym c.in_ok-closed.was ∙ c.parse_body.ensures.value) c.parse_body.ensures.held c.requires.0
           c.requires.1
-          c.args.unit.now.blocks.now c.args.unit.now.predecessors.now c.requires.3 (omega (arith, c.requires.2, c.parse_body.auto.labels))
+          c.args.unit.now.blocks.now c.args.unit.now.predecessors.now c.requires.3
+          (omega (arith, c.requires.2, c.parse_body.auto.labels))
           c.in_err-linked.field-0.0 (sym c.in_err-linked.was ∙ c.link.ensures.value),
     ) refl
 
@@ -63,7 +65,8 @@ returns-in_err-linked-clause-build_held c =
     c.args.unit.now.arguments.now _ _ _
     c.in_ok-closed.closed (sym c.in_ok-closed.was ∙ c.parse_body.ensures.value) c.parse_body.ensures.held c.requires.0
     c.requires.1
-    c.args.unit.now.blocks.now c.args.unit.now.predecessors.now c.requires.3 (omega (arith, c.requires.2, c.parse_body.auto.labels))
+    c.args.unit.now.blocks.now c.args.unit.now.predecessors.now c.requires.3
+    (omega (arith, c.requires.2, c.parse_body.auto.labels))
     c.in_err-linked.field-0.0 (sym c.in_err-linked.was ∙ c.link.ensures.value)) tt
 
 pub returns-clause-value : goal.returns-clause-value
