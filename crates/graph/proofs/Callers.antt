@@ -1,7 +1,7 @@
 -- For callers: what the arrays hold that `new` and `met_blocks` fill, what `pop` hands out, and what `is_met` says. A
 -- list stored from the front of an array that is long enough is read back.
 use Prim.Native.Nat.{ℕ, ◌+◌, ◌≤◌, ◌<◌}
-use mathlib.Core.Path.{◌≡◌, refl, sym, ◌∙◌}
+use mathlib.Core.Path.{◌≡◌, refl, sym, ap, ◌∙◌}
 use mathlib.Core.Bool.{Bool, true, false}
 use mathlib.Core.List.{List, [], ◌∷◌}
 use native.Mathlib.Omega.{arith}
@@ -15,7 +15,7 @@ use Rattle.utils.specs.Bytes.{pick}
 use Rattle.graph.specs.Walk.{walked, met_blocks, block_order}
 use Rattle.graph.specs.Records.{at_most256}
 use Rattle.graph.specs.Reach.{PathFrom}
-use Rattle.graph.specs.Worklist.{worklist, remaining, popped, after_pop, flagged}
+use Rattle.graph.specs.Worklist.{worklist, remaining, popped, flagged}
 use Rattle.graph.specs.declared.BlockId.{BlockId}
 use Rattle.graph.specs.declared.RPOWorklist.{RPOWorklist}
 use Rattle.std.specs.Prelude.{Option, Some, None}
@@ -49,13 +49,9 @@ new-remaining g n out h =
     rw (sets-eq (block_order g n) out 0 (omega arith)) (take_at (block_order g n) behind n l)
 
 module _ (order : List ℕ) (k n : ℕ) (few : n ≤ 256) (long : n ≤ length order) where
-  next : k < n → popped order (worklist k n) ≡ Some (record { 0 = get_or order k 0 })
+  next : k < n → popped order (worklist k n) ≡ Some (record { 0 = get_or order k 0 }, worklist (k + 1) n)
   unfolding popped pick
   next h = rw (lt-ltb k n h, lt-ltb k 256 (omega arith))
-
-  after : k < n → after_pop (worklist k n) ≡ worklist (k + 1) n
-  unfolding after_pop pick
-  after h = rw (lt-ltb k n h, lt-ltb k 256 (omega arith))
 
   none : n ≤ k → popped order (worklist k n) ≡ None
   unfolding popped pick
@@ -67,16 +63,17 @@ module _ (order : List ℕ) (k n : ℕ) (few : n ≤ 256) (long : n ≤ length o
       (remaining order (worklist k n) ≡ b.0 ∷ remaining order (worklist (k + 1) n))
       × (w ≡ worklist (k + 1) n) × (k < n)
 
-  pub popped-block : (b : BlockId) (w : RPOWorklist) → popped order (worklist k n) ≡ Some b
-      → w ≡ after_pop (worklist k n) → Next b w
-  popped-block b w e f = by (dec_lt k n)
+  pub popped-block : (b : BlockId) (w : RPOWorklist) → popped order (worklist k n) ≡ Some (b, w) → Next b w
+  popped-block b w e = by (dec_lt k n)
     where
       by : Dec (k < n) → Next b w
       by (yes h) =
-          let q : ◌≡◌ {A = Option BlockId} (Some (record { 0 = get_or order k 0 })) (Some b) = sym (next h) ∙ e in
-          let x : get_or order k 0 ≡ b.0 = cc in
-          (rw (add-one k, slice-cons k n order 0 h long, x) refl, f ∙ after h, h)
-      by (no g) = let z : ◌≡◌ {A = ℕ} 0 1 = cc (none (omega arith)) in absurd (omega arith)
+          let q : ◌≡◌ {A = Option (BlockId × RPOWorklist)} (Some (record { 0 = get_or order k 0 }, worklist (k + 1) n))
+          (Some (b, w)) = sym (next h) ∙ e in
+          let both : ◌≡◌ {A = BlockId × RPOWorklist} (record { 0 = get_or order k 0 }, worklist (k + 1) n) (b, w) = cc in
+          let x : get_or order k 0 ≡ b.0 = ap (λ (p : BlockId × RPOWorklist). p.0.0) both in
+          (rw (add-one k, slice-cons k n order 0 h long, x) refl, sym (ap (λ (p : BlockId × RPOWorklist). p.1) both), h)
+      by (no f) = let z : ◌≡◌ {A = ℕ} 0 1 = cc (none (omega arith)) in absurd (omega arith)
 
   -- The worklist is empty once every block was handed out.
   pub popped_empty : popped order (worklist k n) ≡ None → remaining order (worklist k n) ≡ []

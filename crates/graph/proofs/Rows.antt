@@ -1,11 +1,11 @@
 -- Why the rows hold what the records say: a row is stored with its count, and the rows stored before stay. A row has
 -- two successors at most.
-use Prim.Native.Nat.{ℕ, zero, suc, ◌+◌, ◌≤◌, ◌<◌}
+use Prim.Native.Nat.{ℕ, zero, suc, ◌≤◌, ◌<◌}
 use mathlib.Core.Path.{◌≡◌, refl}
 use mathlib.Core.List.{List, [], ◌∷◌}
 use native.Mathlib.Omega.{arith}
 use lib.ListN.{length, get_or}
-use Rattle.graph.specs.Records.{block_at, counted, recorded, row_of, Loaded}
+use Rattle.graph.specs.Records.{counted, recorded, row_of, Loaded}
 
 -- The rows have the records' successors.
 pub loaded_row : (cells : List ℕ) (first n : ℕ) (rows₀ rows : List (List ℕ)) (counts₀ counts : List ℕ)
@@ -17,10 +17,9 @@ counted-short zero a b = omega arith
 counted-short (suc zero) a b = omega arith
 counted-short (suc (suc k)) a b = omega arith
 
-pub recorded-short : (cells : List ℕ) (first v : ℕ) → length (recorded cells first v) ≤ 2
-recorded-short cells first v =
-    let b = block_at cells (first + v) in
-    counted-short b.successors b.to.0 b.other.0
+pub row-short : (rows : List (List ℕ)) (counts : List ℕ) (v : ℕ) → length (row_of rows counts v) ≤ 2
+row-short rows counts v =
+    counted-short (get_or counts v 0) (get_or (get_or rows v []) 0 0) (get_or (get_or rows v []) 1 0)
 
 -- a list of two at most, by its length and its first two
 pub counted_is : (s : List ℕ) → length s ≤ 2 → counted (length s) (get_or s 0 0) (get_or s 1 0) ≡ s

@@ -1,6 +1,6 @@
 -- How the code walks without recursion: the Rust's `processing`, a stack of things still to do. Definitions of the
 -- contracts within the crate.
-use Rattle.std.specs.Prelude.{ℕ, zero, suc, ◌+◌, ◌-◌, ◌*◌, ◌≤◌, ◌<◌, ◌≡◌, List, [], ◌∷◌, eqb, ltb, length, get_or, set, take, drop}
+use Rattle.std.specs.Prelude.{ℕ, zero, suc, ◌+◌, ◌-◌, ◌*◌, ◌≤◌, ◌<◌, ◌≡◌, List, [], ◌∷◌, eqb, ltb, length, get_or, set, take, drop, replicate}
 use Rattle.utils.specs.Bytes.{pick}
 use Rattle.graph.specs.Walk.{Walk, walk_from, leave}
 use Rattle.graph.specs.declared.walk.State.{State}
@@ -29,6 +29,10 @@ waiting (flag ∷ flags) = pick (eqb flag 0) 1 0 + waiting flags
 -- What the code has in hand: the flags, the blocks left, from `at` on, and the first `top` entries of the stack.
 abbrev pub state : List ℕ → List ℕ → List ℕ → ℕ → ℕ → State
 state met left entries top at = record { met = met; left = left; entries = entries; top = top; at = at }
+
+-- before the walk
+abbrev pub unbegun : State
+unbegun = state (replicate 256 0) (replicate 256 0) (replicate 513 0) 0 256
 
 -- A push changes the stack alone.
 pub record SameWalk (a a' : State) : Type 0 where

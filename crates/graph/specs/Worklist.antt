@@ -15,17 +15,11 @@ worklist taken blocks = record { taken = taken; blocks = blocks }
 abbrev pub remaining : List ℕ → RPOWorklist → List ℕ
 remaining order w = slice w.taken w.blocks order
 
--- The next block of an order, where there is one; an order has at most 256.
-unfoldable pub popped : List ℕ → RPOWorklist → Option BlockId
+-- The next block of an order, where there is one, and the worklist after it; an order has at most 256.
+unfoldable pub popped : List ℕ → RPOWorklist → Option (BlockId × RPOWorklist)
 popped order w =
-    let next = Some (record { 0 = get_or order w.taken 0 }) in
+    let next = Some (record { 0 = get_or order w.taken 0 }, worklist (w.taken + 1) w.blocks) in
     pick (ltb w.taken w.blocks) (pick (ltb w.taken most_blocks) next None) None
-
--- The worklist once that block was taken.
-unfoldable pub after_pop : RPOWorklist → RPOWorklist
-after_pop w =
-    let next = worklist (w.taken + 1) w.blocks in
-    pick (ltb w.taken w.blocks) (pick (ltb w.taken most_blocks) next w) w
 
 -- Whether block v's flag is set; there are at most 256.
 unfoldable pub flagged : List ℕ → ℕ → Bool

@@ -14,7 +14,7 @@ ghost use Rattle.std.specs.Prelude.{◌≡◌};
 ghost use Rattle.std.proofs.lemmas.List.Edits.{sets};
 ghost use Rattle.graph.specs.Walk.{met_blocks, block_order};
 ghost use Rattle.graph.specs.Records.{recorded, at_most256};
-ghost use Rattle.graph.specs.Worklist.{worklist, popped, after_pop, flagged};
+ghost use Rattle.graph.specs.Worklist.{worklist, popped, flagged};
 
 use utils::limits;
 
@@ -41,7 +41,7 @@ pub struct BlockRecord {
 }
 
 // The Rust's worklist once every block was pushed. The order stands in an array of the caller's; the worklist says how
-// many of its blocks were taken.
+// many of its blocks were taken, and goes in and comes back by value.
 #[derive(Clone, Copy)]
 pub struct RPOWorklist {
     pub taken: u32,
@@ -61,7 +61,8 @@ impl RPOWorklist {
             ≡ sets order.old 0 (block_order (recorded blocks.now first) (at_most256 count)) }
     {
         let n = successors::at_most_256(count);
-        let state = walk::walk(blocks, first, n);
+        let mut state = walk::State::new();
+        state.walk(blocks, first, n);
         let placed = place::put_left(&state.left, state.at, order);
         place::put_unmet(&state.met, n, order, placed);
         RPOWorklist {
@@ -70,18 +71,20 @@ impl RPOWorklist {
         }
     }
 
-    // The next block.
-    #[tactic(auto, unfolding(crate::specs::Worklist::popped, crate::specs::Worklist::after_pop, utils::specs::Bytes::pick))]
-    pub fn pop(&mut self, order: &[u32; limits::BLOCKS]) -> Option<BlockId>
-        ensures value { result ≡ popped order.now self.old }
-        ensures worklist_after { self.new ≡ after_pop self.old }
+    // The next block, and the worklist after it.
+    #[tactic(auto, unfolding(crate::specs::Worklist::popped, utils::specs::Bytes::pick))]
+    pub fn pop(self, order: &[u32; limits::BLOCKS]) -> Option<(BlockId, RPOWorklist)>
+        ensures value { result ≡ popped order.now self }
     {
         if self.blocks <= self.taken {
             return None;
         }
         let block = *order.get(self.taken as usize)?;
-        self.taken += 1;
-        Some(BlockId(block))
+        let rest = RPOWorklist {
+            taken: self.taken + 1,
+            blocks: self.blocks,
+        };
+        Some((BlockId(block), rest))
     }
 }
 
@@ -91,7 +94,8 @@ pub fn met_blocks(blocks: &[u32], first: u32, count: u32, met: &mut [u8; limits:
         ≡ sets met.old 0 (met_blocks (recorded blocks.now first) (at_most256 count)) }
 {
     let n = successors::at_most_256(count);
-    let state = walk::walk(blocks, first, n);
+    let mut state = walk::State::new();
+    state.walk(blocks, first, n);
     place::put_flags(&state.met, n, met);
 }
 

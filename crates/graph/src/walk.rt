@@ -3,11 +3,11 @@
 ghost use Rattle.std.specs.Prelude.{◌≡◌, ◌+◌, ◌<◌, ◌≤◌};
 ghost use Rattle.utils.specs.Limits.{most_blocks};
 ghost use Rattle.graph.specs.Walk.{walked};
-ghost use Rattle.graph.specs.Records.{recorded};
-ghost use Rattle.graph.specs.Frames.{stack, push_one, push_all, Ready, Turned, Holds, SameWalk};
+ghost use Rattle.graph.specs.Records.{recorded, row_of};
+ghost use Rattle.graph.specs.Frames.{stack, push_one, push_all, Ready, Turned, Holds, SameWalk, unbegun};
 
 use crate::BlockId;
-use crate::blocks::block_at;
+use crate::successors::load;
 use utils::limits;
 
 // More than any block's number.
@@ -28,6 +28,19 @@ pub struct State {
 }
 
 impl State {
+    // Before the walk: no block is met, and nothing is to be done.
+    pub fn new() -> State
+        ensures { result ≡ unbegun }
+    {
+        State {
+            met: [0; limits::BLOCKS],
+            left: [0; limits::BLOCKS],
+            entries: [0; ENTRIES],
+            top: 0,
+            at: limits::BLOCKS,
+        }
+    }
+
     // A block goes on the stack, if it is one of the n.
     #[tactic(auto, unfolding(crate::specs::Frames::push_one, utils::specs::Bytes::pick))]
     fn push(&mut self, n: u32, block: BlockId)
@@ -45,26 +58,33 @@ impl State {
 
     // A block's successors go on the stack, the last on top.
     #[tactic(auto, using(crate::proofs::Rows::counted_two))]
-    fn push_successors(&mut self, blocks: &[u32], first: u32, n: u32, block: BlockId)
+    fn push_successors(
+        &mut self,
+        succs: &[[u32; 2]; limits::BLOCKS],
+        counts: &[u32; limits::BLOCKS],
+        n: u32,
+        block: BlockId,
+    )
         requires { (block.0 < most_blocks) × (self.old.top + 2 ≤ 513) }
         ensures result_after { stack self.new.entries self.new.top
-            ≡ push_all n (recorded blocks.now first block.0) (stack self.old.entries self.old.top) }
+            ≡ push_all n (row_of succs.now counts.now block.0) (stack self.old.entries self.old.top) }
         ensures others { SameWalk self.old self.new }
     {
-        let b = block_at(blocks, first as usize + block.0 as usize);
-        if b.successors == 0 {
+        let i = block.0 as usize;
+        let count = counts[i];
+        if count == 0 {
             return;
         }
-        self.push(n, b.to);
-        if b.successors != 1 {
-            self.push(n, b.other);
+        self.push(n, BlockId(succs[i][0]));
+        if count != 1 {
+            self.push(n, BlockId(succs[i][1]));
         }
     }
 
     // One turn of the Rust's loop.
-    fn turn(&mut self, blocks: &[u32], first: u32, n: u32)
+    fn turn(&mut self, succs: &[[u32; 2]; limits::BLOCKS], counts: &[u32; limits::BLOCKS], n: u32)
         requires { Ready n self.old × (0 < self.old.top) }
-        ensures { Turned (recorded blocks.now first) n self.old self.new }
+        ensures { Turned (row_of succs.now counts.now) n self.old self.new }
     {
         let top = self.top - 1;
         let current = self.entries[top];
@@ -81,26 +101,20 @@ impl State {
         }
         self.met[block] = 1;
         self.entries[top] = current + LEAVE;
-        self.push_successors(blocks, first, n, BlockId(current));
+        self.push_successors(succs, counts, n, BlockId(current));
     }
-}
 
-// The walk from block 0: flags, and the blocks left, at the end of their array.
-pub fn walk(blocks: &[u32], first: u32, n: u32) -> State
-    requires { n ≤ most_blocks }
-    ensures { Holds (walked (recorded blocks.now first) n) n
-        result.met result.left result.at }
-{
-    let mut state = State {
-        met: [0; limits::BLOCKS],
-        left: [0; limits::BLOCKS],
-        entries: [0; ENTRIES],
-        top: 0,
-        at: limits::BLOCKS,
-    };
-    state.push(n, BlockId(0));
-    while 0 < state.top {
-        state.turn(blocks, first, n);
+    // The walk from block 0, in place: flags, and the blocks left, at the end of their array.
+    pub fn walk(&mut self, blocks: &[u32], first: u32, n: u32)
+        requires { (n ≤ most_blocks) × (self.old ≡ unbegun) }
+        ensures { Holds (walked (recorded blocks.now first) n) n self.new.met self.new.left self.new.at }
+    {
+        let mut succs = [[0u32; 2]; limits::BLOCKS];
+        let mut counts = [0u32; limits::BLOCKS];
+        load(blocks, first, n, &mut succs, &mut counts);
+        self.push(n, BlockId(0));
+        while 0 < self.top {
+            self.turn(&succs, &counts, n);
+        }
     }
-    state
 }

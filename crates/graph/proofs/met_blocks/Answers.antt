@@ -11,6 +11,6 @@ use Rattle.graph.proofs.met_blocks.Goals as goal
 pub returns : goal.returns
 returns c =
     let g : ℕ → List ℕ = recorded c.args.blocks.now c.args.first in
-    flags_placed g c.at_most_256-n.result c.walk-state.result.met c.walk-state.result.left c.walk-state.result.at
-    c.walk-state.ensures c.args.met.now c.put_flags.new.out c.put_flags.ensures
+    flags_placed g c.at_most_256-n.result c.walk.new.self.met c.walk.new.self.left c.walk.new.self.at
+    c.walk.ensures c.args.met.now c.put_flags.new.out c.put_flags.ensures
     ∙ ap (λ (k : ℕ). sets c.args.met.now 0 (met_blocks g k)) c.at_most_256-n.ensures.0

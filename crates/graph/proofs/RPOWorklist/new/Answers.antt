@@ -12,10 +12,10 @@ use Rattle.graph.proofs.RPOWorklist.new.Goals as goal
 pub put_unmet-requires : goal.put_unmet-requires
 put_unmet-requires c =
     let g : ℕ → List ℕ = recorded c.args.blocks.now c.args.first in (
-      room_unmet g c.at_most_256-n.result c.walk-state.result.met c.walk-state.result.left c.walk-state.result.at c.put_left-placed.result
-          c.walk-state.ensures c.at_most_256-n.ensures.1 c.put_left-placed.ensures.0,
+      room_unmet g c.at_most_256-n.result c.walk.new.self.met c.walk.new.self.left c.walk.new.self.at c.put_left-placed.result
+          c.walk.ensures c.at_most_256-n.ensures.1 c.put_left-placed.ensures.0,
       c.at_most_256-n.ensures.1,
-      c.walk-state.ensures.long_met,
+      c.walk.ensures.long_met,
     )
 
 pub returns : goal.returns
@@ -23,9 +23,9 @@ returns c =
     let g : ℕ → List ℕ = recorded c.args.blocks.now c.args.first in
     record {
       value = ap (worklist 0) c.at_most_256-n.ensures.0;
-      order_after = order_placed g c.at_most_256-n.result c.walk-state.result.met c.walk-state.result.left c.walk-state.result.at
+      order_after = order_placed g c.at_most_256-n.result c.walk.new.self.met c.walk.new.self.left c.walk.new.self.at
           c.put_left-placed.result
-          c.walk-state.ensures c.at_most_256-n.ensures.1 c.put_left-placed.ensures.0
+          c.walk.ensures c.at_most_256-n.ensures.1 c.put_left-placed.ensures.0
           c.args.order.now c.put_left-placed.new.out c.put_unmet.new.out c.put_left-placed.ensures.1 c.put_unmet.ensures
           ∙ ap (λ (k : ℕ). sets c.args.order.now 0 (block_order g k)) c.at_most_256-n.ensures.0;
     }
