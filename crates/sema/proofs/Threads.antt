@@ -12,7 +12,7 @@ use Rattle.parser.specs.declared.Refusal.{Refusal}
 use Rattle.parser.specs.declared.Variable.{Variable}
 use Rattle.graph.specs.Walk.{block_order}
 use Rattle.graph.specs.Records.{recorded, at_most256}
-use Rattle.graph.specs.Worklist.{worklist, remaining, popped, after_pop}
+use Rattle.graph.specs.Worklist.{worklist, remaining, popped}
 use Rattle.graph.specs.declared.BlockId.{BlockId}
 use Rattle.graph.specs.declared.RPOWorklist.{RPOWorklist}
 use Rattle.graph.proofs.Callers.{blocks_most, new-remaining, popped-block, popped_empty}
@@ -128,11 +128,11 @@ module _ (ts : List Tok) (globals : ℕ → Global) (ret : ℕ) (t₀ : List ℕ
     (same : type_blocks_d ts globals ret t (blocks_at items args blocks first (remaining order w)) ≡ type_blocks_d ts
     globals ret t₀ bs₀)
   where
-    module _ {b : BlockId} {rest : RPOWorklist} (pop : popped order w ≡ Some b) (goes : rest ≡ after_pop w) where
+    module _ {b : BlockId} {rest : RPOWorklist} (pop : popped order w ≡ Some (b, rest)) where
       next : (remaining order w ≡ b.0 ∷ remaining order rest) × (rest ≡ worklist (w.taken + 1) w.blocks)
           × (w.taken < w.blocks)
       next =
-          let p = popped-block order w.taken w.blocks few (omega arith) b rest pop goes in
+          let p = popped-block order w.taken w.blocks few (omega arith) b rest pop in
           (rw p.1 p.0, p.1, p.2)
 
       pub fewer : (rest.blocks ≡ w.blocks) × (rest.blocks - rest.taken < w.blocks - w.taken)

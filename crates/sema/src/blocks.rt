@@ -24,10 +24,10 @@ fn expect_terminator(items: &[u32], first: u32, count: u32) -> Result<(), Refusa
     }
     let i = first as usize + count as usize - 1;
     let last = record_at(items, i);
-    match last.kind {
-        kinds::JUMP..=kinds::RET_VALUE => Ok(()),
-        _ => Err(parser::refuse(numbers::NO_TERMINATOR, last.token as usize)),
+    if last.kind < kinds::JUMP || kinds::RET_VALUE < last.kind {
+        return Err(parser::refuse(numbers::NO_TERMINATOR, last.token as usize));
     }
+    Ok(())
 }
 
 impl<'a> Sema<'a> {

@@ -80,9 +80,10 @@ impl<'a> Sema<'a> {
             (remaining order.now work)) }
     {
         let mut left = work;
-        while let Some(b) = left.pop(order) {
+        while let Some((b, rest)) = left.pop(order) {
             let k = first as usize + b.0 as usize;
             self.analyze_recorded(table, blocks, k)?;
+            left = rest;
         }
         Ok(())
     }
