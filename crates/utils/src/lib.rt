@@ -47,13 +47,15 @@ pub fn cell_at(cells: &[u32], at: usize) -> u32
     cells.get(at).copied().unwrap_or(0)
 }
 
-// Stores cells or bytes one after the other, from a place on.
-#[tactic(auto, using(crate::proofs::Runs::stored))]
+// Stores cells or bytes one after the other, from a place on. Not by `copy_from_slice`, which calls memmove: the archive
+// is to need no more of the C library than memcpy and memset.
 pub fn put_cells<T: Copy>(cells: &mut [T], at: usize, part: &[T])
     requires { at + length part.now ≤ length cells.old }
     ensures { cells.new ≡ sets cells.old at part.now }
 {
-    cells[at..at + part.len()].copy_from_slice(part);
+    for i in 0..part.len() {
+        cells[at + i] = part[i];
+    }
 }
 
 // Stores a part from a place on, and hands back the place after it.
