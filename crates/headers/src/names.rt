@@ -7,7 +7,7 @@ ghost use Rattle.headers.specs.Spelled.{row_name, spelled_as, InTable, name_spel
 
 use crate::Looked;
 use functions::columns;
-use pieces::Identifier;
+use pieces::{Identifier, tokens};
 use utils::cell_at;
 
 // The part of the old text that row i of the header table names.
@@ -56,7 +56,7 @@ pub fn is_spelled<'t, 'c>(
 {
     let header = spelled(old, new, rows, names, Looked::Header(i));
     let name = spelled(old, new, rows, names, Looked::Name(x));
-    header == name
+    tokens::same(header, name)
 }
 
 // The first of the new text's `count` names that is spelled as row i's name.

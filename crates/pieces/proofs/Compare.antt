@@ -2,13 +2,12 @@
 use Prim.Native.Nat.{ℕ, zero, suc, ◌+◌, ◌-◌, ◌≤◌, ◌<◌}
 use mathlib.Core.Path.{◌≡◌, refl, sym, ap, ◌∙◌}
 use mathlib.Core.List.{List, [], ◌∷◌, ◌++◌}
-use mathlib.Core.Bool.{Bool, true, false, ◌&&◌}
+use mathlib.Core.Bool.{Bool, true, false}
 use native.Mathlib.Omega.{arith}
 use lib.Dec.{eqb}
-use lib.Pointwise.{pointwise}
 use native.Mathlib.Nat.{zero-add, suc-add, suc_inj}
 use lib.ListN.{length, get_or, take, drop, length-drop}
-use lib.Seq.{slice, slice_empty, length-slice, take-nil, drop-nil, take-suc, get_or-drop}
+use lib.Seq.{slice, slice_empty, length-slice, take-nil, drop-nil, take_all, take-length, take-suc, get_or-drop}
 use Rattle.utils.specs.Bytes.{pick, same_bytes}
 
 -- a part by its length, and by its ends
@@ -89,14 +88,7 @@ pub same-part : (a b : List ℕ) (i m j n : ℕ) {q : Bool} → m ≡ n
     → q ≡ same_bytes (slice i (i + n) a) (slice j (j + n) b) → q ≡ same_bytes (slice i (i + m) a) (slice j (j + n) b)
 same-part a b i m j n e h = rw e h
 
--- what `==` of slices says
-pub pointwise_same : (x y : List ℕ) → pointwise eqb x y ≡ same_bytes x y
-unfolding same_bytes pick
-pointwise_same [] [] = refl
-pointwise_same [] (b ∷ ys) = refl
-pointwise_same (a ∷ xs) [] = refl
-pointwise_same (a ∷ xs) (b ∷ ys) = rw (pointwise_same xs ys) (by (eqb a b) (same_bytes xs ys))
-  where
-    by : (s t : Bool) → (s && t) ≡ pick s t false
-    by true t = refl
-    by false t = refl
+-- two lists, each as a part of itself
+pub same_whole : (x y : List ℕ) {q : Bool} → length x ≡ length y
+    → q ≡ same_bytes (slice 0 (0 + length y) x) (slice 0 (0 + length y) y) → q ≡ same_bytes x y
+same_whole x y e h = rw (zero-add, take_all (length y) x (omega (arith, e)), take-length y) at h

@@ -137,17 +137,25 @@ pub fn same_bytes(a: &[u8], i: usize, b: &[u8], j: usize, n: usize) -> bool
     true
 }
 
+// Whether two slices of bytes are the same. Not by `==`, which begins at the front.
+#[tactic(auto, using(crate::proofs::Compare::other_length, crate::proofs::Compare::same_whole))]
+pub fn same(a: &[u8], b: &[u8]) -> bool
+    ensures { result ≡ same_bytes a.now b.now }
+{
+    a.len() == b.len() && same_bytes(a, 0, b, 0, b.len())
+}
+
 // The value of a word, where a part of the text is that word.
-#[tactic(auto, using(crate::proofs::Compare::pointwise_same), unfolding(crate::proofs::Words::opened))]
+#[tactic(auto, unfolding(crate::proofs::Words::opened))]
 fn only(part: &[u8], word: &[u8], value: TokenValue) -> Option<TokenValue>
     ensures { result
         ≡ word_in (record { spelling = word.now; value = value } ∷ []) part.now }
 {
-    (word == part).then_some(value)
+    same(word, part).then_some(value)
 }
 
 // The same of two words.
-#[tactic(auto, using(crate::proofs::Compare::pointwise_same), unfolding(crate::proofs::Words::opened))]
+#[tactic(auto, unfolding(crate::proofs::Words::opened))]
 fn either(
     part: &[u8],
     word: &[u8],
@@ -159,7 +167,7 @@ fn either(
         ≡ word_in (record { spelling = word.now; value = value }
         ∷ record { spelling = other.now; value = second } ∷ []) part.now }
 {
-    if word == part {
+    if same(word, part) {
         return Some(value);
     }
     only(part, other, second)
