@@ -3,13 +3,14 @@ ghost use Rattle.std.specs.Prelude.{◌≡◌, ◌+◌, ◌-◌, ◌*◌, ◌≤
 ghost use Rattle.std.proofs.Math.Seq.{slice};
 ghost use Rattle.std.proofs.lemmas.List.Edits.{sets};
 ghost use Rattle.utils.specs.Bytes.{same_bytes};
+ghost use Rattle.pieces.specs.Pieces.{name};
 ghost use Rattle.lexer.specs.Sizes.{name_width};
 ghost use Rattle.lexer.specs.Numbered.{index_of, spellings, identified};
 ghost use Rattle.lexer.specs.Steps.{first_names, Table, new_cells, print_of, spelled_at, Prints};
 
 use crate::Identified;
 use crate::sizes::NAME_CELLS;
-use pieces::{Cursor, Identifier, Name, Refusal, tokens};
+use pieces::{Cursor, Identifier, NameKind, Refusal, tokens};
 use utils::{limits, put_cells};
 
 // A byte counts so many times as much as the one behind it, more than any two bytes of names differ by; and how many
@@ -90,26 +91,25 @@ impl<'a> Known<'a> {
     }
 }
 
-// A name's number; a new name is stored behind the `count` that there are.
+// The number of the name of `len` bytes that begins there, of whatever kind, as of a local's; a new name is stored
+// behind the `count` that there are.
 #[tactic(auto, unfolding(crate::specs::Numbered::identified, utils::specs::Bytes::pick))]
 pub fn get_identifier(
     text: &[u8],
     names: &mut [u32],
     prints: &[u32],
     count: usize,
-    name: Name,
+    at: Cursor,
+    len: usize,
 ) -> Result<Identified, Refusal>
     requires { Table text.now names.old count × Prints text.now names.old count prints.now
-        × (name.place + name.len ≤ length text.now) }
-    ensures value { result ≡ identified text.now (first_names count names.old) name }
-    ensures names_after { names.new ≡ sets names.old (count * name_width) (new_cells name result) }
+        × (at.place + len ≤ length text.now) }
+    ensures value { result
+        ≡ identified text.now (first_names count names.old) (name NameKind.Local at.place len at.line) }
+    ensures names_after { names.new ≡ sets names.old (count * name_width)
+        (new_cells (name NameKind.Local at.place len at.line) result) }
 {
-    let place = name.place;
-    let len = name.len;
-    let at = Cursor {
-        place,
-        line: name.line.0,
-    };
+    let place = at.place;
     if limits::NAME_BYTES < len {
         return Err(Refusal::NameTooLong(at));
     }

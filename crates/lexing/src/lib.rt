@@ -26,6 +26,7 @@ fn named(name: Name, i: Identifier) -> Token
 }
 
 // A name with its number in the table.
+#[tactic(auto, unfolding(lexer::specs::Numbered::identified))]
 fn number_name(
     text: &[u8],
     names: &mut [u32],
@@ -41,7 +42,11 @@ fn number_name(
     ensures names_after { names.new ≡ sets names.old (count * 2)
         (new_cells name (identified text.now (first_names count names.old) name)) }
 {
-    match names::get_identifier(text, names, prints, count, name)? {
+    let at = Cursor {
+        place: name.place,
+        line: name.line.0,
+    };
+    match names::get_identifier(text, names, prints, count, at, name.len)? {
         Identified::Known(i) => Ok(Next::Token(named(name, i), next, count)),
         Identified::New(i) => Ok(Next::Token(named(name, i), next, count + 1)),
     }

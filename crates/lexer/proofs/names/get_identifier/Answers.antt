@@ -11,7 +11,7 @@ use Rattle.lexer.proofs.names.get_identifier.Goals as goal
 
 pub lookup-requires : goal.lookup-requires
 lookup-requires c =
-    let part = part-between c.args.name.place (c.args.name.place + c.args.name.len) c.args.text.now (omega arith) in
+    let part = part-between c.args.at.place (c.args.at.place + c.args.len) c.args.text.now (omega arith) in
     (c.requires.0, c.requires.1, c.requires.2, c.print_of-print.ensures ∙ ap print_of part)
 
 pub returns-else-count-ge-NAMES : goal.returns-else-count-ge-NAMES
