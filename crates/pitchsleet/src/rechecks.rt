@@ -58,7 +58,23 @@ fn recheck_cells<'t, 'a>(
     ensures same { SameSlices unit.old unit.new }
 {
     let answer = rechecker::recheck_into(old, table, number, new, tokens, names, unit, message);
-    exports::check::put_all(answer, tokens, names, unit, out);
+    // Fields that go into one call are lent before it, each as `&mut`: the borrow checker covers no other form.
+    let functions = &mut *unit.functions;
+    let items = &mut *unit.items;
+    let arguments = &mut *unit.arguments;
+    let blocks = &mut *unit.blocks;
+    let predecessors = &mut *unit.predecessors;
+    exports::check::put_all(
+        answer,
+        tokens,
+        names,
+        functions,
+        items,
+        arguments,
+        blocks,
+        predecessors,
+        out,
+    );
     read::finish_message(answer.number, message);
     answer
 }

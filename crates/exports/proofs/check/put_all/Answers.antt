@@ -19,13 +19,13 @@ put_front-requires c =
 pub returns : goal.returns
 returns c =
     let a = c.args in
-    let rows = a.unit.now.functions.now in
+    let rows = a.functions.now in
     -- no store changes the length of `out`
     let kept : length c.put_front-7.new.out ≡ length a.out.now =
     c.put_front-7.auto.out ∙ c.put_front-6.auto.out ∙ c.put_front-5.auto.out ∙ c.put_front-4.auto.out
     ∙ c.put_front-3.auto.out ∙ c.put_front-2.auto.out ∙ c.put_front.auto.out in
-    fronts-stored a.r a.tokens.now a.names.now a.unit.now.functions.now a.unit.now.items.now a.unit.now.arguments.now
-    a.unit.now.blocks.now a.unit.now.predecessors.now c.requires.0 a.out.now c.put_front.new.out
+    fronts-stored a.r a.tokens.now a.names.now a.functions.now a.items.now a.arguments.now
+    a.blocks.now a.predecessors.now c.requires.0 a.out.now c.put_front.new.out
     c.put_front-2.new.out c.put_front-3.new.out c.put_front-4.new.out c.put_front-5.new.out
     c.put_front-6.new.out c.put_front-7.new.out _ c.requires.1 c.put_front.ensures c.put_front-2.ensures
     (c.put_front-3.ensures
