@@ -1,6 +1,6 @@
 // Lists of cases: how far one is replayed, and what came of it.
 ghost use Rattle.std.specs.Prelude.{◌≡◌, ◌<◌, ◌==◌, IfOk};
-ghost use Rattle.replay.specs.Cases.{begun, one_more, whole_with};
+ghost use Rattle.replay.specs.Cases.{begun, one_more, Gives, Replayed, whole_with};
 
 use crate::{Outcome, Tally, number_at};
 use std::io;
@@ -67,7 +67,9 @@ pub fn replay<F: Fn(&[u8], usize) -> Outcome>(
     run: F,
 ) -> io::Result<Tally>
     requires { F.IsAlwaysCallable run }
-    ensures { IfOk result (λ list. list.left ≡ 0) }
+    ensures replayed { IfOk result
+        (Replayed «data».now (Gives F.Fn run «data».now) (begun «data».now from index)) }
+    ensures none_left { IfOk result (λ list. list.left ≡ 0) }
 {
     let mut list = begin(data, from, index);
     while 0 < list.left {

@@ -113,12 +113,12 @@ pub fn load_numbers(data: &[u8], from: usize, cells: &mut [u32]) -> usize
     load_values(data, from, Kind::Numbers, cells)
 }
 
-// As much of a slice as the file says, and at most all of it.
-pub fn lend<T>(cells: &mut [T], length: u32) -> &mut [T]
-    ensures { result.now ≡ take length cells.old }
+// How much of a slice is lent: as much as the file says, and at most all of it.
+pub fn lent(length: u32, room: usize) -> usize
+    ensures value { result ≡ min length room }
+    ensures upper_bound { result ≤ room }
 {
-    let n = (length as usize).min(cells.len());
-    &mut cells[..n]
+    (length as usize).min(room)
 }
 
 // Stores a row of `width` cells behind the row at `start`, each larger by a step of the file, and answers the place

@@ -27,7 +27,7 @@ impl fmt::Display for Cells {
     }
 }
 
-// A number of the answer, or a slice.
+// A number of the answer, or a slice; or what is neither, and is told as nothing.
 #[derive(Clone, Copy)]
 pub enum Part {
     Number,
@@ -36,6 +36,7 @@ pub enum Part {
     Count(Cells),
     Cells(Cells),
     Message,
+    Other(u32),
 }
 
 impl fmt::Display for Part {
@@ -47,6 +48,7 @@ impl fmt::Display for Part {
             Part::Count(cells) => write!(f, "count of {cells}"),
             Part::Cells(cells) => cells.fmt(f),
             Part::Message => f.write_str("message"),
+            Part::Other(_) => f.write_str("nothing"),
         }
     }
 }

@@ -64,7 +64,7 @@ pub fn load<'t>(
     let number = number_at(data, length.next);
     let given = Given {
         old,
-        table: lists::lend(table, length.value),
+        table: &table[..lists::lent(length.value, table.len())],
         number: number.value,
     };
     (given, number.next)

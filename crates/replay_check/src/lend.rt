@@ -111,15 +111,23 @@ pub fn with_slices(data: &[u8], from: usize, given: Option<Given>, text: &[u8]) 
     let mut blocks = [OLD_CELL; sizes::BLOCKS + SPARE];
     let mut predecessors = [OLD_CELL; sizes::PREDECESSORS + SPARE];
     let mut message = [OLD_BYTE; limits::MESSAGE + SPARE];
+    let t = lists::lent(lengths[0], tokens.len());
+    let n = lists::lent(lengths[1], names.len());
+    let f = lists::lent(lengths[2], functions.len());
+    let i = lists::lent(lengths[3], items.len());
+    let a = lists::lent(lengths[4], arguments.len());
+    let b = lists::lent(lengths[5], blocks.len());
+    let p = lists::lent(lengths[6], predecessors.len());
+    let m = lists::lent(lengths[7], message.len());
     let mut slices = Slices {
-        tokens: lists::lend(&mut tokens, lengths[0]),
-        names: lists::lend(&mut names, lengths[1]),
-        functions: lists::lend(&mut functions, lengths[2]),
-        items: lists::lend(&mut items, lengths[3]),
-        arguments: lists::lend(&mut arguments, lengths[4]),
-        blocks: lists::lend(&mut blocks, lengths[5]),
-        predecessors: lists::lend(&mut predecessors, lengths[6]),
-        message: lists::lend(&mut message, lengths[7]),
+        tokens: &mut tokens[..t],
+        names: &mut names[..n],
+        functions: &mut functions[..f],
+        items: &mut items[..i],
+        arguments: &mut arguments[..a],
+        blocks: &mut blocks[..b],
+        predecessors: &mut predecessors[..p],
+        message: &mut message[..m],
     };
     ask(data, next, given, text, &mut slices)
 }

@@ -53,13 +53,16 @@ fn with_slices(data: &[u8], from: usize, text: &[u8]) -> Outcome {
     let mut tokens = [OLD_CELL; sizes::TOKENS + SPARE];
     let mut names = [OLD_CELL; sizes::NAMES + SPARE];
     let mut message = [OLD_BYTE; limits::MESSAGE + SPARE];
+    let t = lists::lent(lengths[0], tokens.len());
+    let n = lists::lent(lengths[1], names.len());
+    let m = lists::lent(lengths[2], message.len());
     ask(
         data,
         next,
         text,
-        lists::lend(&mut tokens, lengths[0]),
-        lists::lend(&mut names, lengths[1]),
-        lists::lend(&mut message, lengths[2]),
+        &mut tokens[..t],
+        &mut names[..n],
+        &mut message[..m],
     )
 }
 
