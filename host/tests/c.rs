@@ -1,10 +1,11 @@
 //! The C functions as a C host has them: include/pitchsleet.h as C and as C++, examples/walk.c, and all six functions called
-//! from C. Where the machine has no compiler for them, a line says so.
+//! from C; and what the archive needs from outside. Where the machine has no compiler or no nm for them, a line says so.
 mod support;
 
 #[path = "c/compiler.rs"]
 mod compiler;
 
+use std::collections::BTreeSet;
 use std::fs;
 use std::io::{self, Write};
 use std::path::{Path, PathBuf};
@@ -52,6 +53,19 @@ fn the_header_is_c99_and_cpp() {
         let program = compiler.program(&[standard, "-xc++"], &source, &format!("header{standard}"));
         assert!(run(&program, &[]).status.success(), "{standard}");
     }
+}
+
+/// Of the C library the archive needs what docs/PACKAGE.md says, and nothing else.
+#[test]
+fn what_the_archive_needs() {
+    let archive = root().join("target/staticlib/libpitchsleet.a");
+    let read = |name| Command::new(name).arg("-u").arg(&archive).output().ok().filter(|output| output.status.success());
+    let Some(output) = ["nm", "x86_64-linux-gnu-nm"].into_iter().find_map(read) else {
+        writeln!(io::stderr(), "c: passed over: there is no nm that reads the archive").expect("standard error");
+        return;
+    };
+    let needed: BTreeSet<&str> = lines(&output).lines().filter_map(|line| line.trim().strip_prefix("U ")).collect();
+    assert_eq!(needed, BTreeSet::from(["memcpy", "memset"]));
 }
 
 /// Every kind of operation, every word, and blocks of each sort.
