@@ -6,3 +6,5 @@ pub mod Rows
 pub mod Runs
 -- a slice against a filled list
 pub mod Filled
+-- what callers cite
+pub mod Handed
