@@ -8,7 +8,7 @@ use Rattle.std.specs.Option.{IfSome, option_or}
 use Rattle.std.proofs.lemmas.List.Elements.{All-head, All-tail}
 use Rattle.replay.specs.Numbers.{number_at}
 use Rattle.replay.specs.Lists.{Values}
-use Rattle.replay.specs.Held.{number_held, answer_held, unseen, holding}
+use Rattle.replay.specs.Held.{keeping, number_held, answer_held, unseen, holding}
 use Rattle.replay.specs.declared.Outcome.{Outcome}
 use Rattle.replay.specs.declared.parts.Part.{Part}
 
@@ -22,13 +22,19 @@ module _ (Q : Part → Type 0) where
   first_handed None part true f h = tt
   first_handed None part false f h = h
 
-  numbers_handed : (s : List ℕ) (seen : Outcome) (got : List (Part × ℕ)) → IfSome seen.part Q → All Handed got
+  -- .. of what was seen before and one thing more
+  pub keeping_handed : (seen : Outcome) (part : Part) (same : Bool) (next : ℕ) → IfSome seen.part Q → Q part
+      → IfSome (keeping seen part same next).part Q
+  keeping_handed seen part same next f h = first_handed seen.part part same f h
+
+  -- .. of what was seen before and the parts of numbers
+  pub numbers_handed : (s : List ℕ) (seen : Outcome) (got : List (Part × ℕ)) → IfSome seen.part Q → All Handed got
       → IfSome (fold (number_held s) seen got).part Q
   numbers_handed s seen [] f a = f
   numbers_handed s seen (g ∷ gs) f a =
-      let same : Bool = g.1 == (number_at s seen.next).value in
-      numbers_handed s (number_held s seen g) gs (first_handed seen.part g.0 same f (All-head Handed g gs a))
-      (All-tail Handed g gs a)
+      let wanted = number_at s seen.next in
+      numbers_handed s (number_held s seen g) gs
+      (keeping_handed seen g.0 (g.1 == wanted.value) wanted.next f (All-head Handed g gs a)) (All-tail Handed g gs a)
 
   -- .. of the parts of an answer's numbers
   pub answer_handed : (s : List ℕ) (from : ℕ) (got : List (Part × ℕ)) → All Handed got
@@ -38,4 +44,4 @@ module _ (Q : Part → Type 0) where
   -- .. of what was seen before and a slice's part
   pub holding_handed : (seen : Outcome) (part : Part) (got : List ℕ) (list : Values) (old : ℕ) → IfSome seen.part Q
       → Q part → IfSome (holding seen part got list old).part Q
-  holding_handed seen part got list old f h = first_handed seen.part part _ f h
+  holding_handed seen part got list old f h = keeping_handed seen part _ list.next f h
